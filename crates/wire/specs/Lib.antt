@@ -1,0 +1,4 @@
+pub mod Bytes
+pub mod Version
+pub mod Codes
+pub mod Rows

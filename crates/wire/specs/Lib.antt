@@ -2,3 +2,4 @@ pub mod Bytes
 pub mod Version
 pub mod Codes
 pub mod Rows
+pub mod Checks

@@ -1,0 +1,111 @@
+-- What the check answers: its row and, for an accepted bundle, the contents table; and the promises on accepted bundles.
+use Prim.Native.Nat.{ℕ, suc, _+_, _*_, _-_, _≤_, _<_, _^_}
+use mathlib.Core.Path.{_≡_}
+use mathlib.Core.Bool.{Bool, true, false}
+use mathlib.Core.List.{List, [], _∷_, _++_, map}
+use lib.ListN.{length, getD, take, drop, replicate}
+use Rattle.wire.specs.Bytes.{Packet, Bytes, bytesOf}
+use Rattle.offers.specs.Offer.{fieldsIn, blankOffer}
+use Rattle.records.specs.Record.{Block}
+use Rattle.records.specs.Parse.{Parsed, whole, broken, recordsOf, blocksOf, AllSound, written}
+use Rattle.bundle.specs.declared.Entry.{Entry}
+use Rattle.bundle.specs.declared.Checked.{Checked}
+use Rattle.bundle.specs.Layout.{BUNDLE-LIMIT, OFFER-LIMIT, HEAD, ENTRY, countIn, tableEnd, entriesIn, offerIn, idIn, offsetIn, lengthIn, bodyIn}
+use Rattle.bundle.specs.Rows.{Row, served, B, rowOf, badOffer, bundleRow}
+
+-- no entry
+abbrev pub blankEntry : Entry
+blankEntry = record { offer = blankOffer; offset = 0; length = 0; records = 0 }
+
+-- the records of an entry's body
+abbrev pub blocksIn : (b e : List ℕ) → List Block
+blocksIn b e = blocksOf (recordsOf (bodyIn b e))
+
+-- an entry of the contents table
+abbrev pub entryIn : (b e : List ℕ) → Entry
+entryIn b e = record {
+  offer = fieldsIn (offerIn e);
+  offset = offsetIn e;
+  length = lengthIn e;
+  records = length (blocksIn b e);
+}
+
+-- what the check tells: the row, the count and the table of seven, which are zero where a row refuses
+pub record Contents : Type 0 where
+  pub row : Row
+  pub count : ℕ
+  pub table : List Entry
+
+abbrev pub contentsBy : Row → List ℕ → Contents
+contentsBy served b = record {
+  row = served;
+  count = countIn b;
+  table = map (entryIn b) (entriesIn b) ++ replicate (OFFER-LIMIT - countIn b) blankEntry;
+}
+contentsBy (B k entry) b = record { row = B k entry; count = 0; table = replicate OFFER-LIMIT blankEntry }
+
+-- the check
+unfoldable pub checkOf : List ℕ → Contents
+checkOf b = contentsBy (bundleRow b) b
+
+abbrev pub toldChecked : Checked → Contents
+toldChecked c = record { row = rowOf (c .verdict) (c .place); count = c .count; table = c .table }
+
+-- the offers of a bundle, with their bodies and the records of each
+abbrev pub offersOf : List ℕ → List (List ℕ)
+offersOf b = map offerIn (entriesIn b)
+
+abbrev pub bodiesOf : List ℕ → List (List ℕ)
+bodiesOf b = map (bodyIn b) (entriesIn b)
+
+-- lists one after the other
+unfoldable pub joined : List (List ℕ) → List ℕ
+joined [] = []
+joined (l ∷ ls) = l ++ joined ls
+
+-- a member of a list has p
+abbrev pub All : {A : Type 0} → (A → Type 0) → List A → Type 0
+All p [] = Unit {0}
+All p (x ∷ xs) = p x × All p xs
+
+-- a body that parses into a non-empty list of records
+pub record GoodBody (body : List ℕ) : Type 0 where
+  pub blocks : List Block
+  pub reads : recordsOf body ≡ whole blocks
+  pub some : 0 < length blocks
+  pub sound : AllSound blocks
+
+-- an accepted bundle's bodies tile the file, and each parses into a non-empty list of records
+abbrev pub AcceptedTiles : Type 0
+AcceptedTiles = (b : List ℕ) → Bytes b → bundleRow b ≡ served
+    → (b ≡ take (tableEnd (countIn b)) b ++ joined (bodiesOf b)) × All GoodBody (bodiesOf b)
+
+-- a layout: offers of 16 bytes, each with its records
+pub record Part : Type 0 where
+  pub offer : List ℕ
+  pub blocks : List Block
+
+-- the table of a layout, whose first body stands at `at`
+unfoldable pub tableBytes : (at : ℕ) → List Part → List ℕ
+tableBytes at [] = []
+tableBytes at (p ∷ ps) =
+    p .offer ++ (bytesOf 4 at ++ (bytesOf 4 (length (written (p .blocks))) ++ tableBytes (at + length (written (p .blocks))) ps))
+
+-- the bundle of a layout
+unfoldable pub bundleBytes : List Part → List ℕ
+bundleBytes ps =
+    length ps ∷ 1 ∷ replicate 6 0 ++ (tableBytes (tableEnd (length ps)) ps ++ joined (map (λ p. written (p .blocks)) ps))
+
+-- a part that B5 and B8 allow
+pub record GoodPart (p : Part) : Type 0 where
+  pub packet : Packet 16 (p .offer)
+  pub offer : badOffer (p .offer) ≡ false
+  pub some : 0 < length (p .blocks)
+  pub sound : AllSound (p .blocks)
+
+-- any well-formed layout within the limits is accepted
+abbrev pub LayoutAccepted : Type 0
+LayoutAccepted = (ps : List Part) → 1 ≤ length ps → length ps ≤ OFFER-LIMIT → All GoodPart ps
+    → ((i j : ℕ) → i < j → j < length ps → idIn (getD (map (λ p. p .offer) ps) i []) ≡ idIn (getD (map (λ p. p .offer) ps) j []) → ⊥)
+    → length (bundleBytes ps) ≤ BUNDLE-LIMIT
+    → bundleRow (bundleBytes ps) ≡ served

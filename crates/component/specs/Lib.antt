@@ -1,0 +1,4 @@
+pub mod Record
+pub mod Versions
+pub mod Lists
+pub mod Setup

@@ -1,0 +1,5 @@
+// What the rule on an offered version says.
+pub enum VersionVerdict {
+    Fits,
+    Old,
+}

@@ -1,0 +1,98 @@
+-- Set-up, version reply, reset, and the entry by channel (document 01, "The device" and "Numbered refusals").
+use Prim.Native.Nat.{ℕ}
+use mathlib.Core.Bool.{cond}
+use mathlib.Core.List.{List, _++_, map}
+use lib.ListN.{length, take, drop, replicate}
+use Rattle.wire.specs.Codes.{PROTOCOL}
+use Rattle.versions.specs.Reply.{replyBytes}
+use Rattle.versions.specs.declared.Running.{Running}
+use Rattle.component.specs.Record.{listed, afterReset}
+use Rattle.component.specs.Setup as setup
+use Rattle.component.specs.declared.record.Component.{Component}
+use Rattle.component.specs.declared.record.Listed.{Listed}
+use Rattle.component.specs.declared.setup.SetupVerdict.{SetupVerdict}
+use Rattle.device.specs.declared.record.Device.{Device}
+use Rattle.device.specs.declared.record.Stage.the-variants.{Idle}
+use Rattle.device.specs.declared.record.Owed.the-variants.{Nothing}
+use Rattle.device.specs.declared.answer.SetupAnswer.{SetupAnswer}
+use Rattle.device.specs.declared.answer.VersionAnswer.{VersionAnswer}
+use Rattle.device.specs.declared.answer.ResetAnswer.{ResetAnswer}
+use Rattle.device.specs.declared.answer.Channel.{Channel}
+use Rattle.device.specs.declared.answer.Channel.the-variants.{Offer, Content}
+use Rattle.device.specs.Record.{idleWith, blankDevice}
+use Rattle.device.specs.Refusals.{Row, served, D, rowOf, breaksD1, Outcome}
+use Rattle.device.specs.Offer.{offerEntry}
+use Rattle.device.specs.Content.{contentEntry, contentStaging}
+
+-- what set-up answers: its row, and the device, which is the blank one where a row refuses
+pub record SetUp : Type 0 where
+  pub row : setup.Row
+  pub device : Device
+
+abbrev pub toldSetUp : SetupAnswer → SetUp
+toldSetUp a = record { row = setup.rowOf (a .verdict); device = a .device }
+
+-- a device as it is set up: idle, nothing staged, nothing owed
+abbrev pub newDevice : (platform : ℕ) → List Listed → (count n : ℕ) → Device
+newDevice platform list count n = record {
+  platform = platform;
+  «staging_len» = n;
+  count = count;
+  parts = map listed list;
+  stage = Idle;
+  owed = Nothing;
+}
+
+abbrev pub setUpBy : setup.Row → Device → SetUp
+setUpBy setup.served d = record { row = setup.served; device = d }
+setUpBy (setup.S k) d = record { row = setup.S k; device = blankDevice }
+
+-- set-up, with a staging buffer of n bytes
+unfoldable pub setUpOf : (platform : ℕ) → List Listed → (count n : ℕ) → SetUp
+setUpOf platform list count n =
+    setUpBy (setup.rowOf (setup.setupVerdict n count (map listed list))) (newDevice platform list count n)
+
+-- what the version reply's entry answers
+pub record Versions : Type 0 where
+  pub row : Row
+  pub packet : List ℕ
+
+abbrev pub toldVersions : VersionAnswer → Versions
+toldVersions a = record { row = rowOf (a .refusal); packet = a .packet }
+
+-- a component in the version reply: its running version, with the device's platform
+abbrev pub runningOf : Device → Component → Running
+runningOf d c = record { version = c .running; id = c .id; platform = d .platform }
+
+-- D1 with a zeroed reply, or the reply
+unfoldable pub versionEntry : Device → Versions
+versionEntry d =
+    cond (breaksD1 d) (record { row = D 1; packet = replicate 60 0 })
+    (record { row = served; packet = replyBytes (d .count) PROTOCOL (map (runningOf d) (d .parts)) })
+
+-- what the reset's entry answers
+pub record Reset : Type 0 where
+  pub row : Row
+  pub device : Device
+
+abbrev pub toldReset : ResetAnswer → Reset
+toldReset a = record { row = rowOf (a .refusal); device = a .device }
+
+-- the components after a reset; slots at or past the count stay
+abbrev pub resetParts : ℕ → List Component → List Component
+resetParts count parts = map afterReset (take count parts) ++ drop count parts
+
+-- D1, or staged versions run, nothing is pending or owed, and the session is idle
+unfoldable pub resetEntry : Device → Reset
+resetEntry d =
+    cond (breaksD1 d) (record { row = D 1; device = d })
+    (record { row = served; device = idleWith d (resetParts (d .count) (d .parts)) })
+
+-- the entry that a packet is for, by its channel
+unfoldable pub serveEntry : Device → Channel → (staging report : List ℕ) → Outcome
+serveEntry d Offer staging report = offerEntry d (length staging) report
+serveEntry d Content staging report = contentEntry d staging report
+
+unfoldable pub serveStaging : Device → Channel → (staging report : List ℕ) → List ℕ
+serveStaging d Offer staging report = staging
+serveStaging d Content staging report = contentStaging d staging report

@@ -1,0 +1,5 @@
+pub mod Record
+pub mod Refusals
+pub mod Offer
+pub mod Content
+pub mod Entries

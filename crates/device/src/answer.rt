@@ -1,0 +1,45 @@
+// What an entry of the device answers.
+use crate::record::Device;
+use crate::record::Owed;
+use component::setup::SetupVerdict;
+
+// Served, or the row that refuses the call.
+pub enum Refusal {
+    Served,
+    D1,
+    D2,
+    D3,
+}
+
+// Of an offer or a content packet. Only what is due is sent: a refused call sends nothing.
+pub struct Answer {
+    pub refusal: Refusal,
+    // A reply is due, and these are its bytes; they are zero where none is.
+    pub due: bool,
+    pub reply: [u8; 16],
+    // The owed READY follows the reply, with this token.
+    pub ready: Owed,
+    pub device: Device,
+}
+
+pub struct VersionAnswer {
+    pub refusal: Refusal,
+    pub packet: [u8; 60],
+}
+
+pub struct ResetAnswer {
+    pub refusal: Refusal,
+    pub device: Device,
+}
+
+// Of set-up: where a row refuses, the device is the blank one, which no entry serves.
+pub struct SetupAnswer {
+    pub verdict: SetupVerdict,
+    pub device: Device,
+}
+
+// Which entry a packet is for.
+pub enum Channel {
+    Offer,
+    Content,
+}

@@ -1,0 +1,81 @@
+-- The host's record: its values, its start, and its report (document 01, "The host").
+use Prim.Native.Nat.{ℕ, _+_, _*_, _/_, _%_, _^_, _<_}
+use mathlib.Core.Bool.{Bool, true, false, cond}
+use lib.Dec.{eqb}
+use lib.Count.{ones}
+use Rattle.host.specs.declared.record.Host.{Host}
+use Rattle.host.specs.declared.record.HostStage.{HostStage}
+use Rattle.host.specs.declared.record.HostStage.the-variants.{Fresh, Opening, Listing, Offering, Waiting, Sending, Closing, Ended}
+use Rattle.host.specs.declared.record.End.{End}
+use Rattle.host.specs.declared.record.End.the-variants as end
+use Rattle.host.specs.declared.answer.Report.{Report}
+use Rattle.host.specs.declared.answer.Progress.{Progress}
+use Rattle.host.specs.declared.answer.Progress.the-variants as progress
+
+-- the values of the types
+abbrev pub FitsEnd : End → Type 0
+FitsEnd end.Done = Unit {0}
+FitsEnd (end.Status s) = s < 256
+FitsEnd end.Foreign = Unit {0}
+FitsEnd end.Unexpected = Unit {0}
+FitsEnd end.Busy = Unit {0}
+
+abbrev pub FitsHostStage : HostStage → Type 0
+FitsHostStage Fresh = Unit {0}
+FitsHostStage Opening = Unit {0}
+FitsHostStage Listing = Unit {0}
+FitsHostStage (Offering t) = (t .entry < 256 ^ 4) × (t .busy < 256 ^ 4)
+FitsHostStage (Waiting t) = (t .entry < 256 ^ 4) × (t .busy < 256 ^ 4)
+FitsHostStage (Sending p) = (p .entry < 256 ^ 4) × (p .block < 256 ^ 4)
+FitsHostStage Closing = Unit {0}
+FitsHostStage (Ended e) = FitsEnd e
+
+pub record FitsHost (h : Host) : Type 0 where
+  pub token : h .token < 256
+  pub stage : FitsHostStage (h .stage)
+  pub mask : h .mask < 256 ^ 4
+  pub packets : h .packets < 256 ^ 4
+  pub passes : h .passes < 256 ^ 4
+
+-- a host that has sent nothing
+abbrev pub freshHost : ℕ → Host
+freshHost token = record { token = token; stage = Fresh; mask = 0; packets = 0; passes = 0; skipped = false; landed = false }
+
+-- bit i of a mask
+abbrev pub hasBit : (mask i : ℕ) → Bool
+hasBit mask i = eqb (mask / 2 ^ i % 2) 1
+
+-- the mask with bit i set, whether it was set or not
+abbrev pub withBit : (mask i : ℕ) → ℕ
+withBit mask i = cond (hasBit mask i) mask (mask + 2 ^ i)
+
+-- ended, and how
+abbrev pub progressOf : HostStage → Progress
+progressOf Fresh = progress.Running
+progressOf Opening = progress.Running
+progressOf Listing = progress.Running
+progressOf (Offering t) = progress.Running
+progressOf (Waiting t) = progress.Running
+progressOf (Sending p) = progress.Running
+progressOf Closing = progress.Running
+progressOf (Ended e) = progress.Ended e
+
+abbrev pub hasEnded : HostStage → Bool
+hasEnded Fresh = false
+hasEnded Opening = false
+hasEnded Listing = false
+hasEnded (Offering t) = false
+hasEnded (Waiting t) = false
+hasEnded (Sending p) = false
+hasEnded Closing = false
+hasEnded (Ended e) = true
+
+-- the report: completed offers are the ones in the mask
+unfoldable pub reportOf : Host → Report
+reportOf h = record {
+  completed = ones (h .mask);
+  mask = h .mask;
+  packets = h .packets;
+  passes = h .passes;
+  progress = progressOf (h .stage);
+}

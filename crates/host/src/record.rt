@@ -1,0 +1,57 @@
+// The host's record (document 01, "The host").
+
+// The offer in hand, and the BUSY replies that it had in this pass.
+pub struct Turn {
+    pub entry: u32,
+    pub busy: u32,
+}
+
+// The block whose reply is awaited.
+pub struct Place {
+    pub entry: u32,
+    pub block: u32,
+}
+
+// How a session ends.
+pub enum End {
+    Done,
+    // H1: a content status that is not 0.
+    Status(u8),
+    // H2: a reply that is not 16 bytes, or not ours.
+    Foreign,
+    // H3: a reply that the table has no step for.
+    Unexpected,
+    // H4: a ninth BUSY for one offer in one pass.
+    Busy,
+}
+
+// What the host awaits.
+pub enum HostStage {
+    // Nothing was sent yet.
+    Fresh,
+    // The reply to code 0.
+    Opening,
+    // The reply to code 1.
+    Listing,
+    // The reply to an offer.
+    Offering(Turn),
+    // The reply to notify on ready.
+    Waiting(Turn),
+    // The reply to a block.
+    Sending(Place),
+    // The reply to code 2.
+    Closing,
+    Ended(End),
+}
+
+pub struct Host {
+    pub token: u8,
+    pub stage: HostStage,
+    // Completed offers: bit i is entry i, counted from 0.
+    pub mask: u32,
+    pub packets: u32,
+    pub passes: u32,
+    // This pass had a SKIP; a completed image.
+    pub skipped: bool,
+    pub landed: bool,
+}

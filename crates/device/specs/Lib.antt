@@ -3,3 +3,5 @@ pub mod Refusals
 pub mod Offer
 pub mod Content
 pub mod Entries
+pub mod Promises
+pub mod Bench

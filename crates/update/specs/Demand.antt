@@ -1,0 +1,91 @@
+-- Demand 3, a single claim about a whole run (document 00, question 3; document 01, "The host").
+use Prim.Native.Nat.{ℕ, _+_, _*_, _≤_, _<_}
+use mathlib.Core.Path.{_≡_}
+use mathlib.Core.Logic.{_↔_}
+use mathlib.Core.Bool.{Bool, true, false}
+use mathlib.Core.List.{List, [], _∷_}
+use lib.Dec.{T}
+use lib.ListN.{length}
+use Rattle.wire.specs.Bytes.{Bytes}
+use Rattle.component.specs.Record.{isPending}
+use Rattle.component.specs.declared.list.Found.the-variants.{At}
+use Rattle.bundle.specs.Layout.{countIn, offerIn, idIn, bodyIn}
+use Rattle.bundle.specs.Rows as rows
+use Rattle.device.specs.Record.{FitsDevice, find, part}
+use Rattle.device.specs.Refusals as deviceRows
+use Rattle.device.specs.declared.record.Device.{Device}
+use Rattle.host.specs.Step as hostStep
+use Rattle.host.specs.Step.{entryAt, blocksAt}
+use Rattle.host.specs.declared.record.HostStage.the-variants.{Ended}
+use Rattle.host.specs.declared.record.End.the-variants.{Done}
+use Rattle.update.specs.Trace.{passesIn, completedIn}
+use Rattle.update.specs.Run.{System, answerTo, run, start, recordsIn, lastOf}
+use Rattle.update.specs.Ends.{Counted}
+use Rattle.update.specs.Claim.{offerAt, Set, Good, Smallest, Leaves, Fills}
+
+-- the premise: a device state and a staging buffer that pass D1 and D2, a bundle that the check accepts, and a good body for each component that the
+-- device has
+pub record Premise (b : List ℕ) (token : ℕ) (d : Device) (staging : List ℕ) : Type 0 where
+  pub small : token < 256
+  pub fits : FitsDevice d
+  pub bytes : Bytes staging
+  pub bundle : Bytes b
+  pub d1 : deviceRows.breaksD1 d ≡ false
+  pub d2 : length staging ≡ d .«staging_len»
+  pub accepted : rows.bundleRow b ≡ rows.served
+  pub good : (i k : ℕ) → i < countIn b → find d (offerAt b i .id) ≡ At k → Good (part d k) (offerAt b i) (blocksAt b i)
+
+-- staged in this run: the list shows a last content of entry i answered with status 0
+abbrev pub stagedIn : (b : List ℕ) → System → Set
+stagedIn b s i = completedIn 0 (s .trace) (idIn (entryAt b i))
+
+-- one turn in which no call is refused, and what is sent gets exactly one reply
+pub record Turn (b : List ℕ) (s : System) : Type 0 where
+  pub host : hostStep.stepOf b (s .host) (s .reply) .row ≡ hostStep.served
+  pub device : (p : List ℕ) → hostStep.stepOf b (s .host) (s .reply) .sent ≡ p ∷ []
+      → (answerTo p (s .device) (s .staging) .row ≡ deviceRows.served) × (length (answerTo p (s .device) (s .staging) .sent) ≡ 1)
+
+-- the same offers, each with its own body, in another order
+pub record Reordered (b b′ : List ℕ) : Type 0 where
+  pub to : ℕ → ℕ
+  pub back : ℕ → ℕ
+  pub count : countIn b′ ≡ countIn b
+  pub to-listed : (i : ℕ) → i < countIn b → to i < countIn b
+  pub back-listed : (j : ℕ) → j < countIn b → back j < countIn b
+  pub back-to : (i : ℕ) → i < countIn b → back (to i) ≡ i
+  pub to-back : (j : ℕ) → j < countIn b → to (back j) ≡ j
+  pub offers : (i : ℕ) → i < countIn b → offerIn (entryAt b′ (to i)) ≡ offerIn (entryAt b i)
+  pub bodies : (i : ℕ) → i < countIn b → bodyIn b′ (entryAt b′ (to i)) ≡ bodyIn b (entryAt b i)
+
+-- two runs that come to the same: set, device and staging buffer
+pub record Same (b b′ : List ℕ) (π : Reordered b b′) (s s′ : System) : Type 0 where
+  pub set : (i : ℕ) → i < countIn b → stagedIn b′ s′ (π .to i) ≡ stagedIn b s i
+  pub device : s′ .device ≡ s .device
+  pub staging : s′ .staging ≡ s .staging
+
+-- the claim, of the run that comes to the system s
+pub record Demand (b : List ℕ) (token : ℕ) (d : Device) (staging reply : List ℕ) (s : System) : Type 0 where
+  -- the host is done, and stays so; no call is refused
+  pub done : s .host .stage ≡ Ended Done
+  pub stays : (m : ℕ) → run b m s ≡ s
+  pub served : (m : ℕ) → Turn b (run b m (start token d staging reply))
+  -- at most n passes and 1 + n(n + 2) + r packets, by the packets sent and by the report
+  pub passes : passesIn (s .trace) ≤ countIn b
+  pub packets : length (s .trace) ≤ 1 + countIn b * (countIn b + 2) + recordsIn b
+  pub counts : Counted b (s .host) (s .trace)
+  -- what was staged is the smallest closed set
+  pub smallest : Smallest d b (stagedIn b s)
+  -- each image is staged under its offered version, and fills its region; nothing else changes
+  pub device : Leaves d b (stagedIn b s) (s .device)
+  pub bytes : Fills d b (stagedIn b s) staging (s .staging)
+  -- the state tells the same: staged in this run means not pending before and pending after
+  pub pending : (i k : ℕ) → i < countIn b → find d (offerAt b i .id) ≡ At k
+      → T (stagedIn b s i) ↔ ((isPending (part d k .staged) ≡ false) × (isPending (part (s .device) k .staged) ≡ true))
+  -- another order of the same offers comes to the same
+  pub order : (b′ : List ℕ) (token′ : ℕ) (reply′ : List ℕ) → Bytes b′ → token′ < 256 → rows.bundleRow b′ ≡ rows.served
+      → (π : Reordered b b′) → Same b b′ π s (lastOf b′ token′ d staging reply′)
+
+-- demand 3
+abbrev pub DemandThree : Type 0
+DemandThree = (b : List ℕ) (token : ℕ) (d : Device) (staging reply : List ℕ) → Premise b token d staging
+    → Demand b token d staging reply (lastOf b token d staging reply)

@@ -1,0 +1,81 @@
+-- The host always ends, against any device: the statement (document 00, question 1; document 01, "The host").
+use Prim.Native.Nat.{ℕ, zero, suc, _+_, _<_}
+use mathlib.Core.Path.{_≡_}
+use mathlib.Core.Logic.{_⊎_}
+use mathlib.Core.Bool.{Bool, true, cond}
+use mathlib.Core.List.{List, [], _∷_, _++_}
+use lib.Count.{ones}
+use lib.ListN.{length}
+use Rattle.wire.specs.Bytes.{Bytes}
+use Rattle.wire.specs.Rows as packet
+use Rattle.offers.specs.Offer as offer
+use Rattle.offers.specs.Signal.{informationBytes, extendedBytes}
+use Rattle.offers.specs.declared.offer.OfferFields.{OfferFields}
+use Rattle.offers.specs.declared.signal.Signal.{Signal}
+use Rattle.contents.specs.Content as content
+use Rattle.contents.specs.declared.content.ContentFields.{ContentFields}
+use Rattle.bundle.specs.Layout.{countIn, idIn}
+use Rattle.bundle.specs.Rows as bundle
+use Rattle.host.specs.Record.{freshHost, hasBit, hasEnded}
+use Rattle.host.specs.Step.{served, entryAt, stepOf}
+use Rattle.host.specs.declared.record.Host.{Host}
+use Rattle.update.specs.Trace.{Exchange, passesIn, completedIn}
+use Rattle.update.specs.Run.{boundOf}
+
+-- a host that hears any replies, with the list of what it sent: reply k is heard by step k, so it answers what step k - 1 sent
+pub record Talk : Type 0 where
+  pub host : Host
+  pub trace : List Exchange
+
+abbrev pub heardAs : List (List ℕ) → (reply : List ℕ) → List Exchange
+heardAs [] reply = []
+heardAs (p ∷ ps) reply = record { packet = p; reply = reply } ∷ []
+
+unfoldable pub talk : (b : List ℕ) → (token : ℕ) → (replies : ℕ → List ℕ) → (steps : ℕ) → Talk
+talk b token replies zero = record { host = freshHost token; trace = [] }
+talk b token replies (suc k) = record {
+  host = stepOf b (talk b token replies k .host) (replies k) .host;
+  trace = talk b token replies k .trace ++ heardAs (stepOf b (talk b token replies k .host) (replies k) .sent) (replies (suc k));
+}
+
+-- a packet that P2 allows: one of the builders builds it
+pub data Built : List ℕ → Type 0 where
+  anInformation : (s : Signal) → Built (informationBytes s)
+  anExtended : (s : Signal) → Built (extendedBytes s)
+  anOffer : (o : OfferFields) → offer.buildOf o .row ≡ packet.served → Built (offer.buildOf o .value)
+  aContent : (c : ContentFields) → content.buildOf c .row ≡ packet.served → Built (content.buildOf c .value)
+
+-- every packet of a list
+abbrev pub AllBuilt : List (List ℕ) → Type 0
+AllBuilt [] = Unit {0}
+AllBuilt (p ∷ ps) = Built p × AllBuilt ps
+
+-- how many of the first n entries the list shows completed
+unfoldable pub completedOf : (b : List ℕ) → List Exchange → (n : ℕ) → ℕ
+completedOf b trace zero = 0
+completedOf b trace (suc n) = cond (completedIn 0 trace (idIn (entryAt b n))) 1 0 + completedOf b trace n
+
+-- the counts of a record are those of the list, and the ones in its mask are the list's completed offers
+pub record Counted (b : List ℕ) (h : Host) (trace : List Exchange) : Type 0 where
+  pub packets : h .packets ≡ length trace
+  pub passes : h .passes ≡ passesIn trace
+  pub bits : (i : ℕ) → i < countIn b → hasBit (h .mask) i ≡ completedIn 0 trace (idIn (entryAt b i))
+  pub ones : ones (h .mask) ≡ completedOf b trace (countIn b)
+
+-- from a fresh record over an accepted bundle, whatever is heard
+pub record Ends (b : List ℕ) (token : ℕ) (replies : ℕ → List ℕ) : Type 0 where
+  -- N1 is never met
+  pub served : (k : ℕ) → stepOf b (talk b token replies k .host) (replies k) .row ≡ served
+  -- an ended record is reached within the bound
+  pub ended : hasEnded (talk b token replies (boundOf b) .host .stage) ≡ true
+  -- every packet is one that P2 allows
+  pub built : (k : ℕ) → AllBuilt (stepOf b (talk b token replies k .host) (replies k) .sent)
+
+-- once it has ended, the counts are those of the list sent
+abbrev pub HostEnds : Type 0
+HostEnds = (b : List ℕ) (token : ℕ) (replies : ℕ → List ℕ) → Bytes b → bundle.bundleRow b ≡ bundle.served → token < 256 → Ends b token replies
+
+abbrev pub HostCounts : Type 0
+HostCounts = (b : List ℕ) (token : ℕ) (replies : ℕ → List ℕ) (k : ℕ) → Bytes b → bundle.bundleRow b ≡ bundle.served → token < 256
+    → hasEnded (talk b token replies k .host .stage) ≡ true
+    → Counted b (talk b token replies k .host) (talk b token replies k .trace)

@@ -1,0 +1,6 @@
+pub mod Trace
+pub mod Run
+pub mod Answer
+pub mod Ends
+pub mod Claim
+pub mod Demand

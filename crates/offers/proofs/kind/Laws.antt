@@ -24,18 +24,19 @@ Seen p (offer o) = (eqb (getD p 2 0) KIND-INFORMATION ≡ false) × (eqb (getD p
 Seen p (information s) = (getD p 2 0 ≡ KIND-INFORMATION) × (signalIn p ≡ s)
 Seen p (extended s) = (getD p 2 0 ≡ KIND-EXTENDED) × (signalIn p ≡ s)
 
+-- the same, by what the two tests of byte 2 say
 seen-by : (p : List ℕ) (x y : Bool) → eqb (getD p 2 0) KIND-INFORMATION ≡ x → eqb (getD p 2 0) KIND-EXTENDED ≡ y
     → Seen p (cond x (information (signalIn p)) (cond y (extended (signalIn p)) (offer (fieldsIn p))))
 seen-by p true y e f = (eqb-true _ _ e, refl)
 seen-by p false true e f = (eqb-true _ _ f, refl)
 seen-by p false false e f = (e, f, refl)
 
+-- so it is for what is read
 seen : (p : List ℕ) (k : Kind) → Packet 16 p → readOf p .value ≡ k → Seen p k
 unfolding readOf kindIn
 seen p k h e = subst (Seen p) (simp (h .size) at e) (seen-by p _ _ refl refl)
 
--- offer
-
+-- an offer that is built reads back
 pub offer-r1 : OfferR1
 unfolding buildOf readOf kindIn offerBytes
 offer-r1 o f h =
@@ -43,21 +44,21 @@ offer-r1 o f h =
     let n = narrow o a in
     simp (a, ne-eqb (o .id) KIND-INFORMATION (omega arith), ne-eqb (o .id) KIND-EXTENDED (omega arith), bytes-fields o f a)
 
+-- an offer that was read and is built again is the packet with its reserved bits zero
 pub offer-r2 : OfferR2
 unfolding buildOf
 offer-r2 p o k h =
     let s = seen p (offer o) k h in
     rw (← s .2) (simp (read-allowed p k (s .0) (s .1), fields-bytes p k))
 
+-- those bits change nothing that is read
 pub offer-r3 : OfferR3
 unfolding readOf kindIn cleanOffer
 offer-r3 p o k h =
     let s = seen p (offer o) k h in
     simp (k .size, s .0, s .1, clean-fields p)
 
--- information and extended, by the byte of the kind
-
--- what is read and built again
+-- information or extended, by the byte of its kind: what was read and is built again is the packet with its reserved bytes zero
 signal-back : (kind : ℕ) (p : List ℕ) (s : Signal) → (getD p 2 0 ≡ kind) × (signalIn p ≡ s) → signalBytes kind s ≡ cleanSignal p
 signal-back kind p s h = rw (← h .0, ← h .1)
 
@@ -68,12 +69,16 @@ either true y s o q h = refl
 either false true s o q h = refl
 either false false s o q h = cc
 
--- the packet with its reserved bits zero reads the same
+-- information or extended, by the byte of its kind: reserved bytes change nothing that is read
 signal-same : (kind : ℕ) (p : List ℕ) → Packet 16 p → getD p 2 0 ≡ kind → (eqb kind KIND-INFORMATION || eqb kind KIND-EXTENDED) ≡ true
     → readOf (cleanSignal p) ≡ readOf p
 unfolding readOf kindIn
-signal-same kind p k e h = simp (k .size) (ap (λ (v : Kind). record { row = served; value = v }) (either (eqb (getD p 2 0) KIND-INFORMATION) (eqb (getD p 2 0) KIND-EXTENDED) (signalIn p) _ _ (rw e h)))
+signal-same kind p k e h =
+    let x = eqb (getD p 2 0) KIND-INFORMATION in
+    let y = eqb (getD p 2 0) KIND-EXTENDED in
+    simp (k .size) (ap (λ (v : Kind). record { row = served; value = v }) (either x y (signalIn p) _ _ (rw e h)))
 
+-- information that is built reads back, and so on as above
 pub information-r1 : InformationR1
 unfolding readOf kindIn
 information-r1 s f = refl
@@ -84,6 +89,7 @@ information-r2 p s k h = signal-back KIND-INFORMATION p s (seen p (information s
 pub information-r3 : InformationR3
 information-r3 p s k h = signal-same KIND-INFORMATION p k (seen p (information s) k h .0) refl
 
+-- extended, the same
 pub extended-r1 : ExtendedR1
 unfolding readOf kindIn
 extended-r1 s f = refl

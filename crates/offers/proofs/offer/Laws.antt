@@ -9,6 +9,7 @@ use borrow.Author.Tests.{leb-true, ltb-true, le-leb, lt-ltb, eqb-false}
 use lib.Dec.{eqb, leb, ltb}
 use lib.ListN.{getD}
 use Rattle.wire.specs.Bytes.{Packet, number, bytesAt}
+use Rattle.wire.specs.Codes.{KIND-INFORMATION, KIND-EXTENDED}
 use Rattle.wire.specs.Rows.{served}
 use Rattle.wire.proofs.Tests.{both, served-true}
 use Rattle.wire.proofs.version.Laws.{parts, version-back}
@@ -30,6 +31,7 @@ bit-7 true false = refl
 bit-7 false true = refl
 bit-7 false false = refl
 
+-- the two bits, by their value
 two-bits : (q : ℕ) → q < 4 → flagsOf (eqb (q % 2) 1) (eqb (q / 2 % 2) 1) ≡ q * 64
 two-bits zero h = refl
 two-bits (suc zero) h = refl
@@ -56,12 +58,12 @@ unfolding buildOf
 built-allowed o = served-true (allowed o) _ _ _
 
 -- an offer that is read is allowed
-pub read-allowed : (p : List ℕ) → Packet 16 p → eqb (getD p 2 0) 0xFF ≡ false → eqb (getD p 2 0) 0xFE ≡ false → allowed (fieldsIn p) ≡ true
+pub read-allowed : (p : List ℕ) → Packet 16 p → eqb (getD p 2 0) KIND-INFORMATION ≡ false → eqb (getD p 2 0) KIND-EXTENDED ≡ false → allowed (fieldsIn p) ≡ true
 unfolding fieldsIn
 read-allowed p k x y =
     let b = getD p 2 0 in
     let h : b < 256 = k .bytes 2 in
-    let l : b ≤ 0xFD = omega (arith, eqb-false b 0xFF x, eqb-false b 0xFE y) in
+    let l : b ≤ 0xFD = omega (arith, eqb-false b KIND-INFORMATION x, eqb-false b KIND-EXTENDED y) in
     let m : number (bytesAt 3 9 p) < 0x1000000 = omega (arith, k .bytes 9, k .bytes 10, k .bytes 11) in
     let n : getD p 12 0 % 16 < 16 = omega arith in
     rw (le-leb _ _ l, lt-ltb _ _ m, lt-ltb _ _ n)

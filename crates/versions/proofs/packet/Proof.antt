@@ -1,87 +1,86 @@
+-- `packet` meets its contract. After i turns the first i components are written. Assumes nothing.
+use mathlib.Core.Path.{_≡_, refl, ap, _∙_}
+use Prim.Native.Nat.{_+_, _*_, _≤_, _-_}
+use native.Mathlib.Omega.{arith}
+use lib.ListN.{length, take, drop, length-take, length-drop}
+use Rattle.wire.proofs.words.Copies.{copy-same}
+use Rattle.versions.specs.Reply.{flat, replyBytes}
+use Rattle.versions.proofs.Entries.{sofar, sofar-more, length-sofar}
+use borrow.Author.Needs.{needs}
 use Rattle.versions.proofs.packet.Statement.{statement}
 use Rattle.versions.proofs.packet.Tie as tie
-use Rattle.versions.proofs.packet.Reads as reads
-use Rattle.versions.proofs.packet.Lts as lts
-use Rattle.versions.proofs.entry_bytes.Reads as entry-bytes-reads
-use Rattle.wire.proofs.words.copy.Reads as copy-reads
 
 abbrev Inv-loop : tie.InvT-loop
-Inv-loop count protocol components n p₀ i₀ p i = ?
+Inv-loop count protocol components n p₀ i₀ p i = (p ≡ sofar count protocol components i) × (length p ≡ 60) × (i ≤ n) × (n ≡ count)
 
 abbrev μ-loop : tie.MeasureT-loop
-μ-loop count protocol components n p₀ i₀ p i = ?
+μ-loop count protocol components n p₀ i₀ p i = n - i
 
--- src/lib.rt:75:5
 array-write-p : tie.Need-array-write-p Inv-loop μ-loop
-array-write-p c = ?
+array-write-p c = search needs
 
--- src/lib.rt:76:5
 array-write-p-2 : tie.Need-array-write-p-2 Inv-loop μ-loop
-array-write-p-2 c = ?
+array-write-p-2 c = search needs
 
--- src/lib.rt:78:5
 loop-holds : tie.Need-loop-holds Inv-loop μ-loop
-loop-holds c = ?
+unfolding sofar flat
+loop-holds c = (refl, refl, search needs, refl)
 
--- src/lib.rt:79:17
 mul-e : tie.Need-mul-e Inv-loop μ-loop
-mul-e c = ?
+mul-e c = search needs
 
--- src/lib.rt:79:17
 array-copy-out-e : tie.Need-array-copy-out-e Inv-loop μ-loop
-array-copy-out-e c = ?
+array-copy-out-e c = search needs
 
--- src/lib.rt:80:17
 entry-bytes-requires : tie.Need-entry-bytes-requires Inv-loop μ-loop
-entry-bytes-requires c κs = ?
+entry-bytes-requires c κs = search needs
 
--- src/lib.rt:81:22
 mul-at : tie.Need-mul-at Inv-loop μ-loop
-mul-at c = ?
+mul-at c = search needs
 
--- src/lib.rt:81:18
 add-at : tie.Need-add-at Inv-loop μ-loop
-add-at c = ?
+add-at c = search needs
 
--- src/lib.rt:82:32
 add-copy : tie.Need-add-copy Inv-loop μ-loop
-add-copy c = ?
+add-copy c = search needs
 
--- src/lib.rt:82:21
 sub-copy : tie.Need-sub-copy Inv-loop μ-loop
-sub-copy c = ?
+sub-copy c = search needs
 
--- src/lib.rt:82:21
 part-p-start : tie.Need-part-p-start Inv-loop μ-loop
-part-p-start c = ?
+part-p-start c = search needs
 
--- src/lib.rt:82:21
 part-p-end : tie.Need-part-p-end Inv-loop μ-loop
-part-p-end c = ?
+part-p-end c = search needs
 
--- src/lib.rt:82:41
 slice-aggregate-copy : tie.Need-slice-aggregate-copy Inv-loop μ-loop
-slice-aggregate-copy c = ?
+slice-aggregate-copy c = search needs
 
--- src/lib.rt:82:9
 copy-requires : tie.Need-copy-requires Inv-loop μ-loop
-copy-requires c κs = ?
+copy-requires c κs = search needs
 
--- src/lib.rt:83:9
 add-i : tie.Need-add-i Inv-loop μ-loop
-add-i c = ?
+add-i c = search needs
 
--- src/lib.rt:78:5
 loop-less : tie.Need-loop-less Inv-loop μ-loop
-loop-less c = ?
+loop-less c = search needs
 
--- src/lib.rt:78:5
 loop-again : tie.Need-loop-again Inv-loop μ-loop
-loop-again c = ?
+loop-again c =
+    let a = c .before .before .before .before .before .before .before .before .args in
+    let l = c .before .before .before .before .before .before .before .loop in
+    let n : length (a .t3) ≡ 7 = search needs in
+    let b = c .before .before .before .before .entry-bytes in
+    let d = take (4 + 8 * l .i + 8 - (4 + 8 * l .i)) (drop (4 + 8 * l .i) (l .p)) in
+    let m : length d ≡ length (b .result) = simp (length-take, length-drop, b .ensures) (omega arith) in
+    let e = sofar-more (a .count) (a .protocol) (a .t3) (l .i) (l .p) _ n (omega arith) (l .inv .0) (c .before .copy .ensures ∙ copy-same d (b .result) m ∙ b .ensures) in
+    (e, ap length e ∙ length-sofar (a .count) (a .protocol) (a .t3) (l .i + 1) n (omega arith), omega arith, refl)
 
--- src/lib.rt:69:1
 returns : tie.Need-returns Inv-loop μ-loop
-returns c = ?
+unfolding sofar replyBytes
+returns c =
+    let e : c .before .loop .i ≡ c .before .before .args .count = omega arith in
+    c .before .loop .inv .0 ∙ rw e
 
 pub packet-spec : {M : Type 1} → statement M
 packet-spec =

@@ -1,75 +1,73 @@
+-- `table` meets its contract. After i turns the first i components are read. Assumes nothing.
+use mathlib.Core.Path.{_≡_, refl, _∙_}
+use mathlib.Core.List.{_++_}
+use Prim.Native.Nat.{_≤_, _-_}
+use native.Mathlib.Omega.{arith}
+use lib.ListN.{length, drop, replicate, length-set}
+use Rattle.versions.specs.Reply.{none, entries, tableIn}
+use Rattle.versions.proofs.Entries.{entries-more, entry-part}
+use borrow.Author.Needs.{needs}
 use Rattle.versions.proofs.table.Statement.{statement}
 use Rattle.versions.proofs.table.Tie as tie
-use Rattle.versions.proofs.table.Reads as reads
-use Rattle.versions.proofs.table.Lts as lts
-use Rattle.versions.proofs.entry_in.Reads as entry-in-reads
-use Rattle.wire.proofs.version.Version.new.Reads as new-reads
 
 abbrev Inv-loop : tie.InvT-loop
-Inv-loop p count n es₀ i₀ es i = ?
+Inv-loop p count n es₀ i₀ es i = (es ≡ entries i (drop 4 p) ++ replicate (7 - i) none) × (length es ≡ 7) × (i ≤ n) × (n ≡ count)
 
 abbrev μ-loop : tie.MeasureT-loop
-μ-loop p count n es₀ i₀ es i = ?
+μ-loop p count n es₀ i₀ es i = n - i
 
--- src/lib.rt:113:18
 new-requires : tie.Need-new-requires Inv-loop μ-loop
-new-requires c κs = ?
+new-requires c κs = search needs
 
--- src/lib.rt:119:5
 loop-holds : tie.Need-loop-holds Inv-loop μ-loop
-loop-holds c = ?
+unfolding entries
+loop-holds c = (simp (c .new .ensures), refl, search needs, refl)
 
--- src/lib.rt:120:22
 mul-at : tie.Need-mul-at Inv-loop μ-loop
-mul-at c = ?
+mul-at c = search needs
 
--- src/lib.rt:120:18
 add-at : tie.Need-add-at Inv-loop μ-loop
-add-at c = ?
+add-at c = search needs
 
--- src/lib.rt:121:33
 add-entry-in : tie.Need-add-entry-in Inv-loop μ-loop
-add-entry-in c = ?
+add-entry-in c = search needs
 
--- src/lib.rt:121:26
 sub-entry-in : tie.Need-sub-entry-in Inv-loop μ-loop
-sub-entry-in c = ?
+sub-entry-in c = search needs
 
--- src/lib.rt:121:26
 part-entry-in-start : tie.Need-part-entry-in-start Inv-loop μ-loop
-part-entry-in-start c = ?
+part-entry-in-start c = search needs
 
--- src/lib.rt:121:26
 part-entry-in-end : tie.Need-part-entry-in-end Inv-loop μ-loop
-part-entry-in-end c = ?
+part-entry-in-end c = search needs
 
--- src/lib.rt:121:17
 entry-in-requires : tie.Need-entry-in-requires Inv-loop μ-loop
-entry-in-requires c κs = ?
+entry-in-requires c κs = search needs
 
--- src/lib.rt:121:9
 mul-es : tie.Need-mul-es Inv-loop μ-loop
-mul-es c = ?
+mul-es c = search needs
 
--- src/lib.rt:121:9
 array-set-from-es : tie.Need-array-set-from-es Inv-loop μ-loop
-array-set-from-es c = ?
+array-set-from-es c = search needs
 
--- src/lib.rt:122:9
 add-i : tie.Need-add-i Inv-loop μ-loop
-add-i c = ?
+add-i c = search needs
 
--- src/lib.rt:119:5
 loop-less : tie.Need-loop-less Inv-loop μ-loop
-loop-less c = ?
+loop-less c = search needs
 
--- src/lib.rt:119:5
 loop-again : tie.Need-loop-again Inv-loop μ-loop
-loop-again c = ?
+loop-again c =
+    let p = c .before .before .before .before .before .before .args .p .now in
+    let l = c .before .before .before .loop in
+    let e = entries-more (drop 4 p) (l .es) (l .i) _ (omega arith) (l .inv .0) (c .entry-in .ensures ∙ entry-part p (l .i) (omega arith)) in
+    (e, simp length-set (l .inv .1), omega arith, refl)
 
--- src/lib.rt:107:1
 returns : tie.Need-returns Inv-loop μ-loop
-returns c = ?
+unfolding tableIn
+returns c =
+    let e : c .before .loop .i ≡ c .before .before .before .before .args .count = omega arith in
+    c .before .loop .inv .0 ∙ rw e
 
 pub table-spec : {M : Type 1} → statement M
 table-spec =

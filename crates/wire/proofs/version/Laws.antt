@@ -6,7 +6,7 @@ use native.Mathlib.Numerals.{unary-clauses}
 use native.Mathlib.Omega.{arith}
 use lib.ListN.{getD}
 use Rattle.wire.specs.Bytes.{Bytes, number, bytesAt}
-use Rattle.wire.specs.Version.{FitsVersion, versionOf, readVersion, versionAt, majorOf, minorOf, variantOf, versionBytes}
+use Rattle.wire.specs.Version.{versionOf, readVersion, versionAt, majorOf, minorOf, variantOf, versionBytes}
 use Rattle.wire.specs.declared.version.Version.{Version}
 
 -- the number of a version is its four bytes as one little-endian number

@@ -3,11 +3,6 @@ use Rattle.offers.specs.Offer.{fieldsIn}
 use borrow.Author.Needs.{needs}
 use Rattle.offers.proofs.kind.fields.Statement.{statement}
 use Rattle.offers.proofs.kind.fields.Tie as tie
-use Rattle.offers.proofs.kind.fields.Reads as reads
-use Rattle.offers.proofs.kind.fields.Lts as lts
-use Rattle.wire.proofs.version.Version.read.Reads as read-reads
-use Rattle.wire.proofs.words.word16.Reads as word16-reads
-use Rattle.wire.proofs.words.word24.Reads as word24-reads
 
 shared-slice-read-t3 : tie.Need-shared-slice-read-t3
 shared-slice-read-t3 c = search needs

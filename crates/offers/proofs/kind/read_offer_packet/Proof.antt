@@ -4,9 +4,6 @@ use Rattle.offers.specs.Kind.{kindIn, readOf}
 use borrow.Author.Needs.{needs}
 use Rattle.offers.proofs.kind.read_offer_packet.Statement.{statement}
 use Rattle.offers.proofs.kind.read_offer_packet.Tie as tie
-use Rattle.offers.proofs.kind.read_offer_packet.Reads as reads
-use Rattle.offers.proofs.kind.read_offer_packet.Lts as lts
-use Rattle.offers.proofs.kind.fields.Reads as fields-reads
 
 returns : tie.Need-returns
 unfolding readOf

@@ -4,10 +4,6 @@ use Rattle.offers.specs.Offer.{buildOf}
 use borrow.Author.Needs.{needs}
 use Rattle.offers.proofs.offer.build_offer.Statement.{statement}
 use Rattle.offers.proofs.offer.build_offer.Tie as tie
-use Rattle.offers.proofs.offer.build_offer.Reads as reads
-use Rattle.offers.proofs.offer.build_offer.Lts as lts
-use Rattle.offers.proofs.offer.is_allowed.Reads as is-allowed-reads
-use Rattle.offers.proofs.offer.packet.Reads as packet-reads
 
 is-allowed-requires : tie.Need-is-allowed-requires
 is-allowed-requires c κs = search needs

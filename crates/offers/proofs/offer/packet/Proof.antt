@@ -3,12 +3,6 @@ use Rattle.offers.specs.Offer.{offerBytes}
 use borrow.Author.Needs.{needs}
 use Rattle.offers.proofs.offer.packet.Statement.{statement}
 use Rattle.offers.proofs.offer.packet.Tie as tie
-use Rattle.offers.proofs.offer.packet.Reads as reads
-use Rattle.offers.proofs.offer.packet.Lts as lts
-use Rattle.offers.proofs.offer.flags.Reads as flags-reads
-use Rattle.wire.proofs.version.Version.bytes.Reads as bytes-reads
-use Rattle.wire.proofs.words.bytes16.Reads as bytes16-reads
-use Rattle.wire.proofs.words.bytes24.Reads as bytes24-reads
 
 flags-requires : tie.Need-flags-requires
 flags-requires c κs = search needs

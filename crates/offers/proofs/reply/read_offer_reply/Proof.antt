@@ -4,8 +4,6 @@ use Rattle.offers.specs.Reply.{readReplyOf}
 use borrow.Author.Needs.{needs}
 use Rattle.offers.proofs.reply.read_offer_reply.Statement.{statement}
 use Rattle.offers.proofs.reply.read_offer_reply.Tie as tie
-use Rattle.offers.proofs.reply.read_offer_reply.Reads as reads
-use Rattle.offers.proofs.reply.read_offer_reply.Lts as lts
 
 shared-slice-read-t7 : tie.Need-shared-slice-read-t7
 shared-slice-read-t7 c = search needs

@@ -1,6 +1,7 @@
 -- `read_version_reply` meets its contract: the tests, and each answer. Assumes nothing.
 use mathlib.Core.Path.{sym, _∙_}
 use Prim.Native.Nat.{_%_}
+use native.Mathlib.Omega.{arith}
 use lib.ListN.{getD}
 use borrow.Author.Tests.{eq-eqb, ne-eqb}
 use Rattle.versions.specs.Reply.{readOf, fieldsIn}
@@ -21,7 +22,7 @@ is-allowed-requires c κs = search needs
 table-requires : tie.Need-table-requires
 table-requires c κs =
     let p = c .before .before .before .before .before .before .args .p .now in
-    (search needs, known (getD p 0 0) (getD p 3 0 % 16) (sym (c .before .is-allowed .ensures) ∙ c .if2 .taken) .0)
+    let k = known (getD p 0 0) (getD p 3 0 % 16) (sym (c .before .is-allowed .ensures) ∙ c .if2 .taken) in (search needs, omega arith)
 
 refused-requires : tie.Need-refused-requires
 refused-requires c κs = search needs

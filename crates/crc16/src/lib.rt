@@ -18,7 +18,7 @@ fn byte_step(r: u16, b: u8) -> u16
     ensures { λ x. ⌜ x ≡ byteStep r b ⌝ }
 {
     let mut x = r ^ ((b as u16) << 8);
-    let mut k = 0;
+    let mut k: usize = 0;
     while k < 8 {
         x = bit_step(x);
         k += 1;

@@ -1,8 +1,9 @@
 -- `crc16::byte_step` meets its contract: the bits that are left, from x, give the byte's register. Assumes nothing.
-use mathlib.Core.Path.{_≡_}
+use mathlib.Core.Path.{_≡_, ap}
 use Prim.Native.Nat.{suc, _*_, _%_, _^_, _+_, _-_, _≤_}
 use native.Mathlib.Omega.{arith}
 use borrow.Author.Needs.{needs}
+use lib.Bits.{bitXor}
 use Rattle.crc16.specs.Crc.{bitSteps, byteStep}
 use Rattle.crc16.proofs.byte_step.Statement.{statement}
 use Rattle.crc16.proofs.byte_step.Tie as tie
@@ -17,7 +18,7 @@ loop-holds : tie.Need-loop-holds Inv-loop μ-loop
 unfolding byteStep
 loop-holds c =
     let h : c .args .b * 2 ^ 8 % 2 ^ 16 ≡ c .args .b * 256 = omega arith in
-    (rw h, search needs)
+    (ap (λ n. bitSteps 8 (bitXor (c .args .r) n)) h, search needs)
 
 bit-step-requires : tie.Need-bit-step-requires Inv-loop μ-loop
 bit-step-requires c κs = search needs

@@ -1,1 +1,4 @@
 pub mod Bench
+pub mod Calls
+pub mod Offering
+pub mod Blocks

@@ -242,7 +242,7 @@ module _ (b : List ℕ) (α : Accepted b) where
   fresh-ready token t = record { token = t; stage = refl; passes = omega arith; mask = pow-pos (countIn b); room = omega (arith, spare-all) }
 
   -- a record that has not ended has a step left
-  owed-step : (g : HostStage) → hasEnded g ≡ false → 1 ≤ owed b g
+  pub owed-step : (g : HostStage) → hasEnded g ≡ false → 1 ≤ owed b g
   unfolding owed
   owed-step Fresh e = omega arith
   owed-step Opening e = omega arith

@@ -139,7 +139,7 @@ starts body = empty (eqb (length body) 0)
         let p = both (leb 1 (getD body 4 0) && leb (getD body 4 0) 52) (leb (getD body 4 0) (length body - 5)) h in
         let q = both (leb 1 (getD body 4 0)) (leb (getD body 4 0) 52) (p .0) in
         let e : length (take (getD body 4 0) (drop 5 body)) ≡ getD body 4 0 =
-          length-take (getD body 4 0) (drop 5 body) ∙ omega (arith, length-drop 5 body, leb-true (getD body 4 0) (length body - 5) (p .1)) in
+        length-take (getD body 4 0) (drop 5 body) ∙ omega (arith, length-drop 5 body, leb-true (getD body 4 0) (length body - 5) (p .1)) in
         record { some = omega (arith, e, leb-true 1 (getD body 4 0) (q .0)); few = omega (arith, e, leb-true (getD body 4 0) 52 (q .1)) }
     sound false h = tt
 

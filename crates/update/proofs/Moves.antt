@@ -103,7 +103,7 @@ pub sending-cases : (Q : Move → Type 0) (n : ℕ) (last : Bool) (p : Place) (h
     → (isTaken p reply ≡ false → (e : End) → Q (ends h e))
     → (isTaken p reply ≡ true → last ≡ true → Q (offerFrom n (p .entry + 1) (completes h (p .entry))))
     → (isTaken p reply ≡ true → last ≡ false
-      → Q (sends h (Sending (record { entry = p .entry; block = p .block + 1 })) (Block (record { entry = p .entry; block = p .block + 1 }))))
+    → Q (sends h (Sending (record { entry = p .entry; block = p .block + 1 })) (Block (record { entry = p .entry; block = p .block + 1 }))))
     → Q (hearsBlock n last p h reply)
 unfolding hearsBlock
 sending-cases Q n last p h reply stops ends goes =
@@ -113,7 +113,7 @@ sending-cases Q n last p h reply stops ends goes =
         → ((x && (y && z)) ≡ false → (e : End) → Q (host.ends h e))
         → ((x && (y && z)) ≡ true → last ≡ true → Q (offerFrom n (p .entry + 1) (completes h (p .entry))))
         → ((x && (y && z)) ≡ true → last ≡ false
-          → Q (sends h (Sending (record { entry = p .entry; block = p .block + 1 })) (Block (record { entry = p .entry; block = p .block + 1 }))))
+        → Q (sends h (Sending (record { entry = p .entry; block = p .block + 1 })) (Block (record { entry = p .entry; block = p .block + 1 }))))
         → Q (cond (not x || not y) (host.ends h Foreign) (cond z (goesOn n last p h) (host.ends h (Status (replyIn reply .status)))))
     go false y z last f g k = f refl Foreign
     go true false z last f g k = f refl Foreign

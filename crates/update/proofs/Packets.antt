@@ -55,7 +55,7 @@ unfolding offer.buildOf offer.cleanOffer
 offer-built q k l e1 e12 e13 =
     let a = read-allowed q k (ne-eqb (getD q 2 0) KIND-INFORMATION (omega arith)) (ne-eqb (getD q 2 0) KIND-EXTENDED (omega arith)) in
     let w : offer.buildOf (offer.fieldsIn q) ≡ record { row = packet.served; value = q } =
-      rw a (ap (λ (v : List ℕ). record { row = packet.served; value = v }) (fields-bytes q k ∙ simp (e1, e12) (sym (sixteen q (k .size) ∙ simp (e1, e12, e13))))) in
+    rw a (ap (λ (v : List ℕ). record { row = packet.served; value = v }) (fields-bytes q k ∙ simp (e1, e12) (sym (sixteen q (k .size) ∙ simp (e1, e12, e13))))) in
     subst Built (ap (λ (t : Told (List ℕ)). t .value) w) (anOffer (offer.fieldsIn q) (ap (λ (t : Told (List ℕ)). t .row) w))
 
 -- content with proper flags and length is what is built of its fields
@@ -66,13 +66,13 @@ content-built c a =
     subst Built (ap (λ (t : Told (List ℕ)). t .value) w) (aContent c (ap (λ (t : Told (List ℕ)). t .row) w))
 
 -- the flags of a block, by whether it is first and last
-flags-sound : (x y : Bool) → eqb ((cond x FLAG-FIRST-BLOCK 0 + cond y FLAG-LAST-BLOCK 0) % 64) 0 ≡ true
+pub flags-sound : (x y : Bool) → eqb ((cond x FLAG-FIRST-BLOCK 0 + cond y FLAG-LAST-BLOCK 0) % 64) 0 ≡ true
 flags-sound true true = refl
 flags-sound true false = refl
 flags-sound false true = refl
 flags-sound false false = refl
 
-flags-last : (x y : Bool) → eqb ((cond x FLAG-FIRST-BLOCK 0 + cond y FLAG-LAST-BLOCK 0) / 64 % 2) 1 ≡ y
+pub flags-last : (x y : Bool) → eqb ((cond x FLAG-FIRST-BLOCK 0 + cond y FLAG-LAST-BLOCK 0) / 64 % 2) 1 ≡ y
 flags-last true true = refl
 flags-last true false = refl
 flags-last false true = refl
@@ -86,14 +86,14 @@ and-swap false false = refl
 
 module _ (b : List ℕ) (α : Accepted b) where
   -- the offer of an entry, with our token
-  abbrev offerPacket : (token e : ℕ) → List ℕ
+  abbrev pub offerPacket : (token e : ℕ) → List ℕ
   offerPacket token e = set (offerIn (entryAt b e)) 3 token
 
   -- has the entry's bytes but for the token
-  offer-byte : (token e i : ℕ) → i < 16 → (i ≡ 3 → ⊥) → getD (offerPacket token e) i 0 ≡ getD (entryAt b e) i 0
+  pub offer-byte : (token e i : ℕ) → i < 16 → (i ≡ 3 → ⊥) → getD (offerPacket token e) i 0 ≡ getD (entryAt b e) i 0
   offer-byte token e i l n = getD-set-other (offerIn (entryAt b e)) 3 i token 0 n ∙ getD-take 16 (entryAt b e) i 0 l
 
-  offer-packet : (token e : ℕ) → token < 256 → e < countIn b → Packet 16 (offerPacket token e)
+  pub offer-packet : (token e : ℕ) → token < 256 → e < countIn b → Packet 16 (offerPacket token e)
   offer-packet token e t l =
       let k = α .packet e l in
       record {
@@ -101,11 +101,11 @@ module _ (b : List ℕ) (α : Accepted b) where
         bytes = set-bytes (offerIn (entryAt b e)) 3 token (take-bytes 16 (entryAt b e) (k .bytes)) t;
       }
 
-  offer-id : (token e : ℕ) → getD (offerPacket token e) 2 0 ≡ idIn (entryAt b e)
+  pub offer-id : (token e : ℕ) → getD (offerPacket token e) 2 0 ≡ idIn (entryAt b e)
   offer-id token e = offer-byte token e 2 (omega arith) (omega arith)
 
   -- a block's data fills 52 bytes
-  block-length : (p : Place) → p .entry < countIn b → p .block < length (blocksAt b (p .entry)) → length (blockPacket b p) ≡ 60
+  pub block-length : (p : Place) → p .entry < countIn b → p .block < length (blocksAt b (p .entry)) → length (blockPacket b p) ≡ 60
   unfolding content.contentBytes content.cleared
   block-length p l m =
       let c = α .carries (entryAt b (p .entry)) .each (p .block) noBlock m in
@@ -123,11 +123,13 @@ module _ (b : List ℕ) (α : Accepted b) where
   all-built token (Information code) t h = (anInformation _, tt)
   all-built token Notify t h = (anExtended _, tt)
   all-built token (Offer e) t h =
-      let o = α .offer e h in
-      (offer-built (offerPacket token e) (offer-packet token e t h) (omega (arith, offer-id token e, o .high))
-      (offer-byte token e 1 (omega arith) (omega arith) ∙ o .flags)
-      (offer-byte token e 12 (omega arith) (omega arith) ∙ o .protocol)
-      (offer-byte token e 13 (omega arith) (omega arith) ∙ o .reserved), tt)
+      let o = α .offer e h in (
+        offer-built (offerPacket token e) (offer-packet token e t h) (omega (arith, offer-id token e, o .high))
+            (offer-byte token e 1 (omega arith) (omega arith) ∙ o .flags)
+            (offer-byte token e 12 (omega arith) (omega arith) ∙ o .protocol)
+            (offer-byte token e 13 (omega arith) (omega arith) ∙ o .reserved),
+        tt,
+      )
   all-built token (Block p) t h = (block-built p (h .0) (h .1), tt)
 
   -- an offer opens no pass, completes nothing, and is about its entry

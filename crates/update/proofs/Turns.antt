@@ -81,7 +81,7 @@ module _ (b : List ℕ) (α : Accepted b) (t : ℕ) (small : t < 256) where
   turnStage e = cond (ltb e (countIn b)) (Offering (record { entry = e; busy = 0 })) Closing
 
   -- that packet is sent
-  turn-sent : (e : ℕ) (stage : HostStage) (m p q : ℕ) (sk la : Bool) → moved b (offerFrom (countIn b) e (hostAs t stage m p q sk la)) .sent ≡ turnPacket e ∷ []
+  pub turn-sent : (e : ℕ) (stage : HostStage) (m p q : ℕ) (sk la : Bool) → moved b (offerFrom (countIn b) e (hostAs t stage m p q sk la)) .sent ≡ turnPacket e ∷ []
   unfolding packetOf
   turn-sent e stage m p q sk la = go (ltb e (countIn b))
     where
@@ -91,7 +91,7 @@ module _ (b : List ℕ) (α : Accepted b) (t : ℕ) (small : t < 256) where
       go true = refl
       go false = refl
 
-  turn-host : (e : ℕ) (stage : HostStage) (m p q : ℕ) (sk la : Bool)
+  pub turn-host : (e : ℕ) (stage : HostStage) (m p q : ℕ) (sk la : Bool)
       → offerFrom (countIn b) e (hostAs t stage m p q sk la) .host ≡ hostAs t (turnStage e) m (p + 1) q sk la
   turn-host e stage m p q sk la = go (ltb e (countIn b))
     where

@@ -11,3 +11,4 @@ pub mod Answers
 pub mod Bytes
 pub mod Fitting
 pub mod Staging
+pub mod Opened

@@ -1,14 +1,14 @@
 -- What the check of a bundle tells of one that it accepts: its count, its entries, their ids, and the records of each body. Assumes nothing.
 use mathlib.Core.Path.{_≡_, refl, sym, ap, _∙_}
-use mathlib.Core.Bool.{Bool, true, false, not, cond, _||_, _&&_}
+use mathlib.Core.Bool.{Bool, true, false, true≢false, not, cond, _||_, _&&_}
 use mathlib.Core.List.{List, [], _∷_}
 use Prim.Native.Nat.{ℕ, zero, suc, _+_, _*_, _-_, _≤_, _<_}
 use native.Mathlib.Nat.{not-suc-le-zero, le-of-suc-le-suc}
 use native.Mathlib.Omega.{arith}
-use borrow.Author.Tests.{ltb-false, leb-true, eqb-true, eqb-false, not-false, eq-eqb}
+use borrow.Author.Tests.{ltb-false, leb-true, eqb-true, eqb-false, not-false}
 use lib.Dec.{ltb, leb, eqb}
-use lib.ListN.{length, getD, take, drop, length-take, length-drop, List·getD-eq-default}
-use lib.Seq.{getD-take, getD-drop}
+use lib.ListN.{length, getD, take, drop, length-take, length-drop}
+use lib.Seq.{getD-drop}
 use Rattle.wire.specs.Bytes.{Packet, Bytes, number, bytesAt}
 use Rattle.wire.specs.Checks.{firstOf, any}
 use Rattle.wire.proofs.Tests.{both}
@@ -22,7 +22,7 @@ use Rattle.bundle.specs.Contents.{blocksIn}
 
 -- neither part of a disjunction holds
 pub neither : (a b : Bool) → (a || b) ≡ false → (a ≡ false) × (b ≡ false)
-neither true b h = let z : _≡_ {A = ℕ} 0 1 = cc in absurd (omega arith)
+neither true b h = absurd (true≢false h)
 neither false b h = (refl, h)
 
 -- a row that refuses nothing, and the rows after it
@@ -43,6 +43,7 @@ pub record Passes (b : List ℕ) : Type 0 where
   pub b6 : rowB6 b ≡ 0
   pub b8 : rowB8 b ≡ 0
 
+-- a bundle that is served passes every row
 pub rows-pass : (b : List ℕ) → bundleRow b ≡ served → Passes b
 unfolding bundleRow firstOf
 rows-pass b h =
@@ -94,13 +95,14 @@ apart seen k (e ∷ es) zero (suc j) h m l = λ q.
 apart seen k (e ∷ es) (suc i) (suc j) h m l =
     apart (idIn e ∷ seen) (suc k) es i j (skips (any (eqb (idIn e)) seen) k _ h .1) (le-of-suc-le-suc m) (le-of-suc-le-suc l)
 
--- bytes are left of bytes
+-- a part of bytes is bytes
 pub take-bytes : (n : ℕ) (q : List ℕ) → Bytes q → Bytes (take n q)
 take-bytes zero q h i = omega arith
 take-bytes (suc n) [] h i = omega arith
 take-bytes (suc n) (x ∷ q) h zero = h zero
 take-bytes (suc n) (x ∷ q) h (suc i) = take-bytes n q (λ j. h (suc j)) i
 
+-- and so is what follows a part
 pub drop-bytes : (n : ℕ) (q : List ℕ) → Bytes q → Bytes (drop n q)
 drop-bytes n q h i = rw (getD-drop n q i 0) (h (n + i))
 
@@ -129,6 +131,7 @@ Starts body Empty = Unit {0}
 Starts body Cut = Unit {0}
 Starts body (Whole address size) = Carried (blockIn address size body)
 
+-- so it is for every body
 starts : (body : List ℕ) → Starts body (headIn body)
 unfolding headIn
 starts body = empty (eqb (length body) 0)
@@ -156,6 +159,7 @@ pub record Carries (most : ℕ) (rs : List Block) : Type 0 where
   pub count : length rs ≤ most
   pub each : (i : ℕ) (none : Block) → i < length rs → Carried (getD rs i none)
 
+-- no record at all
 no-records : (most : ℕ) → Carries most []
 no-records most = record { count = omega arith; each = λ i none l. absurd (not-suc-le-zero l) }
 
@@ -181,9 +185,9 @@ parsed (suc fuel) body = go (headIn body) (starts body) (λ rest. parsed fuel re
 
 -- a body that B8 passes has a record
 some-records : (p : Parsed) → isBad p ≡ false → 1 ≤ length (blocksOf p)
-some-records (whole []) h = let z : _≡_ {A = ℕ} 0 1 = cc in absurd (omega arith)
+some-records (whole []) h = absurd (true≢false h)
 some-records (whole (r ∷ rs)) h = omega arith
-some-records broken h = let z : _≡_ {A = ℕ} 0 1 = cc in absurd (omega arith)
+some-records broken h = absurd (true≢false h)
 
 -- an offer that B5 passes
 pub record Offered (e : List ℕ) : Type 0 where
@@ -199,6 +203,7 @@ pub record Offered (e : List ℕ) : Type 0 where
 is : (v x : ℕ) → not (eqb v x) ≡ false → v ≡ x
 is v x h = eqb-true v x (not-false (eqb v x) h)
 
+-- what B5 says of an offer that it passes
 offered : (e : List ℕ) → badOffer e ≡ false → Offered e
 unfolding any
 offered e h =
@@ -234,6 +239,7 @@ pub record Accepted (b : List ℕ) : Type 0 where
   pub records : (i : ℕ) → i < countIn b → 1 ≤ length (blocksIn b (getD (entriesIn b) i []))
   pub carries : (e : List ℕ) → Carries BUNDLE-LIMIT (blocksIn b e)
 
+-- all of it follows from the rows
 pub accepted : (b : List ℕ) → Bytes b → bundleRow b ≡ served → Accepted b
 unfolding rowB5 rowB6 rowB8 entriesIn bodyIn
 accepted b bytes h =

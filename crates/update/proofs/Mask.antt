@@ -1,14 +1,18 @@
 -- A mask by its bits: a bit is set, the mask stays below its width, and its ones are counted. Assumes nothing.
 use mathlib.Core.Path.{_≡_, refl, sym, ap, ap₂, _∙_}
 use mathlib.Core.Bool.{Bool, true, false, cond, _||_}
-use Prim.Native.Nat.{ℕ, zero, suc, _+_, _*_, _/_, _%_, _^_, _<_}
-use native.Mathlib.Nat.{pow-suc, pow-succ', div-div-eq-div-mul, div-one, not-suc-le-zero, le-of-suc-le-suc, mod-eq-of-lt, mod-lt}
+use Prim.Native.Nat.{ℕ, zero, suc, _+_, _/_, _%_, _^_, _<_}
+use native.Mathlib.Nat.{pow-suc, pow-succ', div-div-eq-div-mul, div-one, not-suc-le-zero, le-of-suc-le-suc, mod-eq-of-lt, mod-lt, zero-div}
 use native.Mathlib.Omega.{arith}
-use borrow.Author.Tests.{eqb-true, eqb-false, eq-eqb}
+use borrow.Author.Tests.{eqb-true, eqb-false}
 use lib.Count.{ones, ones-cat}
 use lib.Dec.{eqb, eqb·zero-suc, eqb·suc-zero, eqb·suc-suc}
 use lib.Pow.{pow-pos, mod-pow-add}
 use Rattle.host.specs.Record.{hasBit, withBit}
+
+-- an empty mask has no bit
+pub no-bit : (i : ℕ) → hasBit 0 i ≡ false
+no-bit i = rw (zero-div (2 ^ i))
 
 -- a clear bit is 0
 clear : (m i : ℕ) → hasBit m i ≡ false → m / 2 ^ i % 2 ≡ 0
@@ -18,6 +22,7 @@ clear m i h = omega (arith, eqb-false (m / 2 ^ i % 2) 1 h)
 half : (i m : ℕ) → m / 2 ^ suc i ≡ m / 2 / 2 ^ i
 half i m = ap (λ (x : ℕ). m / x) (pow-succ' 2 i) ∙ sym (div-div-eq-div-mul m 2 (2 ^ i))
 
+-- a bit that is clear is so in the half
 half-clear : (i m : ℕ) → m / 2 ^ suc i % 2 ≡ 0 → m / 2 / 2 ^ i % 2 ≡ 0
 half-clear i m h = ap (λ (x : ℕ). x % 2) (sym (half i m)) ∙ h
 
@@ -69,6 +74,7 @@ unfoldable pub onesBelow : (m n : ℕ) → ℕ
 onesBelow m zero = 0
 onesBelow m (suc n) = cond (hasBit m n) 1 0 + onesBelow m n
 
+-- the ones of one bit
 one-bit : (m n : ℕ) → ones (m / 2 ^ n % 2) ≡ cond (hasBit m n) 1 0
 unfolding ones
 one-bit m n = go (m / 2 ^ n % 2) (mod-lt (m / 2 ^ n) (omega arith))
@@ -78,6 +84,7 @@ one-bit m n = go (m / 2 ^ n % 2) (mod-lt (m / 2 ^ n) (omega arith))
     go (suc zero) l = refl
     go (suc (suc x)) l = absurd (omega arith)
 
+-- the ones of what the lowest n bits make
 low-ones : (m n : ℕ) → ones (m % 2 ^ n) ≡ onesBelow m n
 unfolding onesBelow ones
 low-ones m zero = let e : m % 1 ≡ 0 = omega arith in ap ones e

@@ -2,16 +2,16 @@
 use mathlib.Core.Path.{_≡_, refl}
 use mathlib.Core.Bool.{Bool, true, false, not, cond, _&&_, _||_}
 use mathlib.Core.List.{List, []}
-use Prim.Native.Nat.{ℕ, zero, suc, _+_, _<_, _≤_}
+use Prim.Native.Nat.{ℕ, zero, suc, _+_, _<_}
 use native.Mathlib.Omega.{arith}
-use borrow.Author.Tests.{ltb-true, ltb-false}
+use borrow.Author.Tests.{ltb-true}
 use lib.Dec.{ltb, eqb}
 use lib.ListN.{length, getD}
 use Rattle.wire.specs.Codes.{SUCCESS, INFO-END-OFFER-LIST}
 use Rattle.offers.specs.Reply as offerReply
 use Rattle.contents.specs.Reply.{replyIn}
 use Rattle.host.specs.Decide as host
-use Rattle.host.specs.Decide.{BUSY-LIMIT, table, classOf, sends, ends, list, offerFrom, noted, completes, replays, act, noTurn, foreignOffer, hears, sequenceOf, foreignContent, goesOn, hearsBlock}
+use Rattle.host.specs.Decide.{BUSY-LIMIT, table, classOf, sends, ends, list, offerFrom, noted, completes, replays, act, noTurn, foreignOffer, hears, sequenceOf, goesOn, hearsBlock}
 use Rattle.host.specs.declared.record.Host.{Host}
 use Rattle.host.specs.declared.record.Turn.{Turn}
 use Rattle.host.specs.declared.record.Place.{Place}

@@ -1,15 +1,15 @@
 -- The packets of a host's actions over an accepted bundle: each is one that P2 allows, and what a list of packets reads in it. Assumes nothing.
-use mathlib.Core.Path.{_≡_, refl, sym, ap, ap₂, subst, _∙_}
+use mathlib.Core.Path.{_≡_, refl, sym, ap, subst, _∙_}
 use mathlib.Core.Bool.{Bool, true, false, cond, _&&_}
 use mathlib.Core.List.{List, [], _∷_, _++_}
-use Prim.Native.Nat.{ℕ, zero, suc, _+_, _/_, _-_, _%_, _<_, _≤_}
+use Prim.Native.Nat.{ℕ, zero, suc, _+_, _/_, _%_, _<_, _≤_}
 use native.Mathlib.Nat.{mod-lt}
 use native.Mathlib.Omega.{arith}
-use borrow.Author.Tests.{eqb-true, ne-eqb, eq-eqb, lt-ltb, le-leb}
-use lib.Dec.{eqb, ltb}
-use lib.ListN.{length, getD, take, drop, set, replicate, length-append, length-take, length-replicate, length-set, drop-of-length-le}
+use borrow.Author.Tests.{ne-eqb, eq-eqb, lt-ltb, le-leb}
+use lib.Dec.{eqb}
+use lib.ListN.{length, getD, set, length-append, length-take, length-replicate, length-set, drop-of-length-le}
 use lib.Seq.{getD-take, getD-set-other}
-use Rattle.wire.specs.Bytes.{Packet, Bytes, bytesAt, number}
+use Rattle.wire.specs.Bytes.{Packet, Bytes, bytesAt}
 use Rattle.wire.specs.Codes.{KIND-INFORMATION, KIND-EXTENDED, FLAG-FIRST-BLOCK, FLAG-LAST-BLOCK}
 use Rattle.wire.specs.Rows as packet
 use Rattle.wire.specs.Rows.{Told}
@@ -21,11 +21,11 @@ use Rattle.contents.specs.declared.content.ContentFields.{ContentFields}
 use Rattle.bundle.specs.Layout.{countIn, offerIn, idIn}
 use Rattle.bundle.proofs.Accepted.{Accepted, take-bytes}
 use Rattle.host.specs.Decide.{sequenceOf}
-use Rattle.host.specs.Step.{entryAt, blocksAt, isLast, flagsAt, noBlock, blockAt, blockPacket, packetOf}
+use Rattle.host.specs.Step.{entryAt, blocksAt, isLast, noBlock, blockAt, blockPacket, packetOf}
 use Rattle.host.specs.declared.record.Place.{Place}
 use Rattle.host.specs.declared.answer.Action.{Action}
 use Rattle.host.specs.declared.answer.Action.the-variants.{Nothing, Information, Notify, Offer, Block}
-use Rattle.update.specs.Trace.{opensPass, isOffer, about, completes}
+use Rattle.update.specs.Trace.{opensPass, about, completes}
 use Rattle.update.specs.Ends.{Built, anInformation, anExtended, anOffer, aContent, AllBuilt}
 use Rattle.update.proofs.Moves.{isTaken}
 
@@ -65,19 +65,21 @@ content-built c a =
     let w : content.buildOf c ≡ record { row = packet.served; value = content.contentBytes c } = rw a in
     subst Built (ap (λ (t : Told (List ℕ)). t .value) w) (aContent c (ap (λ (t : Told (List ℕ)). t .row) w))
 
--- the flags of a block, by whether it is first and last
+-- the flags of a block, by whether it is first and last: no other bit
 pub flags-sound : (x y : Bool) → eqb ((cond x FLAG-FIRST-BLOCK 0 + cond y FLAG-LAST-BLOCK 0) % 64) 0 ≡ true
 flags-sound true true = refl
 flags-sound true false = refl
 flags-sound false true = refl
 flags-sound false false = refl
 
+-- the bit that says that a block is the last
 pub flags-last : (x y : Bool) → eqb ((cond x FLAG-FIRST-BLOCK 0 + cond y FLAG-LAST-BLOCK 0) / 64 % 2) 1 ≡ y
 flags-last true true = refl
 flags-last true false = refl
 flags-last false true = refl
 flags-last false false = refl
 
+-- two tests in either order
 and-swap : (x y : Bool) → (x && y) ≡ (y && x)
 and-swap true true = refl
 and-swap true false = refl
@@ -90,9 +92,10 @@ module _ (b : List ℕ) (α : Accepted b) where
   offerPacket token e = set (offerIn (entryAt b e)) 3 token
 
   -- has the entry's bytes but for the token
-  pub offer-byte : (token e i : ℕ) → i < 16 → (i ≡ 3 → ⊥) → getD (offerPacket token e) i 0 ≡ getD (entryAt b e) i 0
+  offer-byte : (token e i : ℕ) → i < 16 → (i ≡ 3 → ⊥) → getD (offerPacket token e) i 0 ≡ getD (entryAt b e) i 0
   offer-byte token e i l n = getD-set-other (offerIn (entryAt b e)) 3 i token 0 n ∙ getD-take 16 (entryAt b e) i 0 l
 
+  -- is 16 bytes
   pub offer-packet : (token e : ℕ) → token < 256 → e < countIn b → Packet 16 (offerPacket token e)
   offer-packet token e t l =
       let k = α .packet e l in
@@ -101,6 +104,7 @@ module _ (b : List ℕ) (α : Accepted b) where
         bytes = set-bytes (offerIn (entryAt b e)) 3 token (take-bytes 16 (entryAt b e) (k .bytes)) t;
       }
 
+  -- has its id in byte 2
   pub offer-id : (token e : ℕ) → getD (offerPacket token e) 2 0 ≡ idIn (entryAt b e)
   offer-id token e = offer-byte token e 2 (omega arith) (omega arith)
 
@@ -111,6 +115,7 @@ module _ (b : List ℕ) (α : Accepted b) where
       let c = α .carries (entryAt b (p .entry)) .each (p .block) noBlock m in
       simp (length-append, length-take, length-replicate) (omega arith)
 
+  -- a block is what is built of its fields
   block-built : (p : Place) → p .entry < countIn b → p .block < length (blocksAt b (p .entry)) → Built (blockPacket b p)
   block-built p l m =
       let c = α .carries (entryAt b (p .entry)) .each (p .block) noBlock m in
@@ -132,27 +137,31 @@ module _ (b : List ℕ) (α : Accepted b) where
       )
   all-built token (Block p) t h = (block-built p (h .0) (h .1), tt)
 
-  -- an offer opens no pass, completes nothing, and is about its entry
+  -- an offer opens no pass
   pub offer-opens : (token e : ℕ) → token < 256 → e < countIn b → opensPass (offerPacket token e) ≡ false
   offer-opens token e t l =
       let o = α .offer e l in
       simp (offer-packet token e t l .size, offer-id token e, ne-eqb (idIn (entryAt b e)) KIND-INFORMATION (omega (arith, o .high)))
 
+  -- completes nothing
   pub offer-completes : (token e : ℕ) (reply : List ℕ) → token < 256 → e < countIn b → completes (offerPacket token e) reply ≡ false
   offer-completes token e reply t l = simp (offer-packet token e t l .size)
 
+  -- is about its entry
   pub offer-about : (token e id : ℕ) → token < 256 → e < countIn b → about id (offerPacket token e) ≡ idIn (entryAt b e)
   offer-about token e id t l =
       let o = α .offer e l in
       simp (offer-packet token e t l .size, offer-id token e, lt-ltb (idIn (entryAt b e)) KIND-EXTENDED (omega (arith, o .high)))
 
-  -- a block opens no pass and is about no entry; the last one, taken, completes
+  -- a block opens no pass
   pub block-opens : (p : Place) → p .entry < countIn b → p .block < length (blocksAt b (p .entry)) → opensPass (blockPacket b p) ≡ false
   block-opens p l m = rw (block-length p l m)
 
+  -- is about no entry
   pub block-about : (p : Place) (id : ℕ) → p .entry < countIn b → p .block < length (blocksAt b (p .entry)) → about id (blockPacket b p) ≡ id
   block-about p id l m = rw (block-length p l m)
 
+  -- completes its entry where it is the last and was taken
   pub block-completes : (p : Place) (reply : List ℕ) → p .entry < countIn b → p .block < length (blocksAt b (p .entry))
       → completes (blockPacket b p) reply ≡ (isTaken p reply && isLast b p)
   unfolding content.contentBytes

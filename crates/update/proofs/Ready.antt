@@ -1,35 +1,30 @@
 -- What every record that a fresh host comes to has: it fits its bundle, and the steps that it may still take are within the bound. Assumes nothing.
-use mathlib.Core.Path.{_≡_, refl, sym, ap, subst, _∙_}
+use mathlib.Core.Path.{_≡_, refl, sym, ap, subst}
 use mathlib.Core.Logic.{_⊎_, inl, inr}
-use mathlib.Core.Bool.{Bool, true, false, not, cond, _&&_, _||_}
+use mathlib.Core.Bool.{true≢false, true, false, _&&_}
 use mathlib.Core.List.{List, [], _∷_}
-use Prim.Native.Nat.{ℕ, zero, suc, _+_, _*_, _-_, _^_, _<_, _≤_}
+use Prim.Native.Nat.{ℕ, suc, _+_, _*_, _-_, _^_, _<_, _≤_}
 use native.Mathlib.Nat.{mul-le-mul, sub-zero, suc-mul}
 use native.Mathlib.Numerals.{add-one}
 use native.Mathlib.Omega.{arith}
-use borrow.Author.Tests.{ltb-true, eqb-true, eqb-false, le-ltb, lt-leb}
-use lib.Dec.{ltb, leb, eqb}
-use lib.ListN.{length, getD, drop}
+use borrow.Author.Tests.{ltb-true, eqb-false, le-ltb, lt-leb}
+use lib.ListN.{length, drop}
 use lib.Seq.{drop-cons}
 use lib.Pow.{pow-pos}
 use Rattle.wire.proofs.Tests.{both}
 use Rattle.bundle.specs.Layout.{BUNDLE-LIMIT, countIn, entriesIn}
 use Rattle.bundle.specs.Rows as bundle
-use Rattle.bundle.specs.Contents.{blocksIn}
 use Rattle.bundle.proofs.Accepted.{Accepted}
-use Rattle.host.specs.Record.{freshHost, withBit, hasEnded}
-use Rattle.host.specs.Decide.{BUSY-LIMIT, sends, ends, list, offerFrom, noted, completes, replays, noTurn, hears, hearsBlock, decideIn, decideOf}
-use Rattle.host.specs.Step.{PACKET-LIMIT, entryAt, blocksAt, badStage, breaksN1, isLast, lastIn, moved, stepOn, stepOf}
+use Rattle.host.specs.Record.{freshHost, hasEnded}
+use Rattle.host.specs.Decide.{BUSY-LIMIT, newPass, sends, ends, list, offerFrom, noted, completes, decideIn, decideOf}
+use Rattle.host.specs.Step.{PACKET-LIMIT, blocksAt, badStage, breaksN1, isLast, lastIn, moved, stepOn, stepOf}
 use Rattle.host.specs.declared.record.Host.{Host}
-use Rattle.host.specs.declared.record.Turn.{Turn}
-use Rattle.host.specs.declared.record.Place.{Place}
 use Rattle.host.specs.declared.record.HostStage.{HostStage}
 use Rattle.host.specs.declared.record.HostStage.the-variants.{Fresh, Opening, Listing, Offering, Waiting, Sending, Closing, Ended}
 use Rattle.host.specs.declared.record.End.{End}
 use Rattle.host.specs.declared.answer.Action.{Action}
-use Rattle.host.specs.declared.answer.Action.the-variants.{Nothing, Information, Notify, Offer, Block}
 use Rattle.host.specs.declared.answer.Move.{Move}
-use Rattle.update.specs.Run.{recordsFrom, recordsIn, stepBound, boundOf}
+use Rattle.update.specs.Run.{recordsFrom, recordsIn, boundOf}
 use Rattle.update.proofs.Moves.{opening-cases, listing-cases, offering-cases, waiting-cases, closing-cases, sending-cases, offer-cases}
 use Rattle.update.proofs.Mask.{with-bit-below}
 use Rattle.update.proofs.Packets.{Has}
@@ -76,6 +71,7 @@ pub record ReadyAt (b : List ℕ) (h : Host) (g : HostStage) : Type 0 where
   pub mask : h .mask < 2 ^ countIn b
   pub room : h .packets + owed b g + spare b (h .passes) ≤ boundOf b
 
+-- a record that is ready, in its own stage
 abbrev pub Ready : (b : List ℕ) → Host → Type 0
 Ready b h = ReadyAt b h (h .stage)
 
@@ -100,41 +96,47 @@ module _ (b : List ℕ) (α : Accepted b) where
       let e : countIn b - passes ≡ suc x = omega arith in
       rw (e, suc-mul x w, α .entries) (omega arith)
 
-  -- a fresh record's
+  -- the steps of a fresh record
   spare-all : 2 + spare b 0 ≡ boundOf b
   unfolding spare
   spare-all = rw sub-zero
 
-  -- the bound is below the limit on packets
+  -- no more records than a bundle has bytes, for each entry
   few-records : (es : List (List ℕ)) → recordsFrom b es ≤ length es * BUNDLE-LIMIT
   unfolding recordsFrom
   few-records [] = omega arith
   few-records (e ∷ es) = omega (arith, few-records es, α .carries e .count)
 
+  -- so the bound is below the limit on packets
   bound-small : boundOf b < PACKET-LIMIT
   bound-small =
       let r : recordsIn b ≤ 458752 = omega (arith, few-records (entriesIn b), α .entries, α .few) in
       let w : 17 * countIn b + 2 + recordsIn b ≤ 458873 = omega (arith, α .few) in
       omega (arith, mul-le-mul (α .few) w)
 
-  module _ (h : Host) where
-    -- an end
-    goes-ends : (g : HostStage) → ReadyAt b h g → (e : End) → Goes b (h .packets) (ends h e)
-    unfolding owed
-    goes-ends g r e = record {
-      ready = record { token = r .token; stage = tt; passes = r .passes; mask = r .mask; room = omega (arith, r .room) };
-      action = tt;
-      counted = inl refl;
-    }
+  -- a packet is sent: what its stage and its action ask, and the room
+  goes-sends : (h : Host) (g : HostStage) (a : Action) → h .token < 256 → h .passes ≤ countIn b → h .mask < 2 ^ countIn b → InStage b (h .passes) g → Has b a
+      → h .packets + 1 + owed b g + spare b (h .passes) ≤ boundOf b → Goes b (h .packets) (sends h g a)
+  goes-sends h g a t p m i k r = record {
+    ready = record { token = t; stage = i; passes = p; mask = m; room = r };
+    action = k;
+    counted = inr refl;
+  }
 
-    -- code 1
-    goes-list : (g : HostStage) → ReadyAt b h g → 1 ≤ owed b g → h .passes < countIn b → Goes b (h .packets) (list h)
-    unfolding owed
-    goes-list g r o l = record {
-      ready = record { token = r .token; stage = tt; passes = omega arith; mask = r .mask; room = omega (arith, r .room, spare-step (h .passes) l) };
-      action = tt;
-      counted = inr refl;
-    }
+  -- an end
+  goes-ends : (h : Host) (g : HostStage) → ReadyAt b h g → (e : End) → Goes b (h .packets) (ends h e)
+  unfolding owed
+  goes-ends h g r e = record {
+    ready = record { token = r .token; stage = tt; passes = r .passes; mask = r .mask; room = omega (arith, r .room) };
+    action = tt;
+    counted = inl refl;
+  }
+
+  -- code 1
+  goes-list : (h : Host) (g : HostStage) → ReadyAt b h g → 1 ≤ owed b g → h .passes < countIn b → Goes b (h .packets) (list h)
+  unfolding owed
+  goes-list h g r o l =
+      goes-sends (newPass h) Listing _ (r .token) (omega arith) (r .mask) tt tt (omega (arith, r .room, spare-step (h .passes) l))
 
   -- the offer of entry e or code 2, from a record whose steps cover what is left from e
   goes-offer : (h : Host) (e : ℕ) → h .token < 256 → h .passes ≤ countIn b → h .mask < 2 ^ countIn b
@@ -142,26 +144,14 @@ module _ (b : List ℕ) (α : Accepted b) where
   unfolding owed
   goes-offer h e t p m r =
       offer-cases (Goes b (h .packets)) (countIn b) e h
-      (λ l. record {
-        ready = record { token = t; stage = (l, omega arith); passes = p; mask = m; room = omega (arith, left-step e l) };
-        action = l;
-        counted = inr refl;
-      })
-      (record {
-        ready = record { token = t; stage = tt; passes = p; mask = m; room = omega arith };
-        action = tt;
-        counted = inr refl;
-      })
+      (λ l. goes-sends h (Offering (record { entry = e; busy = 0 })) _ t p m (l, omega arith) l (omega (arith, left-step e l)))
+      (goes-sends h Closing _ t p m tt tt (omega arith))
 
   -- every move from a ready record, by its stage
   goes-by : (h : Host) (reply : List ℕ) (g : HostStage) → h .stage ≡ g → ReadyAt b h g
       → Goes b (h .packets) (decideIn g (countIn b) (lastIn b g) h reply)
   unfolding decideIn owed
-  goes-by h reply Fresh z r = record {
-    ready = record { token = r .token; stage = r .stage; passes = r .passes; mask = r .mask; room = omega (arith, r .room) };
-    action = tt;
-    counted = inr refl;
-  }
+  goes-by h reply Fresh z r = goes-sends h Opening _ (r .token) (r .passes) (r .mask) (r .stage) tt (omega (arith, r .room))
   goes-by h reply Opening z r =
       opening-cases (Goes b (h .packets)) (countIn b) h reply (goes-ends h Opening r)
       (goes-list h Opening r (omega arith) (omega (arith, r .stage, α .some)))
@@ -171,27 +161,15 @@ module _ (b : List ℕ) (α : Accepted b) where
   goes-by h reply (Offering t) z r =
       let l = r .stage .0 in
       let k = r .stage .1 in
+      let m = α .records (t .entry) l in
       offering-cases (Goes b (h .packets)) (countIn b) h reply (goes-ends h (Offering t) r) t
-      (record {
-        ready = record { token = r .token; stage = (l, omega (arith, α .records (t .entry) l)); passes = r .passes; mask = r .mask; room = omega (arith, r .room) };
-        action = (l, omega (arith, α .records (t .entry) l));
-        counted = inr refl;
-      })
+      (goes-sends h (Sending (record { entry = t .entry; block = 0 })) _ (r .token) (r .passes) (r .mask) (l, m) (l, m) (omega (arith, r .room)))
       (λ s. goes-offer (noted h s) (t .entry + 1) (r .token) (r .passes) (r .mask) (omega (arith, r .room)))
-      (λ w. record {
-        ready = record { token = r .token; stage = (l, omega arith); passes = r .passes; mask = r .mask; room = omega (arith, r .room) };
-        action = tt;
-        counted = inr refl;
-      })
+      (λ w. goes-sends h (Waiting (record { entry = t .entry; busy = t .busy + 1 })) _ (r .token) (r .passes) (r .mask) (l, omega arith) tt (omega (arith, r .room)))
   goes-by h reply (Waiting t) z r =
-      let l = r .stage .0 in
       let k = r .stage .1 in
       waiting-cases (Goes b (h .packets)) (countIn b) h reply (goes-ends h (Waiting t) r) t
-      (record {
-        ready = record { token = r .token; stage = (l, k); passes = r .passes; mask = r .mask; room = omega (arith, r .room) };
-        action = l;
-        counted = inr refl;
-      })
+      (goes-sends h (Offering t) _ (r .token) (r .passes) (r .mask) (r .stage) (r .stage .0) (omega (arith, r .room)))
   goes-by h reply (Sending p) z r =
       let l = r .stage .0 in
       let k = r .stage .1 in
@@ -200,20 +178,17 @@ module _ (b : List ℕ) (α : Accepted b) where
       (λ t e. goes-offer (completes h (p .entry)) (p .entry + 1) (r .token) (r .passes) (with-bit-below (h .mask) (p .entry) (countIn b) (r .mask) l)
       (omega (arith, r .room)))
       (λ t e. let m : p .block + 1 < length (blocksAt b (p .entry)) = omega (arith, eqb-false (p .block + 1) (length (blocksAt b (p .entry))) e) in
-      record {
-        ready = record { token = r .token; stage = (l, m); passes = r .passes; mask = r .mask; room = omega (arith, r .room) };
-        action = (l, m);
-        counted = inr refl;
-      })
+      goes-sends h (Sending (record { entry = p .entry; block = p .block + 1 })) _ (r .token) (r .passes) (r .mask) (l, m) (l, m) (omega (arith, r .room)))
   goes-by h reply Closing z r =
       closing-cases (Goes b (h .packets)) (countIn b) h reply (goes-ends h Closing r)
       (λ e. goes-list h Closing r (omega arith) (ltb-true (h .passes) (countIn b) (both (h .skipped && h .landed) _ e .1)))
   goes-by h reply (Ended e) z r = record { ready = subst (ReadyAt b h) (sym z) r; action = tt; counted = inl (ap hasEnded z) }
 
+  -- so it is for the move that is decided
   pub goes : (h : Host) (reply : List ℕ) → Ready b h → Goes b (h .packets) (decideOf (countIn b) (lastIn b (h .stage)) h reply)
   goes h reply r = goes-by h reply (h .stage) refl r
 
-  -- a ready record breaks nothing
+  -- a stage inside the bundle is not bad
   fits-stage : (passes : ℕ) (g : HostStage) → InStage b passes g → badStage b g ≡ false
   fits-stage passes Fresh r = refl
   fits-stage passes Opening r = refl
@@ -224,6 +199,7 @@ module _ (b : List ℕ) (α : Accepted b) where
   fits-stage passes Closing r = refl
   fits-stage passes (Ended e) r = refl
 
+  -- a ready record does not meet N1
   ready-fits : (h : Host) → Ready b h → breaksN1 b h ≡ false
   unfolding breaksN1
   ready-fits h r =
@@ -251,4 +227,4 @@ module _ (b : List ℕ) (α : Accepted b) where
   owed-step (Waiting t) e = omega arith
   owed-step (Sending p) e = omega arith
   owed-step Closing e = omega arith
-  owed-step (Ended x) e = let z : _≡_ {A = ℕ} 0 1 = cc in absurd (omega arith)
+  owed-step (Ended x) e = absurd (true≢false e)

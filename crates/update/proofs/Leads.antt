@@ -71,6 +71,12 @@ module _ (b : List ℕ) where
   going-then zero n s = rw zero-add
   going-then (suc m) n s = rw suc-add (going-then m n (goes s))
 
+  -- one turn more
+  pub going-next : (n : ℕ) (s : System) → going (suc n) s ≡ goes (going n s)
+  unfolding going
+  going-next zero s = refl
+  going-next (suc n) s = going-next n (goes s)
+
   -- turns, then others
   pub leads-then : {s s′ s″ : System} → Leads s s′ → Leads s′ s″ → Leads s s″
   leads-then {s} {s′} k l =

@@ -2,7 +2,7 @@
 -- nothing.
 use Prim.Native.Nat.{ℕ, zero, suc, _+_, _≤_, _<_}
 use mathlib.Core.Path.{_≡_, refl, sym, ap, subst, _∙_}
-use mathlib.Core.Bool.{Bool, true, false}
+use mathlib.Core.Bool.{Bool, true, false, cond}
 use mathlib.Core.List.{List, [], _∷_, _++_, append-nil}
 use native.Mathlib.Nat.{zero-add, suc-add}
 use native.Mathlib.Omega.{arith}
@@ -13,7 +13,7 @@ use Rattle.wire.specs.Bytes.{Bytes}
 use Rattle.device.specs.declared.record.Device.{Device}
 use Rattle.host.specs.Record.{hasEnded}
 use Rattle.host.specs.Decide.{decideIn}
-use Rattle.host.specs.Step.{Step, served, filled, stepOf, stepBy, stepOn, breaksN1, refusedBy, moved, packetOf, lastIn}
+use Rattle.host.specs.Step.{Step, N, stepOf, stepBy, stepOn, breaksN1, refusedBy, moved, packetOf, lastIn}
 use Rattle.host.specs.declared.record.Host.{Host}
 use Rattle.host.specs.declared.answer.Move.{Move}
 use Rattle.update.specs.Trace.{Exchange}
@@ -47,10 +47,30 @@ module _ (b : List ℕ) where
   run-then zero n s = rw zero-add
   run-then (suc m) n s = rw suc-add (run-then m n (exchange b s))
 
-  -- a turn of an ended host
-  ended-step : (s : System) → hasEnded (s .host .stage) ≡ true → steps b (s .host) (s .reply) ≡ record { row = served; sent = []; packet = filled []; host = s .host }
+  -- an ended host does nothing more, with its rows or without
+  pub ended-sends : (s : System) → hasEnded (s .host .stage) ≡ true → steps b (s .host) (s .reply) .sent ≡ []
   unfolding packetOf
-  ended-step s e = ap (λ (m : Move). moved b m) (stays (s .host .stage) (countIn b) (lastIn b (s .host .stage)) (s .host) (s .reply) e)
+  ended-sends s e = ap (λ (m : Move). moved b m .sent) (stays (s .host .stage) (countIn b) (lastIn b (s .host .stage)) (s .host) (s .reply) e)
+
+  ended-host : (s : System) → hasEnded (s .host .stage) ≡ true → steps b (s .host) (s .reply) .host ≡ s .host
+  ended-host s e = ap (λ (m : Move). m .host) (stays (s .host .stage) (countIn b) (lastIn b (s .host .stage)) (s .host) (s .reply) e)
+
+  ended-once : (s : System) → hasEnded (s .host .stage) ≡ true → exchange b s ≡ s
+  unfolding exchange deliver stepOf stepOn
+  ended-once s e = by (bundle.bundleRow b)
+    where
+      on : (x : Bool) → deliver (cond x (refusedBy (N 1) (s .host)) (steps b (s .host) (s .reply)) .sent) (cond x (refusedBy (N 1) (s .host)) (steps b (s .host) (s .reply)) .host) s ≡ s
+      on true = refl
+      on false = rw (ended-sends s e, ended-host s e)
+
+      by : (row : bundle.Row) → deliver (stepBy row b (s .host) (s .reply) .sent) (stepBy row b (s .host) (s .reply) .host) s ≡ s
+      by bundle.served = on (breaksN1 b (s .host))
+      by (bundle.B k entry) = refl
+
+  pub ended-stays : (n : ℕ) (s : System) → hasEnded (s .host .stage) ≡ true → run b n s ≡ s
+  unfolding run
+  ended-stays zero s e = refl
+  ended-stays (suc n) s e = rw (ended-once s e) (ended-stays n s e)
 
   module _ (token : ℕ) (d : Device) (staging reply : List ℕ) (bytes : Bytes b) (accept : bundle.bundleRow b ≡ bundle.served) (small : token < 256) where
     -- the run, turn by turn, and what its host hears

@@ -1,11 +1,11 @@
 -- A block that the session waits for: checks 1 to 5 let it pass, its bytes are put into the region, and the last one is judged. Assumes nothing.
-use Prim.Native.Nat.{ℕ, zero, suc, _+_, _%_, _≤_}
-use mathlib.Core.Path.{_≡_, refl, sym, ap, _∙_}
-use mathlib.Core.Bool.{Bool, true, false, not, cond, _&&_, _||_}
+use Prim.Native.Nat.{ℕ, zero, suc, _+_, _%_}
+use mathlib.Core.Path.{_≡_, refl, ap, _∙_}
+use mathlib.Core.Bool.{true, false, cond}
 use mathlib.Core.List.{List}
 use native.Mathlib.Omega.{arith}
 use borrow.Author.Tests.{eq-eqb}
-use lib.Dec.{leb, eqb, eqb·suc-zero}
+use lib.Dec.{eqb, eqb·suc-zero}
 use lib.ListN.{length, set, take}
 use Rattle.wire.specs.Checks.{firstOf}
 use Rattle.wire.specs.Codes.{SUCCESS}
@@ -13,7 +13,7 @@ use Rattle.wire.specs.declared.version.Version.{Version}
 use Rattle.contents.specs.Content.{fieldsIn}
 use Rattle.contents.specs.Reply.{replyBytes}
 use Rattle.contents.specs.declared.content.ContentFields.{ContentFields}
-use Rattle.image.specs.Region.{isInside, holds, within, regionBytes, blank, put, eraseOf, writeOf}
+use Rattle.image.specs.Region.{isInside, holds, within, regionBytes, blank, put, eraseOf}
 use Rattle.image.specs.Judge.{isRight, imageId, imageVersion, imageIn}
 use Rattle.image.specs.declared.region.Region.{Region}
 use Rattle.image.specs.declared.judge.Image.the-variants.{Bears}
@@ -25,10 +25,10 @@ use Rattle.component.specs.declared.record.Component.{Component}
 use Rattle.device.specs.declared.record.Device.{Device}
 use Rattle.device.specs.declared.record.Owed.the-variants as owed
 use Rattle.device.specs.declared.record.Stage.{Stage}
-use Rattle.device.specs.declared.record.Stage.the-variants.{Idle, Offered, Receiving}
+use Rattle.device.specs.declared.record.Stage.the-variants.{Offered, Receiving}
 use Rattle.device.specs.declared.answer.Channel.the-variants.{Content}
-use Rattle.device.specs.declared.judged.ContentVerdict.the-variants.{Refuse, Take}
-use Rattle.device.specs.Record.{part, idleWith}
+use Rattle.device.specs.declared.judged.ContentVerdict.the-variants.{Take}
+use Rattle.device.specs.Record.{idleWith}
 use Rattle.device.specs.Refusals.{answeredWith}
 use Rattle.device.specs.Content.{isFirst, isLast, badShape, contentVerdict, takeBlock, finish, onBlock, contentEntry, contentStaging}
 use Rattle.device.specs.Entries.{serveEntry, serveStaging}

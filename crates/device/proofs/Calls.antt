@@ -1,27 +1,25 @@
 -- A call that no row refuses: the codes of the offer channel, and how many replies a plain packet gets. Assumes nothing.
-use Prim.Native.Nat.{ℕ, _<_}
+use Prim.Native.Nat.{ℕ}
 use mathlib.Core.Path.{_≡_, refl}
 use mathlib.Core.Bool.{Bool, true, false, cond}
-use mathlib.Core.List.{List, [], _∷_}
-use native.Mathlib.Omega.{arith}
-use borrow.Author.Tests.{eq-eqb, le-leb, ne-eqb}
+use mathlib.Core.List.{List}
+use borrow.Author.Tests.{eq-eqb}
 use lib.Dec.{leb, eqb}
 use lib.ListN.{length}
 use Rattle.wire.specs.Checks.{firstOf}
 use Rattle.wire.specs.Codes.{OFFER-ACCEPT, OFFER-UNSUPPORTED, SUCCESS}
 use Rattle.offers.specs.Signal.{informationBytes}
-use Rattle.offers.specs.Kind.{Kind, offer, information, extended, kindIn}
+use Rattle.offers.specs.Kind.{Kind, offer, information, kindIn}
 use Rattle.offers.specs.declared.offer.OfferFields.{OfferFields}
 use Rattle.offers.specs.declared.signal.Signal.{Signal}
 use Rattle.contents.specs.Content.{fieldsIn}
 use Rattle.device.specs.declared.record.Device.{Device}
-use Rattle.device.specs.declared.record.Owed.{Owed}
 use Rattle.device.specs.declared.record.Owed.the-variants as owed
 use Rattle.device.specs.declared.answer.Channel.the-variants.{Offer, Content}
 use Rattle.device.specs.declared.judged.ContentVerdict.{ContentVerdict}
 use Rattle.device.specs.declared.judged.ContentVerdict.the-variants.{Refuse, Take}
 use Rattle.device.specs.Record.{toIdle}
-use Rattle.device.specs.Refusals.{Row, served, breaksD1, refusalOf, Outcome}
+use Rattle.device.specs.Refusals.{served, breaksD1, refusalOf, Outcome}
 use Rattle.device.specs.Offer.{plainReply, onOffer, onInformation, onKind, offerEntry}
 use Rattle.device.specs.Content.{isLast, blockReply, goesOn, contentVerdict, takeBlock, finish, onBlock, onVerdict, contentEntry}
 use Rattle.device.specs.Entries.{serveEntry}

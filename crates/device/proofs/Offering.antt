@@ -6,7 +6,7 @@ use mathlib.Core.List.{List}
 use lib.Dec.{eqb}
 use lib.ListN.{length}
 use Rattle.wire.specs.Checks.{firstOf, applies}
-use Rattle.wire.specs.Codes.{PROTOCOL, OFFER-SKIP, OFFER-ACCEPT, OFFER-REJECT, REJECT-OLD-FW, REJECT-INV-COMPONENT, REJECT-SWAP-PENDING, REJECT-WRONG-PROTOCOL, REJECT-WRONG-SEGMENT}
+use Rattle.wire.specs.Codes.{PROTOCOL, REJECT-OLD-FW, REJECT-INV-COMPONENT, REJECT-SWAP-PENDING, REJECT-WRONG-PROTOCOL, REJECT-WRONG-SEGMENT}
 use Rattle.offers.specs.Reply.{replyBytes}
 use Rattle.offers.specs.Kind.{offer, kindIn}
 use Rattle.offers.specs.declared.offer.OfferFields.{OfferFields}
@@ -17,12 +17,10 @@ use Rattle.component.specs.declared.list.Found.{Found}
 use Rattle.component.specs.declared.list.Found.the-variants as found
 use Rattle.device.specs.declared.record.Device.{Device}
 use Rattle.device.specs.declared.record.Owed.the-variants as owed
-use Rattle.device.specs.declared.record.Stage.{Stage}
-use Rattle.device.specs.declared.record.Stage.the-variants.{Idle, Offered}
 use Rattle.device.specs.declared.answer.Channel.the-variants.{Offer}
 use Rattle.device.specs.declared.judged.OfferVerdict.{OfferVerdict}
 use Rattle.device.specs.declared.judged.OfferVerdict.the-variants.{Busy, Reject, Skip, Accept}
-use Rattle.device.specs.Record.{find, inStage, idleWith}
+use Rattle.device.specs.Record.{find, idleWith}
 use Rattle.device.specs.Refusals.{answeredWith}
 use Rattle.device.specs.Offer.{slotOf, isAbsent, target, isOld, rejections, needUnmet, offerVerdict, statusOf, reasonOf, afterOffer, onOffer}
 use Rattle.device.specs.Entries.{serveEntry}

@@ -16,7 +16,7 @@ use Rattle.device.specs.declared.record.Device.{Device}
 use Rattle.device.specs.Record.{toIdle, idleWith}
 use Rattle.device.specs.Refusals.{breaksD1}
 use Rattle.device.proofs.Lists.{any-set, setup-same, set-faces}
-use Rattle.device.proofs.Passes.{Passes, passes, keeps}
+use Rattle.device.proofs.Passes.{passes, keeps}
 use Rattle.device.proofs.Blocks.{held, awaits}
 
 -- code 0 keeps D1

@@ -1,10 +1,9 @@
 -- What eligibility says of an offer and the slot of its component. Assumes nothing.
 use Prim.Native.Nat.{ℕ, _<_}
-use mathlib.Core.Path.{_≡_, refl, sym, ap, _∙_}
+use mathlib.Core.Path.{_≡_, refl, sym, _∙_}
 use mathlib.Core.Bool.{Bool, true, false, not, _||_, true≢false}
 use mathlib.Core.List.{List}
 use native.Mathlib.Omega.{arith}
-use borrow.Author.Tests.{lt-leb}
 use lib.Dec.{T, eqb}
 use lib.Seq.{getD-take}
 use Rattle.wire.specs.Checks.{applies}
@@ -27,7 +26,7 @@ use Rattle.device.specs.Offer.{slotOf, isAbsent, isOld, rejections, needUnmet}
 use Rattle.device.specs.Record.{find, part, toIdle, idleWith}
 use Rattle.device.specs.declared.record.Device.{Device}
 use Rattle.host.specs.Step.{entryAt}
-use Rattle.update.specs.Claim.{offerAt, isEligible, isMet}
+use Rattle.update.specs.Claim.{offerAt, isEligible}
 use Rattle.update.proofs.Sent.{withToken}
 
 -- the id of an offer is that of its entry

@@ -2,7 +2,7 @@
 use Prim.Native.Nat.{ℕ, _+_, _-_, _≤_, _<_}
 use mathlib.Core.Path.{_≡_, refl, sym, ap, subst, _∙_}
 use mathlib.Core.Logic.{_⊎_, inl, inr}
-use mathlib.Core.Bool.{Bool, true, false, not, _&&_, _||_}
+use mathlib.Core.Bool.{Bool, true, false, not, _&&_}
 use mathlib.Core.List.{List, [], _∷_}
 use native.Mathlib.Decide.{ℕ-discrete}
 use native.Mathlib.Omega.{arith}
@@ -10,17 +10,16 @@ use lib.Dec.{T, T-not, leb, ltb, eqb, eqb→eq, leb→le, ltb→lt, nleb→lt, n
 use lib.ListN.{length, getD}
 use lib.Seq.{ext-getD}
 use Rattle.records.specs.Record.{Block}
-use Rattle.image.specs.Region.{within, regionBytes, blank, put}
+use Rattle.image.specs.Region.{within, regionBytes, blank}
 use Rattle.image.specs.declared.region.Region.{Region}
 use Rattle.image.proofs.region.Within.{region-byte, blank-length, put-length, within-length, within-own, within-out, within-apart}
-use Rattle.component.specs.Lists.{partAt}
 use Rattle.component.specs.Setup.{setupVerdict}
 use Rattle.component.specs.declared.setup.SetupVerdict.the-variants.{Fine}
 use Rattle.component.specs.declared.list.Found.{Found}
 use Rattle.component.specs.declared.list.Found.the-variants as found
 use Rattle.component.proofs.setup.Laws.{fine-region, fine-apart}
 use Rattle.passes.specs.Sets.{Set, ins, none, from, some}
-use Rattle.passes.proofs.Tests.{bool-cases, or-cases, both, and-l, and-r, nand}
+use Rattle.passes.proofs.Tests.{bool-cases, or-cases, and-l, and-r, nand}
 use Rattle.passes.proofs.Sets.{ins-old, ins-new, Some, some-out, some-in}
 use Rattle.bundle.specs.Layout.{countIn}
 use Rattle.bundle.proofs.Accepted.{Accepted}

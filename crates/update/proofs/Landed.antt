@@ -1,5 +1,5 @@
 -- The components after a set of offers has landed: which slots have changed, one landing more, and what the checks of an offer then say. Assumes nothing.
-use Prim.Native.Nat.{ℕ, zero, _<_, _≤_}
+use Prim.Native.Nat.{ℕ, _<_, _≤_}
 use mathlib.Core.Path.{_≡_, refl, sym, ap, subst, _∙_}
 use mathlib.Core.Logic.{_⊎_, inl, inr}
 use mathlib.Core.Bool.{Bool, true, false, not, _&&_, _||_, true≢false}
@@ -11,21 +11,20 @@ use lib.Dec.{T, T-not, not-T, ltb, leb, eqb, eqb-refl, eqb→eq, leb→le, le→
 use lib.ListN.{length, set, length-set}
 use lib.Seq.{getD-set-same, getD-set-other, map-set-same}
 use Rattle.wire.specs.Version.{releaseOf}
-use Rattle.wire.specs.declared.version.Version.{Version}
 use Rattle.offers.specs.declared.offer.OfferFields.{OfferFields}
 use Rattle.component.specs.Lists.{partAt}
-use Rattle.component.specs.Record.{isPending, effective, withStaged, blankComponent}
+use Rattle.component.specs.Record.{isPending, withStaged, blankComponent}
 use Rattle.component.specs.Versions.{imageVersionFits}
 use Rattle.component.specs.declared.record.Component.{Component}
 use Rattle.component.specs.declared.record.Staged.the-variants as staged
 use Rattle.component.specs.declared.list.Found.{Found}
 use Rattle.component.specs.declared.list.Found.the-variants as found
 use Rattle.component.proofs.list.Laws.{find-at, find-same}
-use Rattle.component.proofs.rule.Laws.{offer-image, offer-release}
-use Rattle.passes.specs.Sets.{Set, Sub, In, ins, none, from, some}
+use Rattle.component.proofs.rule.Laws.{offer-release}
+use Rattle.passes.specs.Sets.{Set, In, ins, none, from, some}
 use Rattle.passes.specs.Passes.{Offers, needMet}
 use Rattle.passes.proofs.Tests.{bool-cases, or-inl, or-inr, or-cases, both, and-l, and-r, is-true, holds, fails, T-ext}
-use Rattle.passes.proofs.Sets.{ins-old, ins-new, in-from, from-in, Some, some-out, some-in}
+use Rattle.passes.proofs.Sets.{ins-old, ins-new, in-from, from-in, some-out, some-in}
 use Rattle.bundle.specs.Layout.{countIn}
 use Rattle.bundle.proofs.Accepted.{Accepted}
 use Rattle.device.specs.Offer.{slotOf, isAbsent, below, needUnmet}

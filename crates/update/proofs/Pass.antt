@@ -32,12 +32,12 @@ use Rattle.device.specs.declared.judged.OfferVerdict.the-variants.{Busy, Reject
 use Rattle.device.specs.declared.record.Device.{Device}
 use Rattle.device.proofs.Calls.{Sound}
 use Rattle.device.proofs.Offering.{Ruling, rules}
-use Rattle.device.proofs.Opened.{open-passes, staged-passes}
+use Rattle.device.proofs.Opened.{open-passes}
 use Rattle.host.specs.Record.{hasBit, withBit}
 use Rattle.host.specs.Step.{blocksAt}
 use Rattle.update.specs.Trace.{Exchange}
 use Rattle.update.specs.Run.{System}
-use Rattle.update.specs.Claim.{offerAt, imageOf, Good, isEligible, isMet, Fills}
+use Rattle.update.specs.Claim.{offerAt, imageOf, Good, isEligible, Fills}
 use Rattle.update.proofs.Leads.{said, Leads, leads-none, leads-step, leads-then}
 use Rattle.update.proofs.Mask.{with-bit}
 use Rattle.update.proofs.Packets.{offerPacket}

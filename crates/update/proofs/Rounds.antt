@@ -1,21 +1,21 @@
 -- The passes of a run: it comes to what the passes over the numbers of the offers come to. Assumes nothing.
-use Prim.Native.Nat.{ℕ, zero, suc, _+_, _*_, _<_}
-use mathlib.Core.Path.{_≡_, refl, sym, ap, subst, _∙_}
+use Prim.Native.Nat.{ℕ, zero, suc, _+_, _*_}
+use mathlib.Core.Path.{_≡_, refl, sym, subst, _∙_}
 use mathlib.Core.Bool.{Bool, true, false, _&&_, cond}
 use mathlib.Core.List.{List, [], _∷_, _++_}
 use native.Mathlib.Nat.{zero-div}
 use native.Mathlib.Omega.{arith}
 use borrow.Author.Tests.{lt-ltb, le-ltb}
-use lib.Dec.{T, ltb}
+use lib.Dec.{ltb}
 use lib.ListN.{length, length-append}
 use Rattle.wire.specs.Codes.{OFFER-ACCEPT}
 use Rattle.component.specs.declared.record.Component.{Component}
-use Rattle.passes.specs.Sets.{Set, none, from}
+use Rattle.passes.specs.Sets.{Set, from}
 use Rattle.passes.specs.Passes.{Pass, opened, Passes, unpassed, onePass, onward, again, repeat, passesOf}
 use Rattle.passes.proofs.Pass.{pass-keeps}
 use Rattle.passes.proofs.Sets.{length-from}
 use Rattle.bundle.specs.Layout.{countIn}
-use Rattle.device.specs.Record.{toIdle, idleWith}
+use Rattle.device.specs.Record.{idleWith}
 use Rattle.device.specs.declared.record.Device.{Device}
 use Rattle.device.proofs.Calls.{Sound}
 use Rattle.device.proofs.Opened.{idle-passes}
@@ -26,7 +26,7 @@ use Rattle.update.specs.Trace.{Exchange}
 use Rattle.update.specs.Run.{System, start}
 use Rattle.update.proofs.Leads.{said, Leads, leads-none, leads-step, leads-then}
 use Rattle.update.proofs.Turns.{replied, codeBytes, listing, x-open, x-list, x-first, x-again, x-done}
-use Rattle.update.proofs.Landed.{offers, holding-none, below-count}
+use Rattle.update.proofs.Landed.{offers, holding-none}
 use Rattle.update.proofs.Filled.{fills-none}
 use Rattle.update.proofs.Pass.{Given, due, Landed, Gets, Fair, sound-now, fair-step, pass-sim}
 

@@ -1,12 +1,12 @@
 -- What the device reads in the offers and blocks of the host. Assumes nothing.
-use Prim.Native.Nat.{ℕ, _+_, _-_, _%_, _^_, _≤_, _<_}
-use mathlib.Core.Path.{_≡_, refl, sym, ap, _∙_}
-use mathlib.Core.Bool.{Bool, true, false, not, cond, _||_}
+use Prim.Native.Nat.{ℕ, _+_, _-_, _^_, _≤_, _<_}
+use mathlib.Core.Path.{_≡_, refl, ap}
+use mathlib.Core.Bool.{Bool, true, false, cond}
 use mathlib.Core.List.{List, [], _∷_, _++_}
 use native.Mathlib.Nat.{mod-lt}
 use native.Mathlib.Omega.{arith}
-use borrow.Author.Tests.{eq-eqb, ne-eqb, le-leb, le-ltb}
-use lib.Dec.{leb, ltb, eqb}
+use borrow.Author.Tests.{ne-eqb, le-leb, le-ltb}
+use lib.Dec.{leb, eqb}
 use lib.ListN.{length, getD, set, take, replicate, length-set}
 use lib.Seq.{take-append-seam}
 use Rattle.wire.specs.Codes.{KIND-INFORMATION, KIND-EXTENDED, FLAG-FIRST-BLOCK, FLAG-LAST-BLOCK}
@@ -17,14 +17,13 @@ use Rattle.contents.specs.Content as content
 use Rattle.contents.specs.Content.{cleared}
 use Rattle.contents.specs.declared.content.ContentFields.{ContentFields}
 use Rattle.contents.proofs.content.Laws.{packet-fields}
-use Rattle.records.specs.Record.{Block}
 use Rattle.image.specs.declared.region.Region.{Region}
-use Rattle.bundle.specs.Layout.{countIn, offerIn, idIn}
+use Rattle.bundle.specs.Layout.{countIn, offerIn}
 use Rattle.bundle.proofs.Accepted.{Accepted}
 use Rattle.device.specs.Content as device
 use Rattle.device.proofs.Blocks.{Fitting}
 use Rattle.host.specs.Decide.{sequenceOf}
-use Rattle.host.specs.Step.{entryAt, blocksAt, isLast, flagsAt, blockAt, blockPacket, noBlock}
+use Rattle.host.specs.Step.{entryAt, isLast, flagsAt, blockAt, blockPacket}
 use Rattle.host.specs.declared.record.Place.{Place}
 use Rattle.update.specs.Claim.{offerAt}
 use Rattle.update.proofs.Packets.{offerPacket, offer-packet, offer-id, flags-sound, flags-last}

@@ -1,24 +1,22 @@
 -- A run is a talk of its host with the replies that it hears: no step of it is refused, it ends within the bound, and an ended run stays. Assumes
 -- nothing.
-use Prim.Native.Nat.{ℕ, zero, suc, _+_, _≤_, _<_}
+use Prim.Native.Nat.{ℕ, zero, suc, _+_, _<_}
 use mathlib.Core.Path.{_≡_, refl, sym, ap, subst, _∙_}
 use mathlib.Core.Bool.{Bool, true, false, cond}
 use mathlib.Core.List.{List, [], _∷_, _++_, append-nil}
 use native.Mathlib.Nat.{zero-add, suc-add}
-use native.Mathlib.Omega.{arith}
 use Rattle.bundle.specs.Layout.{countIn}
 use Rattle.bundle.specs.Rows as bundle
-use Rattle.bundle.proofs.Accepted.{Accepted, accepted}
+use Rattle.bundle.proofs.Accepted.{accepted}
 use Rattle.wire.specs.Bytes.{Bytes}
 use Rattle.device.specs.declared.record.Device.{Device}
 use Rattle.host.specs.Record.{hasEnded}
-use Rattle.host.specs.Decide.{decideIn}
 use Rattle.host.specs.Step.{Step, N, stepOf, stepBy, stepOn, breaksN1, refusedBy, moved, packetOf, lastIn}
 use Rattle.host.specs.declared.record.Host.{Host}
 use Rattle.host.specs.declared.answer.Move.{Move}
 use Rattle.update.specs.Trace.{Exchange}
-use Rattle.update.specs.Run.{System, boundOf, flight, deliver, exchange, run, start}
-use Rattle.update.specs.Ends.{Talk, talk, heardAs, Counted}
+use Rattle.update.specs.Run.{System, boundOf, deliver, exchange, run, start}
+use Rattle.update.specs.Ends.{talk, heardAs, Counted}
 use Rattle.update.proofs.Leads.{steps, goes, going, going-next}
 use Rattle.update.proofs.Ends.{stays, step-at, host-ends}
 use Rattle.update.proofs.Counts.{host-counts}

@@ -2,7 +2,7 @@
 -- nothing.
 use Prim.Native.Nat.{ℕ, zero, suc, _+_, _^_, _≤_, _<_}
 use mathlib.Core.Path.{_≡_, refl, sym, ap, subst, _∙_}
-use mathlib.Core.Bool.{Bool, true, false, cond}
+use mathlib.Core.Bool.{Bool, true, false}
 use mathlib.Core.List.{List, [], _∷_, _++_, append-assoc}
 use native.Mathlib.Numerals.{add-one}
 use native.Mathlib.Omega.{arith}
@@ -14,7 +14,7 @@ use Rattle.wire.specs.declared.version.Version.{Version}
 use Rattle.contents.specs.Content.{fieldsIn}
 use Rattle.contents.specs.Reply.{replyBytes}
 use Rattle.records.specs.Record.{Block}
-use Rattle.image.specs.Region.{isInside, within, regionBytes, blank, put}
+use Rattle.image.specs.Region.{within, regionBytes, blank, put}
 use Rattle.image.specs.Judge.{isRight, imageId, imageVersion}
 use Rattle.image.specs.declared.region.Region.{Region}
 use Rattle.image.proofs.region.Within.{region-length, blank-length, put-length, within-same, within-length, within-own, within-twice}
@@ -25,10 +25,9 @@ use Rattle.component.specs.declared.record.Component.{Component}
 use Rattle.bundle.specs.Layout.{countIn}
 use Rattle.bundle.proofs.Accepted.{Accepted, Carried}
 use Rattle.device.specs.Content.{takeBlock}
-use Rattle.device.specs.Entries.{serveEntry, serveStaging}
+use Rattle.device.specs.Entries.{serveStaging}
 use Rattle.device.specs.Record.{idleWith}
-use Rattle.device.specs.Refusals.{breaksD1, answeredWith}
-use Rattle.device.specs.declared.answer.Channel.the-variants.{Content}
+use Rattle.device.specs.Refusals.{breaksD1}
 use Rattle.device.specs.declared.record.Device.{Device}
 use Rattle.device.specs.declared.record.Owed.the-variants as owed
 use Rattle.device.proofs.Calls.{Sound, Answered, answers-block}
@@ -36,7 +35,6 @@ use Rattle.device.proofs.Blocks.{held, awaits, groundOf, Fitting, puts, block-s
 use Rattle.host.specs.Decide.{sequenceOf, goesOn, decideOf}
 use Rattle.host.specs.Record.{withBit}
 use Rattle.host.specs.Step.{entryAt, blocksAt, isLast, noBlock, blockAt, blockPacket, moved, packetOf}
-use Rattle.host.specs.declared.record.Host.{Host}
 use Rattle.host.specs.declared.record.HostStage.the-variants.{Sending}
 use Rattle.host.specs.declared.record.Place.{Place}
 use Rattle.host.specs.declared.answer.Move.{Move}

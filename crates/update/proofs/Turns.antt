@@ -1,16 +1,15 @@
 -- One turn of an honest run, of each kind but blocks: codes and offers. Assumes nothing.
 use Prim.Native.Nat.{ℕ, suc, _+_, _<_}
-use mathlib.Core.Path.{_≡_, refl, sym, ap, subst, _∙_}
+use mathlib.Core.Path.{_≡_, refl, ap, subst, _∙_}
 use mathlib.Core.Bool.{Bool, true, false, cond, _&&_, _||_}
 use mathlib.Core.List.{List, [], _∷_, _++_}
 use native.Mathlib.Numerals.{add-one}
-use native.Mathlib.Omega.{arith}
-use borrow.Author.Tests.{eq-eqb, ltb-true, lt-ltb, le-ltb}
-use lib.Dec.{ltb, eqb}
+use borrow.Author.Tests.{eq-eqb, ltb-true, lt-ltb}
+use lib.Dec.{ltb}
 use lib.ListN.{length}
 use Rattle.wire.specs.Codes.{OFFER-SKIP, OFFER-ACCEPT, OFFER-REJECT, INFO-END-OFFER-LIST}
 use Rattle.offers.specs.Signal.{informationBytes}
-use Rattle.offers.specs.Kind.{information, kindIn}
+use Rattle.offers.specs.Kind.{kindIn}
 use Rattle.offers.specs.Reply.{replyBytes}
 use Rattle.component.specs.declared.record.Component.{Component}
 use Rattle.bundle.specs.Layout.{countIn}
@@ -18,7 +17,7 @@ use Rattle.bundle.proofs.Accepted.{Accepted}
 use Rattle.device.specs.Entries.{serveEntry, serveStaging}
 use Rattle.device.specs.declared.answer.Channel.the-variants.{Offer as OfferChannel}
 use Rattle.device.specs.Offer.{offerVerdict, statusOf, reasonOf, afterOffer}
-use Rattle.device.specs.Record.{inStage, toIdle, idleWith}
+use Rattle.device.specs.Record.{toIdle, idleWith}
 use Rattle.device.specs.Refusals.{answeredWith}
 use Rattle.device.specs.declared.judged.OfferVerdict.{OfferVerdict}
 use Rattle.device.specs.declared.judged.OfferVerdict.the-variants.{Reject, Skip, Accept}
@@ -27,13 +26,13 @@ use Rattle.device.specs.declared.record.Owed.the-variants as owed
 use Rattle.device.proofs.Calls.{Sound, Answered, code-opens, code-lists, code-closes, answers-offer, answers-code}
 use Rattle.device.proofs.Offering.{answers}
 use Rattle.device.proofs.Blocks.{held, awaits}
-use Rattle.host.specs.Decide.{sends, offerFrom, noted, list, ends, replays, decideIn, decideOf}
-use Rattle.host.specs.Step.{lastIn, moved, packetOf, blockPacket}
+use Rattle.host.specs.Decide.{sends, offerFrom, noted, decideIn, decideOf}
+use Rattle.host.specs.Step.{moved, packetOf, blockPacket}
 use Rattle.host.specs.declared.record.Host.{Host}
 use Rattle.host.specs.declared.record.HostStage.{HostStage}
 use Rattle.host.specs.declared.record.HostStage.the-variants.{Opening, Listing, Offering, Sending, Closing, Ended}
 use Rattle.host.specs.declared.record.End.the-variants.{Done}
-use Rattle.host.specs.declared.answer.Action.the-variants.{Information, Offer, Block}
+use Rattle.host.specs.declared.answer.Action.the-variants.{Information, Offer}
 use Rattle.host.specs.declared.answer.Move.{Move}
 use Rattle.host.proofs.Heard.{hears-opening, hears-listing, hears-accept, hears-skip, hears-reject, hears-closing}
 use Rattle.update.specs.Trace.{Exchange}

@@ -1,41 +1,40 @@
 -- The whole run: all of demand 3 but the order of the offers. Assumes nothing.
 use Prim.Native.Nat.{ℕ, zero, suc, _+_, _*_, _-_, _≤_, _<_}
-use mathlib.Core.Path.{_≡_, refl, sym, ap, subst, _∙_}
-use mathlib.Core.Logic.{_⊎_, inl, inr}
-use mathlib.Core.Bool.{Bool, true, false, not, _&&_, _||_}
-use mathlib.Core.List.{List, [], _∷_}
+use mathlib.Core.Path.{_≡_, sym, ap, subst, _∙_}
+use mathlib.Core.Logic.{inl, inr}
+use mathlib.Core.Bool.{true, not, _&&_}
+use mathlib.Core.List.{List, []}
 use native.Mathlib.Nat.{add-comm}
 use native.Mathlib.Decide.{decLt}
 use native.Mathlib.Omega.{arith}
 use lib.Dec.{T, T-not, not-T, eqb, eqb→eq, eqb-refl}
 use lib.ListN.{length, getD, drop, drop-of-length-le}
 use lib.Seq.{drop-cons}
-use Rattle.component.specs.declared.list.Found.the-variants.{At}
-use Rattle.passes.specs.Sets.{Set, Sub, In, from, some, weight, all}
+use Rattle.passes.specs.Sets.{Set, from, some, weight, all}
 use Rattle.passes.specs.Passes as passes
 use Rattle.passes.specs.Passes.{Reached, Monotone, passesOf}
 use Rattle.passes.proofs.Tests.{or-inl, or-inr, or-cases, both, and-l, and-r}
 use Rattle.passes.proofs.Sets.{length-from, some-out, some-in}
 use Rattle.passes.proofs.Passes.{passes-reach, need-monotone}
-use Rattle.bundle.specs.Layout.{countIn, entriesIn, idIn}
+use Rattle.bundle.specs.Layout.{countIn, entriesIn}
 use Rattle.bundle.specs.Contents.{blocksIn}
 use Rattle.bundle.proofs.Accepted.{accepted}
-use Rattle.device.specs.Record.{find, toIdle}
+use Rattle.device.specs.Record.{toIdle}
 use Rattle.device.specs.declared.record.Device.{Device}
 use Rattle.device.proofs.Passes as d1
-use Rattle.host.specs.Record.{hasBit, hasEnded}
+use Rattle.host.specs.Record.{hasEnded}
 use Rattle.host.specs.Step as hostStep
-use Rattle.host.specs.Step.{Step, stepOf, entryAt, blocksAt}
+use Rattle.host.specs.Step.{Step, stepOf}
 use Rattle.host.specs.declared.record.HostStage.the-variants.{Ended}
 use Rattle.host.specs.declared.record.End.the-variants.{Done}
-use Rattle.update.specs.Trace.{passesIn, completedIn}
+use Rattle.update.specs.Trace.{passesIn}
 use Rattle.update.specs.Run.{System, run, start, recordsFrom, recordsIn, boundOf, lastOf}
 use Rattle.update.specs.Ends.{Counted}
-use Rattle.update.specs.Claim.{offerAt, isEligible, isMet, feeds, Fed, Closed, Within, Smallest, Spared, Leaves, Fills}
+use Rattle.update.specs.Claim.{offerAt, isMet, feeds, Closed, Within, Smallest, Leaves, Fills}
 use Rattle.update.specs.Demand.{Premise, stagedIn, Turn}
-use Rattle.update.proofs.Leads.{Leads, going, Fine, steps}
+use Rattle.update.proofs.Leads.{Fine, steps}
 use Rattle.update.proofs.Landed.{offers, numbered, below-count}
-use Rattle.update.proofs.Pass.{Given, Landed}
+use Rattle.update.proofs.Pass.{Given}
 use Rattle.update.proofs.Rounds.{Comes, comes-whole}
 use Rattle.update.proofs.Talks.{run-then, ended-sends, ended-stays, step-is, run-goes, ended-within, run-counts}
 

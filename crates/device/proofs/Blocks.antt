@@ -22,15 +22,16 @@ use Rattle.component.specs.Lists.{partAt}
 use Rattle.component.specs.Record.{withStaged}
 use Rattle.component.specs.Versions.{imageVersionFits}
 use Rattle.component.specs.declared.record.Component.{Component}
+use Rattle.component.specs.declared.list.Found.the-variants.{At}
 use Rattle.device.specs.declared.record.Device.{Device}
 use Rattle.device.specs.declared.record.Owed.the-variants as owed
 use Rattle.device.specs.declared.record.Stage.{Stage}
 use Rattle.device.specs.declared.record.Stage.the-variants.{Offered, Receiving}
 use Rattle.device.specs.declared.answer.Channel.the-variants.{Content}
 use Rattle.device.specs.declared.judged.ContentVerdict.the-variants.{Take}
-use Rattle.device.specs.Record.{idleWith}
+use Rattle.device.specs.Record.{idleWith, openSlot}
 use Rattle.device.specs.Refusals.{answeredWith}
-use Rattle.device.specs.Content.{isFirst, isLast, badShape, contentVerdict, takeBlock, finish, onBlock, contentEntry, contentStaging}
+use Rattle.device.specs.Content.{atToken, isFirst, isLast, badShape, contentVerdict, takeBlock, finish, onBlock, contentEntry, contentStaging}
 use Rattle.device.specs.Entries.{serveEntry, serveStaging}
 use Rattle.device.proofs.Calls.{Sound, rows-pass}
 
@@ -49,6 +50,16 @@ held d parts stage = record {
 abbrev pub awaits : (slot token k : ℕ) → Stage
 awaits slot token zero = Offered (record { slot = slot; token = token })
 awaits slot token (suc k) = Receiving (record { slot = slot; token = token; next = suc k % 65536 })
+
+-- it is open on the slot, with the token
+pub awaits-slot : (slot token k : ℕ) → openSlot (awaits slot token k) ≡ At slot
+awaits-slot slot token zero = refl
+awaits-slot slot token (suc k) = refl
+
+-- its token
+awaits-token : (slot token k : ℕ) → atToken (awaits slot token k) ≡ token
+awaits-token slot token zero = refl
+awaits-token slot token (suc k) = refl
 
 -- what block k finds in the region: the first finds it erased
 abbrev pub groundOf : (k len : ℕ) → List ℕ → List ℕ
@@ -98,8 +109,9 @@ module _ (d : Device) (parts : List Component) (slot token : ℕ) (c : ContentFi
       → onBlock (held d parts (awaits slot token k)) slot c s
       ≡ answeredWith (replyBytes (record { sequence = c .sequence; status = SUCCESS })) owed.Nothing (held d parts (awaits slot token (suc k)))
   unfolding onBlock
-  goes-on zero s q h = let e : (c .sequence + 1) % 65536 ≡ 1 % 65536 = omega arith in rw (h, e)
-  goes-on (suc k) s q h = let e : (c .sequence + 1) % 65536 ≡ suc (suc k) % 65536 = omega arith in rw (h, e)
+  goes-on k s q h =
+      let e : (c .sequence + 1) % 65536 ≡ suc k % 65536 = omega arith in
+      rw (h, e, awaits-token slot token k)
 
   -- a right image: pending with its version, and idle
   finishes : (stage : Stage) (s m : List ℕ) (v : Version) → regionBytes (partAt parts slot .region) s ≡ m → isRight m ≡ true
@@ -108,6 +120,7 @@ module _ (d : Device) (parts : List Component) (slot token : ℕ) (c : ContentFi
   unfolding finish
   finishes stage s m v e r i w g = rw (e, bears m (partAt parts slot .id) v r i w, g)
 
+  -- the reply to the last block of a right image
   ends : (stage : Stage) (s m : List ℕ) (v : Version) → isLast c ≡ true → regionBytes (partAt parts slot .region) s ≡ m → isRight m ≡ true
       → imageId m ≡ partAt parts slot .id → imageVersion m ≡ v → imageVersionFits (partAt parts slot) v ≡ true
       → onBlock (held d parts stage) slot c s
@@ -123,6 +136,7 @@ module _ (d : Device) (parts : List Component) (slot token : ℕ) (c : ContentFi
     unfolding serveStaging contentStaging
     block-staging = rw (rows-pass 60 (held d parts (awaits slot token k)) s (length p) sound size, reads, takes k f)
 
+    -- the answer is that of a taken block
     block-taken : serveEntry (held d parts (awaits slot token k)) Content s p
         ≡ onBlock (held d parts (awaits slot token k)) slot c (takeBlock (held d parts (awaits slot token k)) slot c s)
     unfolding serveEntry contentEntry

@@ -1,9 +1,10 @@
 -- A call that no row refuses: the codes of the offer channel, and how many replies a plain packet gets. Assumes nothing.
-use Prim.Native.Nat.{ℕ}
-use mathlib.Core.Path.{_≡_, refl}
+use Prim.Native.Nat.{ℕ, _≤_}
+use mathlib.Core.Path.{_≡_, refl, _∙_}
 use mathlib.Core.Bool.{Bool, true, false, cond}
 use mathlib.Core.List.{List}
-use borrow.Author.Tests.{eq-eqb}
+use native.Mathlib.Omega.{arith}
+use borrow.Author.Tests.{eq-eqb, ne-eqb, le-leb}
 use lib.Dec.{leb, eqb}
 use lib.ListN.{length}
 use Rattle.wire.specs.Checks.{firstOf}
@@ -46,15 +47,10 @@ unfolding kindIn onInformation
 code-opens d s token h = serves-kind d s _ _ h refl refl
 
 -- codes 1 and 2: ACCEPT with the sender's token; nothing changes
-pub code-lists : (d : Device) (s : List ℕ) (token : ℕ) → Sound d s
-    → serveEntry d Offer s (informationBytes (record { code = 1; token = token })) ≡ plainReply token OFFER-ACCEPT d
+pub code-accepted : (d : Device) (s : List ℕ) (code token : ℕ) → Sound d s → 1 ≤ code → code ≤ 2
+    → serveEntry d Offer s (informationBytes (record { code = code; token = token })) ≡ plainReply token OFFER-ACCEPT d
 unfolding kindIn onInformation
-code-lists d s token h = serves-kind d s _ _ h refl refl
-
-pub code-closes : (d : Device) (s : List ℕ) (token : ℕ) → Sound d s
-    → serveEntry d Offer s (informationBytes (record { code = 2; token = token })) ≡ plainReply token OFFER-ACCEPT d
-unfolding kindIn onInformation
-code-closes d s token h = serves-kind d s _ _ h refl refl
+code-accepted d s code token h low high = serves-kind d s _ _ h refl refl ∙ rw (ne-eqb code 0 (λ z. omega arith), le-leb code 2 high)
 
 -- served, with exactly one reply
 abbrev pub Answered : Outcome → Type 0
@@ -65,6 +61,7 @@ pub answers-offer : (d : Device) (s p : List ℕ) (o : OfferFields) → Sound d 
 unfolding onOffer
 answers-offer d s p o h l e = rw (serves-kind d s p (offer o) h l e) (refl, refl)
 
+-- so is a code
 pub answers-code : (d : Device) (s p : List ℕ) (x : Signal) → Sound d s → length p ≡ 16 → kindIn p ≡ information x → Answered (serveEntry d Offer s p)
 unfolding onInformation
 answers-code d s p x h l e = rw (serves-kind d s p (information x) h l e) (go (eqb (x .code) 0) (leb (x .code) 2))

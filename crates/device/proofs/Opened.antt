@@ -17,7 +17,7 @@ use Rattle.device.specs.Record.{toIdle, idleWith}
 use Rattle.device.specs.Refusals.{breaksD1}
 use Rattle.device.proofs.Lists.{any-set, setup-same, set-faces}
 use Rattle.device.proofs.Passes.{passes, keeps}
-use Rattle.device.proofs.Blocks.{held, awaits}
+use Rattle.device.proofs.Blocks.{held, awaits, awaits-slot}
 
 -- code 0 keeps D1
 pub idle-passes : (d : Device) → breaksD1 d ≡ false → breaksD1 (toIdle d) ≡ false
@@ -26,12 +26,10 @@ idle-passes d h = let p = passes d h in keeps _ (record { setup = p .setup; slot
 module _ (d : Device) (parts : List Component) (slot : ℕ) (listed : slot < d .count) (h : breaksD1 (idleWith d parts) ≡ false) where
   -- a session that is open on a listed component that is not pending
   pub open-passes : (token k : ℕ) → isPending (partAt parts slot .staged) ≡ false → breaksD1 (held d parts (awaits slot token k)) ≡ false
-  open-passes token zero free =
+  open-passes token k free =
       let p = passes (idleWith d parts) h in
-      keeps _ (record { setup = p .setup; slot = rw (lt-leb (d .count) slot listed, free); owed = refl; staged = p .staged })
-  open-passes token (suc k) free =
-      let p = passes (idleWith d parts) h in
-      keeps _ (record { setup = p .setup; slot = rw (lt-leb (d .count) slot listed, free); owed = refl; staged = p .staged })
+      let o = awaits-slot slot token k in
+      keeps _ (record { setup = p .setup; slot = rw (o, lt-leb (d .count) slot listed, free); owed = rw o; staged = p .staged })
 
   -- a listed component becomes pending with a version that is not below running
   pub staged-passes : (v : Version) → imageVersionFits (partAt parts slot) v ≡ true

@@ -34,6 +34,7 @@ module _ (y : Offers) where
   answer-grows : (p : Pass) (i : ℕ) → Sub (p .set) (answered y p i .set)
   answer-grows p i = answer-cases (λ p′. Sub (p .set) (p′ .set)) p i (λ r k t. t) (λ n e t. ins-old (p .set) i) (λ n k t. t)
 
+  -- so it does in a pass
   pass-grows : (os : List ℕ) (p : Pass) → Sub (p .set) (passOver y os p .set)
   pass-grows os p = pass-keeps (λ p′. Sub (p .set) (p′ .set)) os (λ p′ i m h k t. answer-grows p′ i k (h k t)) p (λ k t. t)
 
@@ -60,6 +61,7 @@ module _ (y : Offers) where
   abbrev Dealt : Set → Pass → ℕ → Type 0
   Dealt S p i = T (p .set i) ⊎ (T (p .skipped) × (T (y .met S i) → ⊥))
 
+  -- so it is for every offer of the list
   pass-deals : Monotone y → (os : List ℕ) (p : Pass) (i : ℕ) → In i os → T (y .eligible i) → Dealt (p .set) (passOver y os p) i
   unfolding passOver
   pass-deals mono [] p i m e = absurd m

@@ -33,6 +33,7 @@ module _ (y : Offers) (os : List ℕ) where
       one-more = omega (arith, pass-sent y os (opened (r .set)))
 
   module _ (mono : Monotone y) where
+    -- inside every closed set
     repeat-least : (C : Set) → Closed y os C → (f : ℕ) (r : Passes) → Sub (r .set) C → Sub (repeat y os f r .set) C
     unfolding repeat onward onePass
     repeat-least C closed zero r sub = sub
@@ -42,6 +43,7 @@ module _ (y : Offers) (os : List ℕ) where
         more : Sub (onward y os r .set) C
         more = pass-least y mono os C closed (opened (r .set)) sub
 
+    -- closed, once as many passes are allowed as offers are missing
     repeat-closed : (f : ℕ) (r : Passes) → length os ≤ weight one (r .set) os + f → Closed y os (repeat y os f r .set)
     unfolding repeat onward onePass
     repeat-closed zero r h = λ i m e t. weight-full (r .set) os (omega arith) i m
@@ -68,11 +70,13 @@ passes-reach y os mono =
     few : passesOf y os .passes ≤ length os
     few = omega (arith, repeat-passes y os (length os) unpassed)
 
+-- a test that holds of more members
 some-mono : (os : List ℕ) (p q : ℕ → Bool) → ((j : ℕ) → T (p j) → T (q j)) → T (some os p) → T (some os q)
 some-mono [] p q h t = t
 some-mono (j ∷ js) p q h t =
     or-cases (p j) (some js p) (λ z. or-inl (q j) (some js q) (h j z)) (λ z. or-inr (q j) (some js q) (some-mono js p q h z)) t
 
+-- a test that holds in more cases
 and-mono : (a b c : Bool) → (T a → T b) → T (a && c) → T (b && c)
 and-mono true true c h t = t
 and-mono true false c h t = h tt

@@ -15,9 +15,11 @@ use Rattle.passes.proofs.Tests.{or-inl, or-inr, or-cases, bool-cases, i
 pub ins-old : (S : Set) (i : ℕ) → Sub S (ins S i)
 ins-old S i k t = or-inr (eqb k i) (S k) t
 
+-- the new member is one
 pub ins-new : (S : Set) (i : ℕ) → T (ins S i i)
 ins-new S i = or-inl (eqb i i) (S i) (eqb-refl i)
 
+-- where the new member is in C, all of them are
 pub ins-sub : (S C : Set) (i : ℕ) → Sub S C → T (C i) → Sub (ins S i) C
 ins-sub S C i sub c k t =
     or-cases (eqb k i) (S k) (λ e. subst (λ (n : ℕ). T (C n)) (sym (eqb→eq k i e)) c) (sub k) t
@@ -28,6 +30,7 @@ in-from zero k i h = absurd h
 in-from (suc m) k i (inl e) = omega arith
 in-from (suc m) k i (inr h) = omega (arith, in-from m (suc k) i h)
 
+-- every number in between is one of them
 pub from-in : (m k i : ℕ) → k ≤ i → i < k + m → In i (from k m)
 from-in zero k i p q = absurd (omega arith)
 from-in (suc m) k i p q = go (ℕ-discrete i k) (λ h. from-in m (suc k) i h (omega arith))
@@ -36,6 +39,7 @@ from-in (suc m) k i p q = go (ℕ-discrete i k) (λ h. from-in m (suc k) i h (om
     go (yes e) h = inl e
     go (no ne) h = inr (h (omega arith))
 
+-- as many as asked
 pub length-from : (k m : ℕ) → length (from k m) ≡ m
 length-from k zero = refl
 length-from k (suc m) = ap suc (length-from (suc k) m)
@@ -46,12 +50,14 @@ pub record Some (os : List ℕ) (p : ℕ → Bool) : Type 0 where
   pub listed : In j os
   pub has : T (p j)
 
+-- a test that holds of some member names it
 pub some-out : (os : List ℕ) (p : ℕ → Bool) → T (some os p) → Some os p
 some-out [] p t = absurd t
 some-out (j ∷ js) p t =
     or-cases (p j) (some js p) (λ z. record { j = j; listed = inl refl; has = z })
     (λ z. let s = some-out js p z in record { j = s .j; listed = inr (s .listed); has = s .has }) t
 
+-- a test that holds of a member holds of some
 pub some-in : (os : List ℕ) (p : ℕ → Bool) (j : ℕ) → In j os → T (p j) → T (some os p)
 some-in (k ∷ ks) p j (inl q) t = or-inl (p k) (some ks p) (subst (λ (n : ℕ). T (p n)) q t)
 some-in (k ∷ ks) p j (inr m) t = or-inr (p k) (some ks p) (some-in ks p j m t)
@@ -63,6 +69,7 @@ cond-mono true false n h = absurd (h tt)
 cond-mono false true n h = omega arith
 cond-mono false false n h = omega arith
 
+-- a larger set weighs no less
 pub weight-mono : (f : ℕ → ℕ) (A B : Set) → Sub A B → (os : List ℕ) → weight f A os ≤ weight f B os
 weight-mono f A B sub [] = omega arith
 weight-mono f A B sub (i ∷ is) = omega (arith, weight-mono f A B sub is, cond-mono (A i) (B i) (f i) (sub i))

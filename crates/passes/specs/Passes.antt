@@ -24,9 +24,11 @@ pub record Pass : Type 0 where
 abbrev pub opened : Set → Pass
 opened S = record { set = S; skipped = false; landed = false; sent = zero }
 
+-- an offer lands
 abbrev pub lands : Offers → Pass → ℕ → Pass
 lands y p i = record { set = ins (p .set) i; skipped = p .skipped; landed = true; sent = p .sent + y .records i }
 
+-- an offer is skipped
 abbrev pub skips : Pass → Pass
 skips p = record { set = p .set; skipped = true; landed = p .landed; sent = p .sent }
 
@@ -98,6 +100,7 @@ PassesReach = (y : Offers) (os : List ℕ) → Monotone y → Reached y os
 abbrev pub needMet : (start : ℕ → Bool) → (gives : ℕ → ℕ → Bool) → List ℕ → Set → ℕ → Bool
 needMet start gives os S i = start i || some os (λ j. S j && (not (eqb j i) && gives j i))
 
+-- so the need is monotone
 abbrev pub NeedMonotone : Type 0
 NeedMonotone = (start : ℕ → Bool) (gives : ℕ → ℕ → Bool) (os : List ℕ) (eligible : ℕ → Bool) (records : ℕ → ℕ)
     → Monotone (record { eligible = eligible; met = needMet start gives os; records = records })

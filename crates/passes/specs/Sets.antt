@@ -14,9 +14,11 @@ Set = ℕ → Bool
 abbrev pub Sub : Set → Set → Type 0
 Sub A B = (k : ℕ) → T (A k) → T (B k)
 
+-- no member
 abbrev pub none : Set
 none k = false
 
+-- every number
 abbrev pub all : Set
 all k = true
 

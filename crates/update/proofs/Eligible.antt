@@ -20,6 +20,7 @@ use Rattle.component.specs.declared.rule.VersionVerdict.{VersionVerdict}
 use Rattle.component.specs.declared.rule.VersionVerdict.the-variants.{Fits, Old}
 use Rattle.component.specs.declared.list.Found.{Found}
 use Rattle.component.specs.declared.list.Found.the-variants as found
+use Rattle.passes.proofs.Tests.{or-true, is-false}
 use Rattle.bundle.specs.Layout.{countIn, idIn}
 use Rattle.bundle.proofs.Accepted.{Accepted, neither}
 use Rattle.device.specs.Offer.{slotOf, isAbsent, isOld, rejections, needUnmet}
@@ -44,19 +45,17 @@ rejected platform o f c =
     not (eqb (o .protocol) PROTOCOL)
     || (isAbsent f || (not (eqb (o .platform) platform) || (not (eqb (o .segment) 0) || (isPending (c .staged) || (isOld (offerVersion c (o .version)) || false)))))
 
+-- eligible is not rejected
 pub rejected-is : (d : Device) (parts : List Component) (o : OfferFields)
     → isEligible (idleWith d parts) o ≡ not (rejected (d .platform) o (find (idleWith d parts) (o .id)) (partAt parts (slotOf (find (idleWith d parts) (o .id)))))
 unfolding applies rejections
 rejected-is d parts o = refl
 
--- an absent component, and a pending one
-or-true : (x : Bool) → (x || true) ≡ true
-or-true true = refl
-or-true false = refl
-
+-- an absent component is rejected
 pub absent-rejected : (platform : ℕ) (o : OfferFields) (c : Component) → rejected platform o found.Nothing c ≡ true
 absent-rejected platform o c = or-true (not (eqb (o .protocol) PROTOCOL))
 
+-- so is a pending one
 pub pending-rejected : (platform : ℕ) (o : OfferFields) (k : ℕ) (c : Component) → isPending (c .staged) ≡ true → rejected platform o (found.At k) c ≡ true
 pending-rejected platform o k c h =
     rw (h, or-true (not (eqb (o .segment) 0)), or-true (not (eqb (o .platform) platform)), or-true (not (eqb (o .protocol) PROTOCOL)))
@@ -68,14 +67,17 @@ pub record Fresher (d : Device) (o : OfferFields) : Type 0 where
   pub free : part d slot .staged ≡ staged.Nothing
   pub newer : offerVersion (part d slot) (o .version) ≡ Fits
 
+-- what is not pending has nothing staged
 none-staged : (x : Staged) → isPending x ≡ false → x ≡ staged.Nothing
 none-staged staged.Nothing h = refl
 none-staged (staged.Pending v) h = absurd (true≢false h)
 
+-- what is not old fits
 not-old : (x : VersionVerdict) → isOld x ≡ false → x ≡ Fits
 not-old Fits h = refl
 not-old Old h = absurd (true≢false h)
 
+-- an offer that is not rejected
 passes-all : (d : Device) (o : OfferFields) (f : Found) → find d (o .id) ≡ f → rejected (d .platform) o f (part d (slotOf f)) ≡ false → Fresher d o
 passes-all d o found.Nothing e h = absurd (true≢false (sym (absent-rejected (d .platform) o (part d 0)) ∙ h))
 passes-all d o (found.At k) e h =
@@ -86,18 +88,17 @@ passes-all d o (found.At k) e h =
     let v = neither (isOld (offerVersion (part d k) (o .version))) false (w .1) in
     record { slot = k; here = e; free = none-staged _ (w .0); newer = not-old _ (v .0) }
 
-not-holds : (x : Bool) → T (not x) → x ≡ false
-not-holds false t = refl
-
+-- what eligibility says
 pub eligible-says : (d : Device) (o : OfferFields) → T (isEligible (toIdle d) o) → Fresher d o
 unfolding applies rejections
-eligible-says d o t = passes-all d o (find d (o .id)) refl (not-holds _ t)
+eligible-says d o t = passes-all d o (find d (o .id)) refl (is-false _ t)
 
--- the token plays no part
+-- the token plays no part in checks 2 to 7
 pub token-rejections : (d : Device) (o : OfferFields) (token : ℕ) → applies (rejections d (withToken o token)) ≡ applies (rejections d o)
 unfolding rejections
 token-rejections d o token = refl
 
+-- nor in the need's check
 pub token-need : (d : Device) (o : OfferFields) (token : ℕ) → needUnmet d (withToken o token) ≡ needUnmet d o
 unfolding needUnmet
 token-need d o token = refl

@@ -88,6 +88,7 @@ module _ (b : List ℕ) (α : Accepted b) (d : Device) (slots : length (d .parts
   covers found.Nothing j = false
   covers (found.At k) j = leb (part d k .region .base .0) j && ltb j (part d k .region .base .0 + part d k .region .len)
 
+  -- a member has that byte in its region
   abbrev touched : Set → (j i : ℕ) → Bool
   touched S j i = S i && covers (find d (offerAt b i .id)) j
 

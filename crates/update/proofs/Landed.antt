@@ -23,7 +23,7 @@ use Rattle.component.proofs.list.Laws.{find-at, find-same}
 use Rattle.component.proofs.rule.Laws.{offer-release}
 use Rattle.passes.specs.Sets.{Set, In, ins, none, from, some}
 use Rattle.passes.specs.Passes.{Offers, needMet}
-use Rattle.passes.proofs.Tests.{bool-cases, or-inl, or-inr, or-cases, both, and-l, and-r, is-true, holds, fails, T-ext}
+use Rattle.passes.proofs.Tests.{bool-cases, or-inl, or-inr, or-cases, both, and-l, and-r, is-true, holds, fails, T-ext, and-false}
 use Rattle.passes.proofs.Sets.{ins-old, ins-new, in-from, from-in, some-out, some-in}
 use Rattle.bundle.specs.Layout.{countIn}
 use Rattle.bundle.proofs.Accepted.{Accepted}
@@ -41,10 +41,12 @@ abbrev isSlot : Found → ℕ → Bool
 isSlot found.Nothing k = false
 isSlot (found.At l) k = eqb l k
 
+-- the slot that the test names
 slot-is : (f : Found) (k : ℕ) → T (isSlot f k) → f ≡ found.At k
 slot-is found.Nothing k t = absurd t
 slot-is (found.At l) k t = ap found.At (eqb→eq l k t)
 
+-- the test of a slot that was found
 is-slot : (f : Found) (k : ℕ) → f ≡ found.At k → T (isSlot f k)
 is-slot f k e = rw e (eqb-refl k)
 
@@ -60,6 +62,7 @@ same-slot f k l e e′ = cc
 pub numbered : (b : List ℕ) (i : ℕ) → i < countIn b → In i (from 0 (countIn b))
 numbered b i l = from-in (countIn b) 0 i (omega arith) (omega arith)
 
+-- and the other way round
 pub below-count : (b : List ℕ) (i : ℕ) → In i (from 0 (countIn b)) → i < countIn b
 below-count b i m = omega (arith, in-from (countIn b) 0 i m)
 
@@ -158,12 +161,9 @@ module _ (b : List ℕ) (α : Accepted b) (d : Device) where
           ∙ go (find d (o .id)) refl (S e) refl
           ∙ ap (λ (x : Bool). not (S e) && x) (sym (rejected-is d (d .parts) o))
         where
+          -- the offer
           o : OfferFields
           o = offerAt b e
-
-          and-false : (x : Bool) → (x && false) ≡ false
-          and-false true = refl
-          and-false false = refl
 
           go : (f : Found) → find d (o .id) ≡ f → (x : Bool) → S e ≡ x
               → not (rejected (d .platform) o f (partAt ps (slotOf f))) ≡ (not (S e) && not (rejected (d .platform) o f (part d (slotOf f))))
@@ -178,9 +178,11 @@ module _ (b : List ℕ) (α : Accepted b) (d : Device) where
         for : offerAt b j .id ≡ offerAt b e .need
         enough : offerAt b e .least ≤ releaseOf (offerAt b j .version)
 
+      -- the test of a member
       abbrev fed : ℕ → Bool
       fed j = S j && (not (eqb j e) && feeds (offerAt b j) (offerAt b e))
 
+      -- what that test says
       feeding : (j : ℕ) → T (fed j) → Feeding j
       feeding j t =
           let u = and-r (not (eqb j e)) (feeds (offerAt b j) (offerAt b e)) (and-r (S j) _ t) in
@@ -192,9 +194,11 @@ module _ (b : List ℕ) (α : Accepted b) (d : Device) where
           }
 
       module _ (fair : (j : ℕ) → j < countIn b → T (S j) → T (isEligible (toIdle d) (offerAt b j))) (out : S e ≡ false) where
+        -- the offer
         abbrev o : OfferFields
         o = offerAt b e
 
+        -- the numbers of the offers
         abbrev os : List ℕ
         os = from 0 (countIn b)
 

@@ -5,6 +5,7 @@ use mathlib.Core.List.{List, [], _∷_, _++_}
 use native.Mathlib.Nat.{zero-add, suc-add, not-suc-le-zero, le-of-suc-le-suc}
 use native.Mathlib.Decide.{decLt}
 use native.Mathlib.Omega.{arith}
+use lib.ListN.{length, length-append}
 use Rattle.bundle.specs.Layout.{countIn}
 use Rattle.device.specs.Entries.{serveStaging}
 use Rattle.device.specs.Refusals.{answeredWith}
@@ -21,6 +22,10 @@ use Rattle.update.specs.Run.{System, channelOf, answerTo, flight, delive
 abbrev pub said : (packet reply : List ℕ) → Exchange
 said packet reply = record { packet = packet; reply = reply }
 
+-- one packet more
+pub more-length : (trace : List Exchange) (x : Exchange) → length (trace ++ (x ∷ [])) ≡ suc (length trace)
+more-length trace x = length-append trace (x ∷ []) ∙ omega arith
+
 module _ (b : List ℕ) where
   -- the step of a host that breaks no row
   abbrev pub steps : Host → (reply : List ℕ) → Step
@@ -30,6 +35,7 @@ module _ (b : List ℕ) where
   unfoldable pub goes : System → System
   goes s = deliver (steps (s .host) (s .reply) .sent) (steps (s .host) (s .reply) .host) s
 
+  -- n turns of it
   unfoldable pub going : ℕ → System → System
   going zero s = s
   going (suc n) s = going n (goes s)

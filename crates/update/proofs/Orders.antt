@@ -41,9 +41,11 @@ module _ (b b′ : List ℕ) (π : Reordered b b′) where
   pub same-offer : (i : ℕ) → i < countIn b → offerAt b′ (π .to i) ≡ offerAt b i
   same-offer i l = ap fieldsIn (π .offers i l)
 
+  -- the records of its body
   pub same-blocks : (i : ℕ) → i < countIn b → blocksAt b′ (π .to i) ≡ blocksAt b i
   same-blocks i l = ap (λ (x : List ℕ). blocksOf (recordsOf x)) (π .bodies i l)
 
+  -- the number of an entry is one of the other bundle
   listed : (i : ℕ) → i < countIn b → π .to i < countIn b′
   listed i l = rw (π .count) (π .to-listed i l)
 
@@ -72,15 +74,19 @@ same-set b b′ π d X X′ s s′ i l =
     (s .least (λ k. X′ (π .to k)) (carried b b′ π d X′ (s′ .closed)) i l)
 
 module _ (b b′ : List ℕ) (π : Reordered b b′) (d : Device) (X X′ : Set) (same : (i : ℕ) → i < countIn b → X′ (π .to i) ≡ X i) where
+  -- a member of the one is a member of the other
   there : (i : ℕ) → i < countIn b → T (X i) → T (X′ (π .to i))
   there i l t = subst T (sym (same i l)) t
 
+  -- and the other way round
   here : (j : ℕ) → j < countIn b → T (X′ j) → T (X (π .back j))
   here j l t = subst T (same (π .back j) (π .back-listed j l)) (subst (λ (k : ℕ). T (X′ k)) (sym (π .to-back j l)) t)
 
+  -- its component is found in the same slot
   finds : (i k : ℕ) → i < countIn b → find d (offerAt b i .id) ≡ At k → find d (offerAt b′ (π .to i) .id) ≡ At k
   finds i k l f = ap (λ (o : OfferFields). find d (o .id)) (same-offer b b′ π i l) ∙ f
 
+  -- and the other way round
   finds-back : (j k : ℕ) → j < countIn b → find d (offerAt b′ j .id) ≡ At k → find d (offerAt b (π .back j) .id) ≡ At k
   finds-back j k l f =
       ap (λ (o : OfferFields). find d (o .id)) (sym (same-offer b b′ π (π .back j) (π .back-listed j l))) ∙ ap (λ (i : ℕ). find d (offerAt b′ i .id)) (π .to-back j l) ∙ f
@@ -97,6 +103,7 @@ module _ (b b′ : List ℕ) (π : Reordered b b′) (d : Device) (X X′ : Set)
         others = λ k s. h .others k (λ j l t f. let m : j < countIn b = rw (π .count) at l in s (π .back j) (π .back-listed j m) (here j m t) (finds-back j k m f));
       }
 
+  -- so it is for the staging buffer
   pub same-fills : (s r : List ℕ) → Fills d b′ X′ s r → Fills d b X s r
   same-fills s r h =
       record {

@@ -38,7 +38,7 @@ use Rattle.host.specs.Step.{blocksAt}
 use Rattle.update.specs.Trace.{Exchange}
 use Rattle.update.specs.Run.{System}
 use Rattle.update.specs.Claim.{offerAt, imageOf, Good, isEligible, Fills}
-use Rattle.update.proofs.Leads.{said, Leads, leads-none, leads-step, leads-then}
+use Rattle.update.proofs.Leads.{said, more-length, Leads, leads-none, leads-step, leads-then}
 use Rattle.update.proofs.Mask.{with-bit}
 use Rattle.update.proofs.Packets.{offerPacket}
 use Rattle.update.proofs.Sent.{withToken}
@@ -60,6 +60,7 @@ pub record Given (b : List ℕ) (t : ℕ) (d : Device) (s : List ℕ) : Type 0 w
   pub good : (i k : ℕ) → i < countIn b → find d (offerAt b i .id) ≡ found.At k → Good (part d k) (offerAt b i) (blocksAt b i)
 
 module _ (b : List ℕ) (t : ℕ) (d : Device) (s : List ℕ) (G : Given b t d s) where
+  -- what is known of the bundle
   abbrev α : Accepted b
   α = G .accepted
 
@@ -102,18 +103,23 @@ module _ (b : List ℕ) (t : ℕ) (d : Device) (s : List ℕ) (G : Given b t d s
       was : partAt ps k ≡ part d k
       was = h .parts .others k (spared b α d S ps (h .parts) e l k out f)
 
+      -- it is the slot that eligibility found
       here : w .slot ≡ k
       here = same-slot (find d (offerAt b e .id)) (w .slot) k (w .here) f
 
+      -- the offered version fits
       newer : offerVersion (part d k) (offerAt b e .version) ≡ Fits
       newer = subst (λ (n : ℕ). offerVersion (part d n) (offerAt b e .version) ≡ Fits) here (w .newer)
 
+      -- nothing is staged there
       free : isPending (partAt ps k .staged) ≡ false
       free = rw was (subst (λ (n : ℕ). isPending (part d n .staged) ≡ false) here (rw (w .free)))
 
+      -- its body is good
       abbrev g : Good (part d k) (offerAt b e) (blocksAt b e)
       g = G .good e k l f
 
+      -- the session may open
       opens : Opens b α t (G .small) d ps k e l
       opens =
           record {
@@ -122,6 +128,7 @@ module _ (b : List ℕ) (t : ℕ) (d : Device) (s : List ℕ) (G : Given b t d s
             d1 = λ j. open-passes d ps k (at-slot b α d e k f .0) (h .parts .d1) t j free;
           }
 
+      -- what has landed after it
       pub lands-more : Landed (ins S e) (withBit m e) (set ps k (withStaged (partAt ps k) (offerAt b e .version)))
           (within (part d k .region .base .0) (part d k .region .len) (λ (old : List ℕ). imageOf (part d k .region .len) (blocksAt b e)) r)
       lands-more =
@@ -132,6 +139,7 @@ module _ (b : List ℕ) (t : ℕ) (d : Device) (s : List ℕ) (G : Given b t d s
           }
 
       module _ (p q : ℕ) (sk la : Bool) (trace : List Exchange) where
+        -- the image is right
         right : Right b α t (G .small) d ps k e l opens m q sk la (imageOf (part d k .region .len) (blocksAt b e)) (offerAt b e .version)
         right =
             record {
@@ -163,12 +171,13 @@ module _ (b : List ℕ) (t : ℕ) (d : Device) (s : List ℕ) (G : Given b t d s
             (transmits b α t (G .small) d ps k e l opens m q sk la (imageOf (part d k .region .len) (blocksAt b e)) (offerAt b e .version) right (p + 1) (p + 1 + length (blocksAt b e)) r
             (trace ++ (offered e 0 OFFER-ACCEPT ∷ [])) (α .records e l) (rw was (g .inside)) d2 (ap (λ (c : Component). imageOf (c .region .len) (blocksAt b e)) was) refl))
 
-  -- what an answer of the device says of the pass
+  -- what it says of an offer that it is not eligible now
   not-eligible : (x y : Bool) → false ≡ (not x && y) → (x || not y) ≡ true
   not-eligible true y e = refl
   not-eligible false true e = absurd (true≢false (sym e))
   not-eligible false false e = refl
 
+  -- what it says of an offer that it is eligible now
   is-eligible : (x y : Bool) → true ≡ (not x && y) → (x ≡ false) × (y ≡ true)
   is-eligible true y e = absurd (true≢false e)
   is-eligible false y e = (refl, sym e)
@@ -178,10 +187,6 @@ module _ (b : List ℕ) (t : ℕ) (d : Device) (s : List ℕ) (G : Given b t d s
   fair-step p e fair =
       answer-cases (offers b α d) (λ (x : Pass). Fair (x .set)) p e (λ z. fair)
       (λ n el z. λ j l. or-cases (eqb j e) (p .set j) (λ q. subst (λ (i : ℕ). T (isEligible (toIdle d) (offerAt b i))) (sym (eqb→eq j e q)) el) (fair j l)) (λ z. fair)
-
-  -- one packet more
-  more-length : (trace : List Exchange) (x : Exchange) → length (trace ++ (x ∷ [])) ≡ suc (length trace)
-  more-length trace x = length-append trace (x ∷ []) ∙ omega arith
 
   -- an offer, whatever its answer
   offer-sim : (e : ℕ) → e < countIn b → (p : Pass) → Fair (p .set) → (q c m n : ℕ) (ps : List Component) (r : List ℕ) (trace : List Exchange)

@@ -13,6 +13,7 @@ use Rattle.component.specs.declared.record.Component.{Component}
 use Rattle.passes.specs.Sets.{Set, from}
 use Rattle.passes.specs.Passes.{Pass, opened, Passes, unpassed, onePass, onward, again, repeat, passesOf}
 use Rattle.passes.proofs.Pass.{pass-keeps}
+use Rattle.passes.proofs.Tests.{and-false}
 use Rattle.passes.proofs.Sets.{length-from}
 use Rattle.bundle.specs.Layout.{countIn}
 use Rattle.device.specs.Record.{idleWith}
@@ -24,16 +25,18 @@ use Rattle.host.specs.declared.record.HostStage.the-variants.{Ended}
 use Rattle.host.specs.declared.record.End.the-variants.{Done}
 use Rattle.update.specs.Trace.{Exchange}
 use Rattle.update.specs.Run.{System, start}
-use Rattle.update.proofs.Leads.{said, Leads, leads-none, leads-step, leads-then}
+use Rattle.update.proofs.Leads.{said, more-length, Leads, leads-none, leads-step, leads-then}
 use Rattle.update.proofs.Turns.{replied, codeBytes, listing, x-open, x-list, x-first, x-again, x-done}
 use Rattle.update.proofs.Landed.{offers, holding-none}
 use Rattle.update.proofs.Filled.{fills-none}
 use Rattle.update.proofs.Pass.{Given, due, Landed, Gets, Fair, sound-now, fair-step, pass-sim}
 
 module _ (b : List ℕ) (t : ℕ) (d : Device) (s : List ℕ) (G : Given b t d s) where
+  -- a pass from a set on
   abbrev once : Set → Pass
   once = onePass (offers b (G .accepted) d) (from 0 (countIn b))
 
+  -- one pass more
   abbrev next : Passes → Passes
   next = onward (offers b (G .accepted) d) (from 0 (countIn b))
 
@@ -55,6 +58,7 @@ module _ (b : List ℕ) (t : ℕ) (d : Device) (s : List ℕ) (G : Given b t d s
     pub passes : last .host .passes ≡ ρ .passes
     pub count : length (last .trace) ≡ sentBy ρ
 
+  -- turns before such a run
   comes-after : (x y : System) (ρ : Passes) → Leads b x y → Comes y ρ → Comes x ρ
   comes-after x y ρ l g = record {
     last = g .last;
@@ -70,13 +74,11 @@ module _ (b : List ℕ) (t : ℕ) (d : Device) (s : List ℕ) (G : Given b t d s
   abbrev coded : ℕ → Exchange
   coded n = said (codeBytes n t) (replied t 0 OFFER-ACCEPT)
 
-  more-length : (trace : List Exchange) (x : Exchange) → length (trace ++ (x ∷ [])) ≡ suc (length trace)
-  more-length trace x = length-append trace (x ∷ []) ∙ omega arith
-
   -- code 1 is on its way
   abbrev list : (mask packets passes : ℕ) → List Component → (r : List ℕ) → List Exchange → System
   list m n q ps r trace = listing b (G .accepted) t (G .small) d m n q ps r trace
 
+  -- what lands in a pass was eligible
   fair-once : (S : Set) → Fair b t d s G S → Fair b t d s G (once S .set)
   unfolding onePass
   fair-once S fair =
@@ -109,12 +111,15 @@ module _ (b : List ℕ) (t : ℕ) (d : Device) (s : List ℕ) (G : Given b t d s
     g : Gets b t d s G (list m n q ps r trace) (countIn b) (once (ρ .set)) q (suc (sentBy ρ) + countIn b)
     g = to-close (ρ .set) fair m n q (sentBy ρ) ps r trace h count
 
+    -- no entry stands at the count
     past : ltb (countIn b) (countIn b) ≡ false
     past = le-ltb (countIn b) (countIn b) (omega arith)
 
+    -- D1 and D2 let the device pass after it
     sound : Sound (idleWith d (g .parts)) (g .staging)
     sound = sound-now b t d s G (once (ρ .set) .set) (g .mask) (g .parts) (g .staging) (g .landed)
 
+    -- the packets up to code 2 are counted
     counted : length (g .trace ++ (coded 2 ∷ [])) ≡ sentBy (next ρ)
     unfolding onward
     counted = more-length (g .trace) (coded 2) ∙ omega (arith, g .count)
@@ -148,10 +153,6 @@ module _ (b : List ℕ) (t : ℕ) (d : Device) (s : List ℕ) (G : Given b t d s
         (x-again b (G .accepted) t (G .small) d (g .parts) (g .staging) sound (g .trace) (countIn b) past (g .mask) (g .packets) q (once (ρ .set) .skipped) (once (ρ .set) .landed) z)
         (leads-none b _)))
         rest
-
-  and-false : (x : Bool) → (x && false) ≡ false
-  and-false true = refl
-  and-false false = refl
 
   -- the passes from one on, with as many left as the host allows
   rounds-sim : (f : ℕ) (ρ : Passes) → ρ .passes + suc f ≡ countIn b → Fair b t d s G (ρ .set) → (m n q : ℕ) (ps : List Component) (r : List ℕ) (trace : List Exchange)

@@ -75,6 +75,7 @@ module _ (b : List ℕ) where
     «data» = cleared (length (blockAt b p .bytes)) (blockAt b p .bytes ++ replicate (52 - length (blockAt b p .bytes)) 0);
   }
 
+  -- what is read in the packet of a block
   pub block-reads : (p : Place) → blockAt b p .address .0 < 256 ^ 4 → content.fieldsIn (blockPacket b p) ≡ contentOf p
   block-reads p h = packet-fields _ (mod-lt (p .block) (omega arith)) h
 

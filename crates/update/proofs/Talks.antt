@@ -27,6 +27,7 @@ unfolding deliver
 deliver-host [] h s = refl
 deliver-host (p ∷ ps) h s = refl
 
+-- its packet, if any, is added to the list
 deliver-trace : (ps : List (List ℕ)) (h : Host) (s : System) → deliver ps h s .trace ≡ s .trace ++ heardAs ps (deliver ps h s .reply)
 unfolding deliver
 deliver-trace [] h s = sym (append-nil (s .trace))
@@ -50,9 +51,11 @@ module _ (b : List ℕ) where
   unfolding packetOf
   ended-sends s e = ap (λ (m : Move). moved b m .sent) (stays (s .host .stage) (countIn b) (lastIn b (s .host .stage)) (s .host) (s .reply) e)
 
+  -- its record stays
   ended-host : (s : System) → hasEnded (s .host .stage) ≡ true → steps b (s .host) (s .reply) .host ≡ s .host
   ended-host s e = ap (λ (m : Move). m .host) (stays (s .host .stage) (countIn b) (lastIn b (s .host .stage)) (s .host) (s .reply) e)
 
+  -- so a turn leaves the system
   ended-once : (s : System) → hasEnded (s .host .stage) ≡ true → exchange b s ≡ s
   unfolding exchange deliver stepOf stepOn
   ended-once s e = by (bundle.bundleRow b)
@@ -65,6 +68,7 @@ module _ (b : List ℕ) where
       by bundle.served = on (breaksN1 b (s .host))
       by (bundle.B k entry) = refl
 
+  -- however many turns follow
   pub ended-stays : (n : ℕ) (s : System) → hasEnded (s .host .stage) ≡ true → run b n s ≡ s
   unfolding run
   ended-stays zero s e = refl
@@ -75,6 +79,7 @@ module _ (b : List ℕ) where
     abbrev pub at : ℕ → System
     at k = run b k (start token d staging reply)
 
+    -- the reply that step k hears
     abbrev pub hears : ℕ → List ℕ
     hears k = at k .reply
 

@@ -54,12 +54,14 @@ drop-length [] (suc k) x xs e = omega (arith, ap length e)
 drop-length (a ∷ l) zero x xs e = omega (arith, ap length e)
 drop-length (a ∷ l) (suc k) x xs e = omega (arith, drop-length l k x xs e)
 
+-- its first member is the one at that place
 drop-get : (l : List Block) (k : ℕ) (x : Block) (xs : List Block) → drop k l ≡ x ∷ xs → getD l k noBlock ≡ x
 drop-get [] zero x xs e = cc
 drop-get [] (suc k) x xs e = cc
 drop-get (a ∷ l) zero x xs e = cc
 drop-get (a ∷ l) (suc k) x xs e = drop-get l k x xs e
 
+-- the rest starts one place on
 drop-rest : (l : List Block) (k : ℕ) (x : Block) (xs : List Block) → drop k l ≡ x ∷ xs → drop (suc k) l ≡ xs
 drop-rest [] zero x xs e = cc
 drop-rest [] (suc k) x xs e = cc
@@ -88,6 +90,7 @@ module _ (b : List ℕ) (α : Accepted b) (t : ℕ) (small : t < 256) (d : Devic
   contents k zero = []
   contents k (suc j) = said (blockPacket b (spot k)) (taken k) ∷ contents (suc k) j
 
+  -- as many exchanges as blocks
   pub contents-length : (k j : ℕ) → length (contents k j) ≡ j
   unfolding contents
   contents-length k zero = refl
@@ -105,9 +108,11 @@ module _ (b : List ℕ) (α : Accepted b) (t : ℕ) (small : t < 256) (d : Devic
     blocking k p s trace = flight (blockPacket b (spot k)) (hostAs t (Sending (spot k)) m p q sk la) (held d ps (awaits slot t k)) s trace
 
     module _ (k : ℕ) (i : k < length (blocksAt b e)) (s : List ℕ) (d2 : length s ≡ d .«staging_len») where
+      -- D1 and D2 let the block pass
       sound : Sound (held d ps (awaits slot t k)) s
       sound = record { d1 = o .d1 k; d2 = d2 }
 
+      -- it is 60 bytes long
       size : length (blockPacket b (spot k)) ≡ 60
       size = block-length b α (spot k) l i
 
@@ -120,21 +125,26 @@ module _ (b : List ℕ) (α : Accepted b) (t : ℕ) (small : t < 256) (d : Devic
 
       module _ (inside : blockAt b (spot k) .address .0 + length (blockAt b (spot k) .bytes) ≤ r .len) (s′ : List ℕ)
           (becomes : next k (blockAt b (spot k)) s ≡ s′) where
+        -- its record has 1 to 52 bytes
         carried : Carried (blockAt b (spot k))
         carried = α .carries (entryAt b e) .each k noBlock i
 
+        -- it fits the session and the region
         fits : Fitting (contentOf b (spot k)) k r
         fits = block-fits b (spot k) r (carried .some) (carried .few) inside
 
+        -- it is read as it was built
         reads : fieldsIn (blockPacket b (spot k)) ≡ contentOf b (spot k)
         reads = block-reads b (spot k) (omega (arith, o .len))
 
+        -- its data is put into the region
         puts-it : takeBlock (held d ps (awaits slot t k)) slot (contentOf b (spot k)) s ≡ s′
         puts-it =
             puts d ps slot t (contentOf b (spot k)) k (awaits slot t k) s (blockAt b (spot k) .bytes) fits
             (le-leb (r .base .0 + r .len) (length s) (omega (arith, o .room))) (data-back (blockAt b (spot k) .bytes) _) refl
             ∙ becomes
 
+        -- so the buffer is s′ afterwards
         staging-is : serveStaging (held d ps (awaits slot t k)) (channelOf (blockPacket b (spot k))) s (blockPacket b (spot k)) ≡ s′
         staging-is =
             rw (ne-eqb (length (blockPacket b (spot k))) 16 (λ w. omega (arith, size)))
@@ -188,6 +198,7 @@ module _ (b : List ℕ) (α : Accepted b) (t : ℕ) (small : t < 256) (d : Devic
     ground-length zero s d2 = blank-length (r .len)
     ground-length (suc k) s d2 = rw (eqb·suc-zero k) (region-length r s (omega (arith, o .room)))
 
+    -- a block leaves the region its length
     kept : (k : ℕ) (x : Block) (s : List ℕ) → length s ≡ d .«staging_len» → x .address .0 + length (x .bytes) ≤ r .len
         → length (put (x .address .0) (x .bytes) (groundOf k (r .len) (regionBytes r s))) ≡ r .len
     kept k x s d2 inside =

@@ -4,6 +4,7 @@ use mathlib.Core.Path.{_≡_, refl, ap, subst, _∙_}
 use mathlib.Core.Bool.{Bool, true, false, cond, _&&_, _||_}
 use mathlib.Core.List.{List, [], _∷_, _++_}
 use native.Mathlib.Numerals.{add-one}
+use native.Mathlib.Omega.{arith}
 use borrow.Author.Tests.{eq-eqb, ltb-true, lt-ltb}
 use lib.Dec.{ltb}
 use lib.ListN.{length}
@@ -12,6 +13,7 @@ use Rattle.offers.specs.Signal.{informationBytes}
 use Rattle.offers.specs.Kind.{kindIn}
 use Rattle.offers.specs.Reply.{replyBytes}
 use Rattle.component.specs.declared.record.Component.{Component}
+use Rattle.passes.proofs.Tests.{or-true, or-false}
 use Rattle.bundle.specs.Layout.{countIn}
 use Rattle.bundle.proofs.Accepted.{Accepted}
 use Rattle.device.specs.Entries.{serveEntry, serveStaging}
@@ -23,7 +25,7 @@ use Rattle.device.specs.declared.judged.OfferVerdict.{OfferVerdict}
 use Rattle.device.specs.declared.judged.OfferVerdict.the-variants.{Reject, Skip, Accept}
 use Rattle.device.specs.declared.record.Device.{Device}
 use Rattle.device.specs.declared.record.Owed.the-variants as owed
-use Rattle.device.proofs.Calls.{Sound, Answered, code-opens, code-lists, code-closes, answers-offer, answers-code}
+use Rattle.device.proofs.Calls.{Sound, Answered, code-opens, code-accepted, answers-offer, answers-code}
 use Rattle.device.proofs.Offering.{answers}
 use Rattle.device.proofs.Blocks.{held, awaits}
 use Rattle.host.specs.Decide.{sends, offerFrom, noted, decideIn, decideOf}
@@ -62,14 +64,6 @@ replied token reason status = replyBytes (record { token = token; reason = reaso
 abbrev pub codeBytes : (code token : ℕ) → List ℕ
 codeBytes code token = informationBytes (record { code = code; token = token })
 
-or-true : (x : Bool) → (x || true) ≡ true
-or-true true = refl
-or-true false = refl
-
-or-false : (x : Bool) → (x || false) ≡ x
-or-false true = refl
-or-false false = refl
-
 module _ (b : List ℕ) (α : Accepted b) (t : ℕ) (small : t < 256) where
   -- the offer of an entry, or code 2 past the last
   abbrev pub turnPacket : ℕ → List ℕ
@@ -90,6 +84,7 @@ module _ (b : List ℕ) (α : Accepted b) (t : ℕ) (small : t < 256) where
       go true = refl
       go false = refl
 
+  -- and the record counts it
   pub turn-host : (e : ℕ) (stage : HostStage) (m p q : ℕ) (sk la : Bool)
       → offerFrom (countIn b) e (hostAs t stage m p q sk la) .host ≡ hostAs t (turnStage e) m (p + 1) q sk la
   turn-host e stage m p q sk la = go (ltb e (countIn b))
@@ -105,6 +100,7 @@ module _ (b : List ℕ) (α : Accepted b) (t : ℕ) (small : t < 256) where
       → answerTo (offerPacket b α t e) d s ≡ serveEntry d OfferChannel s (offerPacket b α t e)
   offer-channel e l d s = rw (eq-eqb (length (offerPacket b α t e)) 16 (offer-packet b α t e small l .size))
 
+  -- which leaves the staging buffer
   offer-staging : (e : ℕ) → e < countIn b → (d : Device) (s : List ℕ) → serveStaging d (channelOf (offerPacket b α t e)) s (offerPacket b α t e) ≡ s
   unfolding serveStaging
   offer-staging e l d s = rw (eq-eqb (length (offerPacket b α t e)) 16 (offer-packet b α t e small l .size))
@@ -158,7 +154,7 @@ module _ (b : List ℕ) (α : Accepted b) (t : ℕ) (small : t < 256) where
           let h = hostAs t Listing m p q false false in
           let e = hears-listing (countIn b) false h in
           turn b (codeBytes 1 t) (turnPacket 0) h (hostAs t (turnStage 0) m (p + 1) q false false) (idleWith d ps) (idleWith d ps) s s
-          (replied t 0 OFFER-ACCEPT) trace (code-lists (idleWith d ps) s t sound) refl
+          (replied t 0 OFFER-ACCEPT) trace (code-accepted (idleWith d ps) s 1 t sound (omega arith) (omega arith)) refl
           (ap (λ (x : Move). moved b x .sent) e ∙ turn-sent 0 Listing m p q false false)
           (ap (λ (x : Move). x .host) e ∙ turn-host 0 Listing m p q false false)
           (turn-answered 0 (idleWith d ps) s sound)
@@ -168,9 +164,11 @@ module _ (b : List ℕ) (α : Accepted b) (t : ℕ) (small : t < 256) where
         abbrev waits : HostStage
         waits = Offering (record { entry = e; busy = 0 })
 
+        -- the host that awaits it
         abbrev h : Host
         h = hostAs t waits m p q sk la
 
+        -- an entry of the bundle is offered
         is-offering : turning e m p q sk la ps s trace ≡ flight (offerPacket b α t e) h (idleWith d ps) s trace
         is-offering = rw (lt-ltb e (countIn b) l)
 
@@ -193,11 +191,13 @@ module _ (b : List ℕ) (α : Accepted b) (t : ℕ) (small : t < 256) where
             (ap (λ (x : Move). x .host) k ∙ turn-host (e + 1) waits m p q noted la ∙ rw (add-one e))
             (turn-answered (suc e) (idleWith d ps) s sound))
 
+        -- REJECT: the next offer
         pub x-reject : (r : ℕ) → offerVerdict (idleWith d ps) (withToken (offerAt b e) t) ≡ Reject r
             → Goes b (turning e m p q sk la ps s trace)
             (turning (suc e) m (p + 1) q sk la ps s (trace ++ (said (offerPacket b α t e) (replied t r OFFER-REJECT) ∷ [])))
         x-reject r z = next (replied t r OFFER-REJECT) sk (told (Reject r) z) (hears-reject (countIn b) false h (record { entry = e; busy = 0 }) r ∙ rw (or-false sk))
 
+        -- SKIP: noted, and the next offer
         pub x-skip : offerVerdict (idleWith d ps) (withToken (offerAt b e) t) ≡ Skip
             → Goes b (turning e m p q sk la ps s trace)
             (turning (suc e) m (p + 1) q true la ps s (trace ++ (said (offerPacket b α t e) (replied t 0 OFFER-SKIP) ∷ [])))
@@ -219,6 +219,7 @@ module _ (b : List ℕ) (α : Accepted b) (t : ℕ) (small : t < 256) where
             (ap (λ (x : Move). moved b x .sent) g) (ap (λ (x : Move). x .host) g) f)
 
       module _ (e : ℕ) (l : ltb e (countIn b) ≡ false) (m p q : ℕ) (sk la : Bool) where
+        -- past the last entry code 2 is on its way
         closing : turning e m p q sk la ps s trace ≡ flight (codeBytes 2 t) (hostAs t Closing m p q sk la) (idleWith d ps) s trace
         closing = rw l
 
@@ -231,7 +232,7 @@ module _ (b : List ℕ) (α : Accepted b) (t : ℕ) (small : t < 256) where
             let g = rw z at (hears-closing (countIn b) false c) in
             rw closing
             (turn b (codeBytes 2 t) (codeBytes 1 t) c (hostAs t Listing m (p + 1) (q + 1) false false) (idleWith d ps) (idleWith d ps) s s
-            (replied t 0 OFFER-ACCEPT) trace (code-closes (idleWith d ps) s t sound) refl
+            (replied t 0 OFFER-ACCEPT) trace (code-accepted (idleWith d ps) s 2 t sound (omega arith) (omega arith)) refl
             (ap (λ (x : Move). moved b x .sent) g) (ap (λ (x : Move). x .host) g) (code-answered 1 (idleWith d ps) s sound))
 
         -- ACCEPT to code 2: done
@@ -250,5 +251,5 @@ module _ (b : List ℕ) (α : Accepted b) (t : ℕ) (small : t < 256) where
             let g = rw z at (hears-closing (countIn b) false c) in
             rw closing
             (stop b (codeBytes 2 t) c (hostAs t (Ended Done) m p q sk la) (idleWith d ps) (idleWith d ps) s s
-            (replied t 0 OFFER-ACCEPT) trace (code-closes (idleWith d ps) s t sound) refl
+            (replied t 0 OFFER-ACCEPT) trace (code-accepted (idleWith d ps) s 2 t sound (omega arith) (omega arith)) refl
             (ap (λ (x : Move). moved b x .sent) g) (ap (λ (x : Move). x .host) g))

@@ -2,7 +2,7 @@
 use Prim.Native.Nat.{ℕ, zero, suc, _+_, _*_, _-_, _≤_, _<_}
 use mathlib.Core.Path.{_≡_, sym, ap, subst, _∙_}
 use mathlib.Core.Logic.{inl, inr}
-use mathlib.Core.Bool.{true, not, _&&_}
+use mathlib.Core.Bool.{Bool, true, not, _&&_}
 use mathlib.Core.List.{List, []}
 use native.Mathlib.Nat.{add-comm}
 use native.Mathlib.Decide.{decLt}
@@ -73,21 +73,31 @@ pub record Core (b : List ℕ) (token : ℕ) (d : Device) (staging reply : List 
   pub bytes : Fills d b (stagedIn b s) staging (s .staging)
 
 module _ (b : List ℕ) (token : ℕ) (d : Device) (staging reply : List ℕ) (P : Premise b token d staging) where
+  -- the premise
   abbrev G : Given b token d staging
   G = given b token d staging P
 
+  -- the offers, as the passes see them
   abbrev y : passes.Offers
   y = offers b (G .accepted) d
 
+  -- their numbers
   abbrev os : List ℕ
   os = from 0 (countIn b)
 
+  -- a member of X meets the need of offer i
+  abbrev fed : Set → (i j : ℕ) → Bool
+  fed X i j = X j && (not (eqb j i) && feeds (offerAt b j) (offerAt b i))
+
+  -- a need that is met stays met
   monotone : Monotone y
   monotone = need-monotone (λ i. isMet (toIdle d) (offerAt b i)) (λ j i. feeds (offerAt b j) (offerAt b i)) os (y .eligible) (y .records)
 
+  -- what the passes come to
   reached : Reached y os
   reached = passes-reach y os monotone
 
+  -- what the run comes to
   c : Comes b token d staging G (start token d staging reply) (passesOf y os)
   c = comes-whole b token d staging G reply
 
@@ -95,6 +105,7 @@ module _ (b : List ℕ) (token : ℕ) (d : Device) (staging reply : List ℕ) (P
   ends : run b (c .leads .turns) (start token d staging reply) ≡ c .last
   ends = run-goes b token d staging reply (P .bundle) (P .accepted) (P .small) (c .leads .turns) ∙ c .leads .comes
 
+  -- there the host has ended
   over : hasEnded (c .last .host .stage) ≡ true
   over = ap hasEnded (c .done)
 
@@ -134,6 +145,7 @@ module _ (b : List ℕ) (token : ℕ) (d : Device) (staging reply : List ℕ) (P
           ∙ ap (run b k) ends ∙ ended-stays b k (c .last) over in
           subst (Fine b) (sym at) (λ p z. let x = ended-sends b (c .last) over in let w : _≡_ {A = ℕ} 0 1 = cc in absurd (omega arith))
 
+  -- its counts are those of the list
   counted : Counted b (c .last .host) (c .last .trace)
   counted =
       subst (λ (x : System). Counted b (x .host) (x .trace)) ends
@@ -143,22 +155,25 @@ module _ (b : List ℕ) (token : ℕ) (d : Device) (staging reply : List ℕ) (P
   is-staged : (i : ℕ) → i < countIn b → stagedIn b (c .last) i ≡ passesOf y os .set i
   is-staged i l = sym (counted .bits i l) ∙ c .landed .bits i
 
+  -- a member by the list is one by the passes
   to-set : (i : ℕ) → i < countIn b → T (stagedIn b (c .last) i) → T (passesOf y os .set i)
   to-set i l t = subst T (is-staged i l) t
 
+  -- and the other way round
   from-set : (i : ℕ) → i < countIn b → T (passesOf y os .set i) → T (stagedIn b (c .last) i)
   from-set i l t = subst T (sym (is-staged i l)) t
 
+  -- it is the smallest closed set
   smallest : Smallest d b (stagedIn b (c .last))
   smallest = record { closed = closed; least = least }
     where
       closed : Closed d b (stagedIn b (c .last))
       closed i l e (inl m) =
-          from-set i l (reached .closed i (numbered b i l) e (or-inl (isMet (toIdle d) (offerAt b i)) (some os (λ j. passesOf y os .set j && (not (eqb j i) && feeds (offerAt b j) (offerAt b i)))) m))
+          from-set i l (reached .closed i (numbered b i l) e (or-inl (isMet (toIdle d) (offerAt b i)) (some os (fed (passesOf y os .set) i)) m))
       closed i l e (inr f) =
           from-set i l (reached .closed i (numbered b i l) e
-          (or-inr (isMet (toIdle d) (offerAt b i)) (some os (λ j. passesOf y os .set j && (not (eqb j i) && feeds (offerAt b j) (offerAt b i))))
-          (some-in os (λ j. passesOf y os .set j && (not (eqb j i) && feeds (offerAt b j) (offerAt b i))) (f .by) (numbered b (f .by) (f .listed))
+          (or-inr (isMet (toIdle d) (offerAt b i)) (some os (fed (passesOf y os .set) i))
+          (some-in os (fed (passesOf y os .set) i) (f .by) (numbered b (f .by) (f .listed))
           (both (passesOf y os .set (f .by)) _ (to-set (f .by) (f .listed) (f .member))
           (both (not (eqb (f .by) i)) _ (not-T (eqb (f .by) i) (λ z. f .other (eqb→eq (f .by) i z))) (f .meets))))))
 
@@ -167,9 +182,9 @@ module _ (b : List ℕ) (token : ℕ) (d : Device) (staging reply : List ℕ) (P
         where
           inside : passes.Closed y os Y
           inside j m e n =
-              or-cases (isMet (toIdle d) (offerAt b j)) (some os (λ k. Y k && (not (eqb k j) && feeds (offerAt b k) (offerAt b j))))
+              or-cases (isMet (toIdle d) (offerAt b j)) (some os (fed Y j))
               (λ z. cl j (below-count b j m) e (inl z))
-              (λ z. let x = some-out os (λ k. Y k && (not (eqb k j) && feeds (offerAt b k) (offerAt b j))) z in
+              (λ z. let x = some-out os (fed Y j) z in
               let w = and-r (Y (x .j)) (not (eqb (x .j) j) && feeds (offerAt b (x .j)) (offerAt b j)) (x .has) in
               cl j (below-count b j m) e (inr (record {
                 by = x .j;
@@ -179,6 +194,7 @@ module _ (b : List ℕ) (token : ℕ) (d : Device) (staging reply : List ℕ) (P
                 meets = and-r (not (eqb (x .j) j)) (feeds (offerAt b (x .j)) (offerAt b j)) w;
               }))) n
 
+  -- it decides the device
   leaves : Leaves d b (stagedIn b (c .last)) (c .last .device)
   leaves =
       record {
@@ -188,6 +204,7 @@ module _ (b : List ℕ) (token : ℕ) (d : Device) (staging reply : List ℕ) (P
         others = λ k h. c .landed .parts .others k (λ i l t. h i l (from-set i l t));
       }
 
+  -- it decides the staging buffer
   fills : Fills d b (stagedIn b (c .last)) staging (c .last .staging)
   fills =
       record {
@@ -196,12 +213,15 @@ module _ (b : List ℕ) (token : ℕ) (d : Device) (staging reply : List ℕ) (P
         rest = λ j u. c .landed .bytes .rest j (λ i k l t. u i k l (from-set i l t));
       }
 
+  -- the passes are few
   few : passesIn (c .last .trace) ≤ countIn b
   few = omega (arith, counted .passes, c .passes, reached .few, length-from 0 (countIn b))
 
+  -- the packets are few
   bounded : length (c .last .trace) ≤ 1 + countIn b * (countIn b + 2) + recordsIn b
   bounded = omega (arith, c .count, rw (length-from 0 (countIn b)) at (reached .bound), records-from b (entriesIn b) (countIn b) 0 (omega (arith, G .accepted .entries)))
 
+  -- all of it, of the run until the host ends
   pub core : Core b token d staging reply (lastOf b token d staging reply)
   core =
       subst (Core b token d staging reply) (sym last-is)

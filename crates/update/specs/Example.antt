@@ -65,9 +65,11 @@ shown x =
     cond (eqb (length (x .packet)) 16) (getD (x .packet) 2 0 ∷ getD (x .packet) 0 0 ∷ getD (x .reply) 12 0 ∷ getD (x .reply) 8 0 ∷ [])
     (getD (x .packet) 0 0 ∷ number (bytesAt 2 2 (x .packet)) ∷ getD (x .reply) 4 0 ∷ [])
 
+-- a code, accepted
 abbrev pub code : ℕ → List ℕ
 code n = KIND-INFORMATION ∷ n ∷ OFFER-ACCEPT ∷ 0 ∷ []
 
+-- an offer with its answer
 abbrev pub offer : (id status reason : ℕ) → List ℕ
 offer id status reason = id ∷ 0 ∷ status ∷ reason ∷ []
 
@@ -94,5 +96,6 @@ pub record Example (b : List ℕ) (packets : List (List ℕ)) (passes : ℕ) : T
   pub counts : passesIn (benchRun b .trace) ≡ passes
   pub staging : benchRun b .staging ≡ imageOne ++ imageTwo
 
+-- both orders
 abbrev pub ExamplesHold : Type 0
 ExamplesHold = Example oneFirst thirteen 2 × Example twoFirst nine 1

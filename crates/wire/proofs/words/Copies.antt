@@ -4,8 +4,10 @@ use mathlib.Core.List.{List, [], _∷_, _++_, append-nil}
 use Prim.Native.Nat.{ℕ, zero, suc, _+_, _<_}
 use native.Mathlib.Nat.{not-suc-le-zero, le-of-suc-le-suc}
 use native.Mathlib.Numerals.{add-one}
+use borrow.Author.Tests.{eq-eqb}
 use lib.ListN.{length, getD, set, take, drop}
 use lib.Seq.{drop-length, take-length}
+use Rattle.wire.specs.Bytes.{copyOf}
 
 copy-suc : (n : ℕ) (s d : List ℕ) → n < length s → n < length d → set (take n s ++ drop n d) n (getD s n 0) ≡ take (suc n) s ++ drop (suc n) d
 copy-suc n [] d h k = absurd (not-suc-le-zero h)
@@ -22,3 +24,7 @@ pub copied : (s d l : List ℕ) (i : ℕ) → l ≡ take i s ++ drop i d → i �
 copied s d l i e p q =
     e ∙ ap (λ (k : ℕ). take k s ++ drop k d) p ∙ ap (λ (t : List ℕ). take (length d) s ++ t) (drop-length d) ∙ append-nil _
     ∙ ap (λ (k : ℕ). take k s) q ∙ take-length s
+
+-- between equally long ones a copy leaves the source
+pub copy-same : (d s : List ℕ) → length d ≡ length s → copyOf d s ≡ s
+copy-same d s h = rw (eq-eqb (length d) (length s) h)

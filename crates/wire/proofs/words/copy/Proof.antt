@@ -1,12 +1,12 @@
 -- `words::copy` meets its contract. After i turns the first i bytes are the source's. Assumes nothing.
-use mathlib.Core.Path.{_≡_, refl, ap, _∙_}
+use mathlib.Core.Path.{_≡_, refl, sym, ap, _∙_}
 use mathlib.Core.List.{_++_}
 use Prim.Native.Nat.{_≤_, _-_}
 use native.Mathlib.Omega.{arith}
 use borrow.Author.Needs.{needs}
-use borrow.Author.Tests.{eq-eqb, ne-eqb}
+use borrow.Author.Tests.{ne-eqb}
 use lib.ListN.{length, set, getD, take, drop, length-set}
-use Rattle.wire.proofs.words.Copies.{copied, copy-more}
+use Rattle.wire.proofs.words.Copies.{copied, copy-more, copy-same}
 use Rattle.wire.proofs.words.copy.Statement.{statement}
 use Rattle.wire.proofs.words.copy.Tie as tie
 
@@ -47,7 +47,7 @@ returns : tie.Need-returns Inv-loop μ-loop
 returns c =
     let a = c .before .before .before .args in
     let e : length (a .target .now) ≡ length (a .source .now) = c .before .before .if1 .taken in
-    rw (eq-eqb _ _ e) (copied (a .source .now) (a .target .now) _ (c .before .loop .i) (c .before .loop .inv .0) (omega arith) e)
+    copied (a .source .now) (a .target .now) _ (c .before .loop .i) (c .before .loop .inv .0) (omega arith) e ∙ sym (copy-same (a .target .now) (a .source .now) e)
 
 returns-2 : tie.Need-returns-2 Inv-loop μ-loop
 returns-2 c = rw (ne-eqb _ _ (c .if1 .left))

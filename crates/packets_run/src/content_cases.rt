@@ -138,7 +138,8 @@ fn build(what: &[u8], c: ContentFields) {
     print::gives();
     let b = contents::content::build_content(c);
     let p = b.packet;
-    print::refusal(b.verdict);
+    let v = b.verdict;
+    print::refusal(v);
     print::bytes(&p);
     print::end();
 }
@@ -148,8 +149,10 @@ fn read(what: &[u8], p: &[u8]) {
     print::bytes(p);
     print::gives();
     let r = contents::content::read_content(p);
-    print::refusal(r.verdict);
-    fields(r.content);
+    let v = r.verdict;
+    print::refusal(v);
+    let c = r.content;
+    fields(c);
     print::end();
 }
 

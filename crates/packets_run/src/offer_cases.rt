@@ -56,7 +56,8 @@ fn build(what: &[u8], o: OfferFields) {
     print::gives();
     let b = offers::offer::build_offer(o);
     let p = b.packet;
-    print::refusal(b.verdict);
+    let v = b.verdict;
+    print::refusal(v);
     print::bytes(&p);
     print::end();
 }

@@ -29,7 +29,8 @@ fn build(what: &[u8], r: VersionReply) {
     print::gives();
     let b = versions::build_version_reply(r);
     let p = b.packet;
-    print::refusal(b.verdict);
+    let v = b.verdict;
+    print::refusal(v);
     print::bytes(&p);
     print::end();
 }
@@ -39,8 +40,10 @@ fn read(what: &[u8], p: &[u8]) {
     print::bytes(p);
     print::gives();
     let r = versions::read_version_reply(p);
-    print::refusal(r.verdict);
-    fields(r.reply);
+    let v = r.verdict;
+    print::refusal(v);
+    let x = r.reply;
+    fields(x);
     print::end();
 }
 

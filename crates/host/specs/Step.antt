@@ -146,13 +146,9 @@ unfoldable pub stepOf : (b : List ℕ) → Host → (reply : List ℕ) → Step
 stepOf b h reply = stepBy (bundle.bundleRow b) b h reply
 
 -- what an answer tells
-abbrev pub stepRow : bundle.Row → Row
-stepRow bundle.served = served
-stepRow (bundle.B k entry) = B k entry
-
 abbrev pub rowOf : StepRefusal → Row
 rowOf refusal.Served = served
-rowOf (refusal.Bundle verdict place) = stepRow (bundle.rowOf verdict place)
+rowOf (refusal.Bundle verdict place) = B (bundle.numberOf verdict) place
 rowOf refusal.N1 = N 1
 
 abbrev pub sentBy : Sent → List ℕ → List (List ℕ)

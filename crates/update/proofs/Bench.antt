@@ -65,10 +65,13 @@ bench-fits = record {
   count = omega arith;
   slots = refl;
   each =
-    all-fit (bench Idle .parts) (
-      listed-fits 1 0x01000200 0 (omega arith) (omega arith) (omega arith),
-      (listed-fits 2 0x01000100 64 (omega arith) (omega arith) (omega arith),
-      (blank-fits, (blank-fits, (blank-fits, (blank-fits, (blank-fits, tt)))))));
+      all-fit (bench Idle .parts) (
+        listed-fits 1 0x01000200 0 (omega arith) (omega arith) (omega arith),
+        (
+          listed-fits 2 0x01000100 64 (omega arith) (omega arith) (omega arith),
+          (blank-fits, (blank-fits, (blank-fits, (blank-fits, (blank-fits, tt))))),
+        ),
+      );
   stage = tt;
   owed = tt;
 }
@@ -102,8 +105,8 @@ one-first = record {
   size = refl;
   accepted = refl;
   premise = premise oneFirst refl refl refl
-    (record { inside = (omega arith, (omega arith, tt)); crc = refl; id = refl; version = refl })
-    (record { inside = (omega arith, (omega arith, tt)); crc = refl; id = refl; version = refl });
+      (record { inside = (omega arith, (omega arith, tt)); crc = refl; id = refl; version = refl })
+      (record { inside = (omega arith, (omega arith, tt)); crc = refl; id = refl; version = refl });
   done = refl;
   says = refl;
   packets = (refl, refl);
@@ -118,8 +121,8 @@ two-first = record {
   size = refl;
   accepted = refl;
   premise = premise twoFirst refl refl refl
-    (record { inside = (omega arith, (omega arith, tt)); crc = refl; id = refl; version = refl })
-    (record { inside = (omega arith, (omega arith, tt)); crc = refl; id = refl; version = refl });
+      (record { inside = (omega arith, (omega arith, tt)); crc = refl; id = refl; version = refl })
+      (record { inside = (omega arith, (omega arith, tt)); crc = refl; id = refl; version = refl });
   done = refl;
   says = refl;
   packets = (refl, refl);

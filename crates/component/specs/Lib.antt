@@ -2,3 +2,4 @@ pub mod Record
 pub mod Versions
 pub mod Lists
 pub mod Setup
+pub mod Rules

@@ -1,5 +1,91 @@
+// The loops over the first `count` of seven components, and a place in the list.
+use crate::record::Component;
+use crate::rule::Pair;
+use crate::rule::Rule;
+use crate::rule::applies;
+use crate::rule::rule_of;
+use crate::setup::COMPONENT_LIMIT;
+ghost use mathlib.Core.Path.{_≡_};
+ghost use mathlib.Core.Bool.{not};
+ghost use Prim.Native.Nat.{min};
+ghost use lib.ListN.{take, drop};
+ghost use Rattle.wire.specs.Checks.{any, pairs};
+ghost use Rattle.component.specs.Lists.{firstFrom, find as findIn};
+ghost use Rattle.component.specs.Rules.{ruleHolds, pairHolds};
+ghost use Rattle.component.specs.Setup.{COMPONENT-LIMIT};
+ghost use Rattle.component.specs.Versions.{keepsStaged};
+
 // A place in the list of components, or none.
 pub enum Found {
     Nothing,
     At(u8),
+}
+
+// A count as far as there are slots.
+fn within_slots(count: u8) -> u8
+    ensures { λ r. ⌜ r ≡ min count COMPONENT-LIMIT ⌝ }
+{
+    if count <= COMPONENT_LIMIT {
+        count
+    } else {
+        COMPONENT_LIMIT
+    }
+}
+
+// The first place from `from` on to which the rule applies.
+fn first(rule: Rule, parts: [Component; 7], from: u8, count: u8) -> Found
+    ensures { λ r. ⌜ r ≡ firstFrom (ruleHolds rule) from (drop from (take count parts)) ⌝ }
+{
+    let end = within_slots(count);
+    let mut i = from;
+    while i < end {
+        let c = parts[i as usize];
+        if applies(rule, c) {
+            return Found::At(i);
+        }
+        i += 1;
+    }
+    Found::Nothing
+}
+
+// Does the rule apply to some component from `from` on?
+pub fn some(rule: Rule, parts: [Component; 7], from: u8, count: u8) -> bool
+    ensures { λ r. ⌜ r ≡ any (ruleHolds rule) (drop from (take count parts)) ⌝ }
+{
+    let f = first(rule, parts, from, count);
+    match f {
+        Found::Nothing => false,
+        Found::At(_) => true,
+    }
+}
+
+// Does the pair's rule apply to some component and a later one?
+pub fn some_two(pair: Pair, parts: [Component; 7], count: u8) -> bool
+    ensures { λ r. ⌜ r ≡ pairs (pairHolds pair) (take count parts) ⌝ }
+{
+    let end = within_slots(count);
+    let mut i: u8 = 0;
+    while i < end {
+        let c = parts[i as usize];
+        let rule = rule_of(pair, c);
+        if some(rule, parts, i + 1, count) {
+            return true;
+        }
+        i += 1;
+    }
+    false
+}
+
+// The slot of the component with this id.
+pub fn find(parts: [Component; 7], count: u8, id: u8) -> Found
+    ensures { λ r. ⌜ r ≡ findIn id count parts ⌝ }
+{
+    first(Rule::SameId(id), parts, 0, count)
+}
+
+// D1: some component has a staged version below running.
+pub fn some_stale(parts: [Component; 7], count: u8) -> bool
+    ensures { λ r. ⌜ r ≡ any (λ c. not (keepsStaged c (c .staged))) (take count parts) ⌝ }
+{
+    some(Rule::Stale, parts, 0, count)
 }

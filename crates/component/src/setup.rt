@@ -1,8 +1,69 @@
 // What set-up says of a list of components and a staging length (document 01, "Numbered refusals").
+use crate::list::some;
+use crate::list::some_two;
+use crate::record::Component;
+use crate::rule::Pair;
+use crate::rule::Rule;
+ghost use mathlib.Core.Path.{_≡_};
+ghost use lib.ListN.{take};
+ghost use Rattle.component.specs.Setup.{stagingTooLong, badCount, badIds, badRegions, setupVerdict};
+
+// The largest staging buffer.
+pub const STAGING_LIMIT: u32 = 65536;
+
+// The most components.
+pub const COMPONENT_LIMIT: u8 = 7;
+
+// The shortest region.
+pub const REGION_LEAST: u32 = 8;
+
 pub enum SetupVerdict {
     Fine,
     S1,
     S2,
     S3,
     S4,
+}
+
+fn staging_too_long(n: usize) -> bool
+    ensures { λ r. ⌜ r ≡ stagingTooLong n ⌝ }
+{
+    (STAGING_LIMIT as usize) < n
+}
+
+fn bad_count(count: u8) -> bool
+    ensures { λ r. ⌜ r ≡ badCount count ⌝ }
+{
+    (count < 1) | (COMPONENT_LIMIT < count)
+}
+
+fn bad_ids(parts: [Component; 7], count: u8) -> bool
+    ensures { λ r. ⌜ r ≡ badIds (take count parts) ⌝ }
+{
+    some(Rule::BadId, parts, 0, count) | some_two(Pair::SameId, parts, count)
+}
+
+fn bad_regions(n: usize, parts: [Component; 7], count: u8) -> bool
+    ensures { λ r. ⌜ r ≡ badRegions n (take count parts) ⌝ }
+{
+    some(Rule::BadRegion(n), parts, 0, count) | some_two(Pair::Overlap, parts, count)
+}
+
+// S1 to S4, row after row, each over the whole list.
+pub fn setup_verdict(n: usize, count: u8, parts: [Component; 7]) -> SetupVerdict
+    ensures { λ r. ⌜ r ≡ setupVerdict n count parts ⌝ }
+{
+    if staging_too_long(n) {
+        return SetupVerdict::S1;
+    }
+    if bad_count(count) {
+        return SetupVerdict::S2;
+    }
+    if bad_ids(parts, count) {
+        return SetupVerdict::S3;
+    }
+    if bad_regions(n, parts, count) {
+        return SetupVerdict::S4;
+    }
+    SetupVerdict::Fine
 }

@@ -1,0 +1,13 @@
+-- `Component::after_reset` meets its contract: the effective version runs. Assumes nothing.
+use borrow.Author.Needs.{needs}
+use Rattle.component.proofs.record.Component.after_reset.Statement.{statement}
+use Rattle.component.proofs.record.Component.after_reset.Tie as tie
+
+effective-requires : tie.Need-effective-requires
+effective-requires c κs = search needs
+
+returns : tie.Need-returns
+returns c = rw (c .before .effective .ensures)
+
+pub after-reset-spec : {M : Type 1} → statement M
+after-reset-spec = tie.close (tie.spec effective-requires returns)

@@ -1,0 +1,65 @@
+-- `rule::applies` meets its contract: by cases on the rule, as each helper says. Assumes nothing.
+use borrow.Author.Needs.{needs}
+use Rattle.component.proofs.rule.applies.Statement.{statement}
+use Rattle.component.proofs.rule.applies.Tie as tie
+
+enum-told : tie.Need-enum-told
+enum-told c = search needs
+
+bad-id-requires : tie.Need-bad-id-requires
+bad-id-requires c κs = search needs
+
+enum-known-rule : tie.Need-enum-known-rule
+enum-known-rule c = search needs
+
+enum-known-rule-2 : tie.Need-enum-known-rule-2
+enum-known-rule-2 c = search needs
+
+bad-region-requires : tie.Need-bad-region-requires
+bad-region-requires c κs = search needs
+
+enum-known-rule-3 : tie.Need-enum-known-rule-3
+enum-known-rule-3 c = search needs
+
+overlaps-requires : tie.Need-overlaps-requires
+overlaps-requires c κs = search needs
+
+enum-told-2 : tie.Need-enum-told-2
+enum-told-2 c = search needs
+
+keeps-staged-requires : tie.Need-keeps-staged-requires
+keeps-staged-requires c κs = search needs
+
+returns : tie.Need-returns
+returns c = rw (c .before .enum-told .given .1) (c .bad-id .ensures)
+
+returns-2 : tie.Need-returns-2
+returns-2 c = rw (c .before .before .rule .given .1)
+
+returns-3 : tie.Need-returns-3
+returns-3 c = rw (c .before .before .rule2 .given .1) (c .bad-region .ensures)
+
+returns-4 : tie.Need-returns-4
+returns-4 c = rw (c .before .before .rule3 .given .1) (c .overlaps .ensures)
+
+returns-5 : tie.Need-returns-5
+returns-5 c = rw (c .before .enum-told2 .given .1, c .keeps-staged .ensures)
+
+pub applies-spec : {M : Type 1} → statement M
+applies-spec =
+    tie.close
+    (tie.spec
+    enum-told
+    bad-id-requires
+    enum-known-rule
+    enum-known-rule-2
+    bad-region-requires
+    enum-known-rule-3
+    overlaps-requires
+    enum-told-2
+    keeps-staged-requires
+    returns
+    returns-2
+    returns-3
+    returns-4
+    returns-5)

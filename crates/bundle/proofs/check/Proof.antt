@@ -176,7 +176,7 @@ returns-9 c =
     let e = c .before .before .before .before .before in
     let f = c .before .before .before .before .contents-of .ensures in
     let z = sym (f .0) ∙ c .before .before .if8 .left in
-    rw (s1 (e .before .before .before .before .before .before .before .before .before .before .before .before), s2 (e .before .before .before .before .before .before .before .before .before .before), s3 (e .before .before .before .before .before .before .before .before), s4 (e .before .before .before .before .before .before), s5 (e .before .before .before .before), s6 (e .before .before), s7 (e), z) (ap (λ (t : List Entry). record { row = served; count = countIn (b7 e); table = t }) (f .1 z))
+    rw (s1 (e .before .before .before .before .before .before .before .before .before .before .before .before), s2 (e .before .before .before .before .before .before .before .before .before .before), s3 (e .before .before .before .before .before .before .before .before), s4 (e .before .before .before .before .before .before), s5 (e .before .before .before .before), s6 (e .before .before), s7 (e), z) (ap (λ (t : List Entry). record { row = served; place = 0; count = countIn (b7 e); table = t }) (f .1 z))
 
 pub check-spec : {M : Type 1} → statement M
 check-spec =

@@ -8,3 +8,5 @@ pub mod Answers
 pub mod Bytes
 pub mod Fitting
 pub mod Staging
+pub mod Turns
+pub mod Replies

@@ -30,26 +30,28 @@ entryIn b e = record {
   records = length (blocksIn b e);
 }
 
--- what the check tells: the row, the count and the table of seven, which are zero where a row refuses
+-- what the check tells: the row, the entry that it names, and the count and the table of seven, which are zero where a row refuses
 pub record Contents : Type 0 where
   pub row : Row
+  pub place : ℕ
   pub count : ℕ
   pub table : List Entry
 
 abbrev pub contentsBy : Row → List ℕ → Contents
 contentsBy served b = record {
   row = served;
+  place = 0;
   count = countIn b;
   table = map (entryIn b) (entriesIn b) ++ replicate (OFFER-LIMIT - countIn b) blankEntry;
 }
-contentsBy (B k entry) b = record { row = B k entry; count = 0; table = replicate OFFER-LIMIT blankEntry }
+contentsBy (B k entry) b = record { row = B k entry; place = entry; count = 0; table = replicate OFFER-LIMIT blankEntry }
 
 -- the check
 unfoldable pub checkOf : List ℕ → Contents
 checkOf b = contentsBy (bundleRow b) b
 
 abbrev pub toldChecked : Checked → Contents
-toldChecked c = record { row = rowOf (c .verdict) (c .place); count = c .count; table = c .table }
+toldChecked c = record { row = rowOf (c .verdict) (c .place); place = c .place; count = c .count; table = c .table }
 
 -- the offers of a bundle, with their bodies and the records of each
 abbrev pub offersOf : List ℕ → List (List ℕ)
@@ -63,7 +65,7 @@ unfoldable pub joined : List (List ℕ) → List ℕ
 joined [] = []
 joined (l ∷ ls) = l ++ joined ls
 
--- a member of a list has p
+-- every member of a list has p
 abbrev pub All : {A : Type 0} → (A → Type 0) → List A → Type 0
 All p [] = Unit {0}
 All p (x ∷ xs) = p x × All p xs

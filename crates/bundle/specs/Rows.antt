@@ -17,6 +17,18 @@ pub data Row : Type 0 where
   served : Row
   B : (number entry : ℕ) → Row
 
+-- the number of each verdict's row, and 0 where none refuses
+abbrev pub numberOf : BundleVerdict → ℕ
+numberOf Fine = 0
+numberOf B1 = 1
+numberOf B2 = 2
+numberOf B3 = 3
+numberOf B4 = 4
+numberOf B5 = 5
+numberOf B6 = 6
+numberOf B7 = 7
+numberOf B8 = 8
+
 abbrev pub rowOf : BundleVerdict → ℕ → Row
 rowOf Fine entry = served
 rowOf B1 entry = B 1 entry

@@ -1,6 +1,6 @@
 -- E1 to E10, by computation. Assumes nothing.
 use mathlib.Core.Path.{refl}
-use Rattle.wire.specs.Checks.{firstOf, any, pairs, applies}
+use Rattle.wire.specs.Checks.{firstOf, any, pairs}
 use Rattle.offers.specs.Offer.{fieldsIn}
 use Rattle.offers.specs.Kind.{kindIn}
 use Rattle.contents.specs.Content as content
@@ -11,34 +11,11 @@ use Rattle.component.specs.Lists.{firstFrom, find}
 use Rattle.component.specs.Setup.{badIds, badRegions, setupVerdict}
 use Rattle.device.specs.Refusals.{breaksD1, refusalOf}
 use Rattle.device.specs.Offer.{rejections, needUnmet, offerVerdict, onOffer, offerEntry}
-use Rattle.device.specs.Content.{contentVerdict, takeBlock, onBlock, contentEntry}
-use Rattle.device.specs.Entries.{versionEntry, serveEntry}
+use Rattle.device.specs.Content.{contentVerdict, takeBlock, onBlock, contentEntry, contentStaging}
+use Rattle.device.specs.Entries.{versionEntry, serveEntry, serveStaging}
 use Rattle.device.specs.Bench.{BenchHolds}
 
 pub bench-holds : BenchHolds
-unfolding firstOf any pairs fieldsIn kindIn content.fieldsIn cleared flat replyBytes firstFrom find badIds badRegions setupVerdict breaksD1 refusalOf rejections needUnmet offerVerdict onOffer offerEntry contentVerdict takeBlock onBlock contentEntry versionEntry serveEntry
-bench-holds = (
-  refl,
-  refl,
-  (
-    refl,
-    refl,
-    (
-      refl,
-      refl,
-      (
-        refl,
-        refl,
-        (
-          refl,
-          refl,
-          (
-            refl,
-            refl,
-            (refl, refl, (refl, refl, (refl, refl, (refl, refl, (refl, refl, (refl, refl, tt)))))),
-          ),
-        ),
-      ),
-    ),
-  ),
-)
+unfolding firstOf any pairs fieldsIn kindIn content.fieldsIn cleared flat replyBytes within blank put eraseOf writeOf firstFrom find badIds badRegions setupVerdict breaksD1 refusalOf rejections needUnmet offerVerdict onOffer offerEntry contentVerdict takeBlock onBlock contentEntry contentStaging versionEntry serveEntry serveStaging
+bench-holds =
+    (refl, refl, refl, (refl, refl, refl, (refl, refl, refl, (refl, refl, refl, (refl, refl, refl, (refl, refl, refl, (refl, refl, refl, (refl, refl, refl, (refl, refl, refl, (refl, refl, refl, (refl, refl, refl, (refl, refl, refl, tt))))))))))))

@@ -1,11 +1,12 @@
 -- The values of a record stay those of its type. Assumes nothing.
-use mathlib.Core.Path.{_≡_, _∙_}
+use mathlib.Core.Path.{_≡_, refl, sym, ap, _∙_}
 use mathlib.Core.Bool.{Bool, true, false, cond}
-use mathlib.Core.List.{List}
-use Prim.Native.Nat.{ℕ, _<_, _^_}
+use mathlib.Core.List.{List, map}
+use Prim.Native.Nat.{ℕ, zero, suc, _<_, _^_}
 use native.Mathlib.Omega.{arith}
+use borrow.Author.Tests.{ltb-false}
 use lib.Dec.{eqb}
-use lib.ListN.{length, getD, length-set}
+use lib.ListN.{length, getD, length-set, length-map, replicate}
 use Rattle.wire.specs.Bytes.{Bytes}
 use Rattle.wire.specs.declared.version.Version.{Version}
 use Rattle.offers.specs.Offer as offers
@@ -13,19 +14,28 @@ use Rattle.contents.specs.Content as contents
 use Rattle.image.specs.Region.{regionBytes}
 use Rattle.image.specs.Judge.{imageVersion, imageId, isRight, imageIn}
 use Rattle.image.specs.declared.judge.Image.the-variants.{Damaged, Foreign, Bears}
-use Rattle.component.specs.Record.{FitsComponent, withStaged, blankComponent}
+use Rattle.component.specs.Record.{FitsStaged, FitsComponent, effective, listed, withStaged, afterReset, blankComponent}
 use Rattle.component.specs.Lists.{partAt}
+use Rattle.component.specs.Setup.{rowOf, setupVerdict}
 use Rattle.component.specs.declared.record.Component.{Component}
+use Rattle.component.specs.declared.record.Staged.{Staged}
+use Rattle.component.specs.declared.record.Staged.the-variants.{Nothing, Pending}
+use Rattle.component.specs.declared.setup.SetupVerdict.{SetupVerdict}
+use Rattle.device.specs.Entries.{newDevice, setUpBy, setUpOf, Reset, resetParts, resetEntry}
+use Rattle.device.proofs.Passes.{quiet-setup}
+use Rattle.device.proofs.setup.Laws.{refused-set-up, made-set-up}
+use Rattle.wire.specs.Version.{FitsVersion}
 use Rattle.component.specs.declared.list.Found.the-variants as found
 use Rattle.device.specs.declared.record.Device.{Device}
 use Rattle.device.specs.declared.record.Owed.{Owed}
 use Rattle.device.specs.declared.record.Stage.{Stage}
 use Rattle.device.specs.declared.record.Stage.the-variants.{Idle, Offered, Receiving}
-use Rattle.device.specs.Record.{FitsStage, FitsOwed, FitsDevice, part, openSlot}
+use Rattle.device.specs.Record.{FitsStage, FitsOwed, FitsDevice, part, openSlot, blankDevice}
+use Rattle.device.specs.Refusals.{refusesSetup, breaksD1}
 use Rattle.device.specs.Content.{atToken, isFirst, window, takeBlock}
-use Rattle.device.specs.Promises.{ServeKeepsFits}
+use Rattle.device.specs.Promises.{SetUpFits, ResetKeepsFits, ServeKeepsFits}
 use Rattle.device.proofs.Chain.{either}
-use Rattle.device.proofs.Lists.{each-set, find-below}
+use Rattle.device.proofs.Lists.{face, reset-faces, each-set, each-front, find-below}
 use Rattle.device.proofs.Bytes.{take-bytes, drop-bytes, cleared-bytes, region-bytes, erase-bytes, write-bytes, version-fits}
 use Rattle.device.proofs.Moves.{Move, stays, idles, opens, owes, goes, stages, serve-moves}
 
@@ -83,3 +93,53 @@ move-fits {d} {staging = staging} {report = report} f h b (stages k e v q w) =
 
 pub serve-keeps-fits : ServeKeepsFits
 serve-keeps-fits d channel staging report f h b = move-fits f h b (serve-moves d staging report channel)
+
+-- a list of one value holds it at every place
+all-same : {A : Type 0} (n i : ℕ) (a : A) → getD (replicate n a) i a ≡ a
+all-same zero i a = refl
+all-same (suc n) zero a = refl
+all-same (suc n) (suc i) a = all-same n i a
+
+-- the values of the blank record
+blank-fits : FitsDevice blankDevice
+blank-fits = record {
+  platform = omega arith;
+  staging = omega arith;
+  count = omega arith;
+  slots = refl;
+  each = λ k. rw (all-same 7 k blankComponent) none-fits;
+  stage = tt;
+  owed = tt;
+} where
+  none-fits : FitsComponent blankComponent
+  none-fits = record { id = omega arith; running = omega arith; region = record { base = omega arith; len = omega arith }; staged = tt }
+
+pub set-up-fits : SetUpFits
+unfolding setUpOf
+set-up-fits platform list count n p k l e = go (refusesSetup verdict) refl where
+  verdict : SetupVerdict
+  verdict = setupVerdict n count (map listed list)
+
+  new : Device
+  new = newDevice platform list count n
+
+  go : (b : Bool) → refusesSetup verdict ≡ b → FitsDevice (setUpBy (rowOf verdict) new .device)
+  go true r = rw (refused-set-up verdict new r) blank-fits
+  go false r =
+      let s = ltb-false 65536 n (quiet-setup n count (map listed list) r .0) in
+      rw (made-set-up verdict new r)
+      (record { platform = p; staging = omega arith; count = k; slots = length-map list listed ∙ l; each = e; stage = tt; owed = tt })
+
+-- a component after a reset has values of its type
+reset-fits : (c : Component) → FitsComponent c → FitsComponent (afterReset c)
+reset-fits c f = record { id = f .id; running = effective-fits (c .staged) (f .staged); region = f .region; staged = tt } where
+  effective-fits : (s : Staged) → FitsStaged s → FitsVersion (effective (c .running) s)
+  effective-fits Nothing h = f .running
+  effective-fits (Pending v) h = h
+
+pub reset-keeps-fits : ResetKeepsFits
+unfolding resetEntry
+reset-keeps-fits d f =
+    let l : length (resetParts (d .count) (d .parts)) ≡ 7 = sym (length-map (resetParts (d .count) (d .parts)) face) ∙ ap length (reset-faces (d .count) (d .parts)) ∙ length-map (d .parts) face ∙ f .slots in
+    either (λ (r : Reset). FitsDevice (r .device)) (breaksD1 d) _ _ f
+    (fits-with d f (resetParts (d .count) (d .parts)) l (each-front FitsComponent afterReset blankComponent reset-fits (d .count) (d .parts) (f .each)) Idle tt _ tt)

@@ -1,7 +1,4 @@
 pub mod Bench
-pub mod Calls
-pub mod Offering
-pub mod Blocks
 pub mod Chain
 pub mod Lists
 pub mod Passes
@@ -11,4 +8,9 @@ pub mod Answers
 pub mod Bytes
 pub mod Fitting
 pub mod Staging
+pub mod Turns
+pub mod Replies
+pub mod Calls
+pub mod Offering
+pub mod Blocks
 pub mod Opened

@@ -52,6 +52,13 @@ module _ {A : Type 0} where
   any-set p (x ∷ l) zero y h k = rw h (neither (p x) (any p l) k .1)
   any-set p (x ∷ l) (suc i) y h k = let n = neither (p x) (any p l) k in rw (n .0) (any-set p l i y h (n .1))
 
+-- what holds of no member does not hold of the one at a place
+pub any-at : {A : Type 0} (p : A → Bool) (l : List A) (i : ℕ) (z : A) → i < length l → any p l ≡ false → p (getD l i z) ≡ false
+unfolding any
+any-at p [] i z h k = absurd (omega arith)
+any-at p (x ∷ l) zero z h k = neither (p x) (any p l) k .0
+any-at p (x ∷ l) (suc i) z h k = any-at p l i z (omega arith) (neither (p x) (any p l) k .1)
+
 -- a component's id and region
 abbrev pub face : Component → ℕ × Region
 face c = (c .id, c .region)
@@ -112,3 +119,11 @@ each-set P (x ∷ l) zero y z h f zero = h
 each-set P (x ∷ l) zero y z h f (suc k) = f (suc k)
 each-set P (x ∷ l) (suc i) y z h f zero = f zero
 each-set P (x ∷ l) (suc i) y z h f (suc k) = each-set P l i y z h (λ j. f (suc j)) k
+
+-- what is said of every place of a list, and kept by f, is said of every place after the first n are replaced by their images
+pub each-front : {A : Type 0} (P : A → Type 0) (f : A → A) (z : A) → ((a : A) → P a → P (f a)) → (n : ℕ) (l : List A)
+    → ((k : ℕ) → P (getD l k z)) → (k : ℕ) → P (getD (map f (take n l) ++ drop n l) k z)
+each-front P f z g zero l h k = h k
+each-front P f z g (suc n) [] h k = h k
+each-front P f z g (suc n) (x ∷ l) h zero = g x (h zero)
+each-front P f z g (suc n) (x ∷ l) h (suc k) = each-front P f z g n l (λ j. h (suc j)) k

@@ -1,4 +1,5 @@
--- The bench examples E1 to E10 (document 01, "Bench examples"), rows of one table under one claim: what is sent, and the session afterwards.
+-- The bench examples E1 to E10 (document 01, "Bench examples"), rows of one table under one claim: what is sent, and the session and the staging
+-- buffer afterwards.
 use Prim.Native.Nat.{ℕ}
 use mathlib.Core.Path.{_≡_}
 use mathlib.Core.List.{List, [], _∷_, _++_}
@@ -11,7 +12,7 @@ use Rattle.device.specs.declared.record.Stage.the-variants.{Idle, Offere
 use Rattle.device.specs.declared.record.Owed.the-variants as owed
 use Rattle.device.specs.declared.answer.Channel.{Channel}
 use Rattle.device.specs.declared.answer.Channel.the-variants.{Offer, Content}
-use Rattle.device.specs.Entries.{versionEntry, serveEntry}
+use Rattle.device.specs.Entries.{versionEntry, serveEntry, serveStaging}
 
 -- platform 0x0042; id 1 at 0x01000200, region 0-63; id 2 at 0x01000100, region 64-127
 abbrev pub bench : Stage → Device
@@ -44,16 +45,29 @@ abbrev pub leaves : Device → Asked → Stage
 leaves d versions = d .stage
 leaves d (packet channel p) = serveEntry d channel (replicate 128 0) p .device .stage
 
--- a row: the session before, what is asked, what is sent, the session after
+-- the staging buffer, zero before
+abbrev pub untouched : List ℕ
+untouched = replicate 128 0
+
+abbrev pub bytesLeft : Device → Asked → List ℕ
+bytesLeft d versions = untouched
+bytesLeft d (packet channel p) = serveStaging d channel untouched p
+
+-- a row: the session before, what is asked, what is sent, the session and the staging buffer after
 pub record Example : Type 0 where
   pub before : Stage
   pub asked : Asked
   pub replies : List (List ℕ)
   pub after : Stage
+  pub bytes : List ℕ
 
 abbrev pub Holds : List Example → Type 0
 Holds [] = Unit {0}
-Holds (x ∷ xs) = (sent (bench (x .before)) (x .asked) ≡ x .replies) × (leaves (bench (x .before)) (x .asked) ≡ x .after) × Holds xs
+Holds (x ∷ xs) =
+    (sent (bench (x .before)) (x .asked) ≡ x .replies)
+    × (leaves (bench (x .before)) (x .asked) ≡ x .after)
+    × (bytesLeft (bench (x .before)) (x .asked) ≡ x .bytes)
+    × Holds xs
 
 -- the offer of E2, with its four version bytes, four need bytes and byte 12
 abbrev pub offer : (v n : List ℕ) → ℕ → Asked
@@ -96,32 +110,34 @@ examples =
           ∷ 0x00 ∷ 0x01 ∷ 0x00 ∷ 0x01 ∷ 0x00 ∷ 0x02 ∷ 0x42 ∷ 0x00 ∷ replicate 40 0x00
           ) ∷ [];
       after = Idle;
+      bytes = untouched;
     }
     -- E2: accepted
-    ∷ record { before = Idle; asked = offer new noNeed 0x02; replies = answer 0 1; after = forOne }
+    ∷ record { before = Idle; asked = offer new noNeed 0x02; replies = answer 0 1; after = forOne; bytes = untouched }
     -- E3: an old version, REJECT 0
-    ∷ record { before = Idle; asked = offer old noNeed 0x02; replies = answer 0 2; after = Idle }
+    ∷ record { before = Idle; asked = offer old noNeed 0x02; replies = answer 0 2; after = Idle; bytes = untouched }
     -- E4: another protocol, REJECT 0xE0, also when the version is old
-    ∷ record { before = Idle; asked = offer new noNeed 0x01; replies = answer 0xE0 2; after = Idle }
-    ∷ record { before = Idle; asked = offer old noNeed 0x01; replies = answer 0xE0 2; after = Idle }
+    ∷ record { before = Idle; asked = offer new noNeed 0x01; replies = answer 0xE0 2; after = Idle; bytes = untouched }
+    ∷ record { before = Idle; asked = offer old noNeed 0x01; replies = answer 0xE0 2; after = Idle; bytes = untouched }
     -- E5: a need that is not met, SKIP
-    ∷ record { before = Idle; asked = offer new (0x02 ∷ 0x02 ∷ 0x00 ∷ 0x01 ∷ []) 0x02; replies = answer 0 0; after = Idle }
+    ∷ record { before = Idle; asked = offer new (0x02 ∷ 0x02 ∷ 0x00 ∷ 0x01 ∷ []) 0x02; replies = answer 0 0; after = Idle; bytes = untouched }
     -- E6: a need that is met, ACCEPT
-    ∷ record { before = Idle; asked = offer new (0x02 ∷ 0x01 ∷ 0x00 ∷ 0x01 ∷ []) 0x02; replies = answer 0 1; after = forOne }
+    ∷ record { before = Idle; asked = offer new (0x02 ∷ 0x01 ∷ 0x00 ∷ 0x01 ∷ []) 0x02; replies = answer 0 1; after = forOne; bytes = untouched }
     -- E7: content when idle
-    ∷ record { before = Idle; asked = block 1 (0 ∷ 0 ∷ 0 ∷ 0 ∷ []); replies = status 0x0A; after = Idle }
+    ∷ record { before = Idle; asked = block 1 (0 ∷ 0 ∷ 0 ∷ 0 ∷ []); replies = status 0x0A; after = Idle; bytes = untouched }
     -- E8: 52 bytes at address 12 are taken, and at 13 not
     ∷ record {
       before = forOne;
       asked = block 52 (12 ∷ 0 ∷ 0 ∷ 0 ∷ []);
       replies = status 0;
       after = Receiving (record { slot = 0; token = 0xA5; next = 0x1235 });
+      bytes = replicate 12 0xFF ++ data52 ++ replicate 64 0;
     }
-    ∷ record { before = forOne; asked = block 52 (13 ∷ 0 ∷ 0 ∷ 0 ∷ []); replies = status 0x09; after = forOne }
+    ∷ record { before = forOne; asked = block 52 (13 ∷ 0 ∷ 0 ∷ 0 ∷ []); replies = status 0x09; after = forOne; bytes = untouched }
     -- E9: one byte at the last address
-    ∷ record { before = forOne; asked = block 1 (0xFF ∷ 0xFF ∷ 0xFF ∷ 0xFF ∷ []); replies = status 0x09; after = forOne }
+    ∷ record { before = forOne; asked = block 1 (0xFF ∷ 0xFF ∷ 0xFF ∷ 0xFF ∷ []); replies = status 0x09; after = forOne; bytes = untouched }
     -- E10: 53 bytes
-    ∷ record { before = forOne; asked = block 53 (0 ∷ 0 ∷ 0 ∷ 0 ∷ []); replies = status 0x0B; after = forOne }
+    ∷ record { before = forOne; asked = block 53 (0 ∷ 0 ∷ 0 ∷ 0 ∷ []); replies = status 0x0B; after = forOne; bytes = untouched }
     ∷ []
 
 -- the claim

@@ -1,21 +1,28 @@
 -- What is promised of the device's entries, for every record and every input (document 00, questions 1 and 2).
-use Prim.Native.Nat.{ℕ, _+_, _≤_, _<_}
+use Prim.Native.Nat.{ℕ, _+_, _-_, _^_, _≤_, _<_}
 use mathlib.Core.Path.{_≡_}
 use mathlib.Core.Logic.{_⊎_}
-use mathlib.Core.Bool.{Bool, true, false}
-use mathlib.Core.List.{List, []}
+use mathlib.Core.Bool.{Bool, true, false, not, cond, _&&_}
+use mathlib.Core.List.{List, [], _∷_, map}
+use lib.Dec.{eqb}
 use lib.ListN.{length, getD, replicate}
+use Rattle.wire.specs.Codes.{NOTIFY-ON-READY}
+use Rattle.offers.specs.Kind.{Kind, offer, information, extended, kindIn}
 use Rattle.contents.specs.Content.{fieldsIn}
+use Rattle.contents.specs.declared.content.ContentFields.{ContentFields}
+use Rattle.component.specs.Record.{FitsComponent, listed}
+use Rattle.component.specs.Lists.{partAt}
 use Rattle.component.specs.Setup as setup
 use Rattle.component.specs.declared.record.Listed.{Listed}
 use Rattle.component.specs.declared.list.Found.the-variants.{At}
 use Rattle.device.specs.declared.record.Device.{Device}
+use Rattle.device.specs.declared.record.Owed.the-variants.{Nothing}
 use Rattle.device.specs.declared.answer.Channel.{Channel}
 use Rattle.device.specs.declared.judged.ContentVerdict.the-variants.{Take}
-use Rattle.device.specs.Record.{FitsDevice, openSlot, blankDevice}
-use Rattle.device.specs.Refusals.{Row, served, D, Outcome, breaksD1, refusedBy}
+use Rattle.device.specs.Record.{FitsDevice, isOpen, openSlot, owes, blankDevice}
+use Rattle.device.specs.Refusals.{Row, served, D, Outcome, breaksD1, refusedBy, readySent}
 use Rattle.device.specs.Offer.{offerEntry}
-use Rattle.device.specs.Content.{window, contentVerdict, contentEntry, contentStaging}
+use Rattle.device.specs.Content.{isFirst, window, contentVerdict, contentEntry, contentStaging}
 use Rattle.device.specs.Entries.{setUpOf, versionEntry, resetEntry, serveEntry, serveStaging}
 
 -- D1 is kept: what set-up makes passes D1, and so does what every entry leaves of a record that passes
@@ -30,7 +37,14 @@ ServeKeepsD1 = (d : Device) (channel : Channel) (staging report : List ℕ) → 
 abbrev pub ResetKeepsD1 : Type 0
 ResetKeepsD1 = (d : Device) → FitsDevice d → breaksD1 d ≡ false → breaksD1 (resetEntry d .device) ≡ false
 
--- the values stay those of the type
+-- the values are those of the types, and stay so
+abbrev pub SetUpFits : Type 0
+SetUpFits = (platform : ℕ) (list : List Listed) (count n : ℕ) → platform < 256 ^ 2 → count < 256 → length list ≡ 7
+    → ((k : ℕ) → FitsComponent (partAt (map listed list) k)) → FitsDevice (setUpOf platform list count n .device)
+
+abbrev pub ResetKeepsFits : Type 0
+ResetKeepsFits = (d : Device) → FitsDevice d → FitsDevice (resetEntry d .device)
+
 abbrev pub ServeKeepsFits : Type 0
 ServeKeepsFits = (d : Device) (channel : Channel) (staging report : List ℕ) → FitsDevice d → ((i : ℕ) → getD report i 0 < 256)
     → ((i : ℕ) → getD staging i 0 < 256) → FitsDevice (serveEntry d channel staging report .device)
@@ -51,22 +65,45 @@ RefusedChangesNothing = (d : Device) (channel : Channel) (staging report : List 
 abbrev pub Beside : Device → (slot j : ℕ) → Type 0
 Beside d slot j = (j < window d slot .base .0) ⊎ (window d slot .base .0 + window d slot .len ≤ j)
 
--- the staging buffer keeps its length; it changes only by a block that checks 1 to 5 let pass, of the open session, and only inside its region
-pub record ChangesOnly (d : Device) (staging report : List ℕ) : Type 0 where
-  pub long : length (contentStaging d staging report) ≡ length staging
-  pub only : (contentStaging d staging report ≡ staging)
-      ⊎ ((slot : ℕ) → openSlot (d .stage) ≡ At slot
-      → (contentEntry d staging report .row ≡ served)
-      × (contentVerdict d (fieldsIn report) ≡ Take slot)
-      × ((j : ℕ) → Beside d slot j → getD (contentStaging d staging report) j 0 ≡ getD staging j 0))
+-- address j of a region is outside the data of a block
+abbrev pub Around : ContentFields → (j : ℕ) → Type 0
+Around c j = (j < c .address .0) ⊎ (c .address .0 + c .length ≤ j)
 
+-- a valid block of the accepted offer: its data stand at their addresses in the component's region; the rest of the region is erased by a first block and
+-- stays otherwise; nothing else changes
+pub record TakesBlock (d : Device) (staging report : List ℕ) : Type 0 where
+  pub slot : ℕ
+  pub opened : openSlot (d .stage) ≡ At slot
+  pub row : contentEntry d staging report .row ≡ served
+  pub verdict : contentVerdict d (fieldsIn report) ≡ Take slot
+  pub written : (j : ℕ) → fieldsIn report .address .0 ≤ j → j < fieldsIn report .address .0 + fieldsIn report .length
+      → getD (contentStaging d staging report) (window d slot .base .0 + j) 0 ≡ getD report (8 + (j - fieldsIn report .address .0)) 0
+  pub rest : (j : ℕ) → j < window d slot .len → Around (fieldsIn report) j
+      → getD (contentStaging d staging report) (window d slot .base .0 + j) 0
+      ≡ cond (isFirst (fieldsIn report)) 0xFF (getD staging (window d slot .base .0 + j) 0)
+  pub beside : (j : ℕ) → Beside d slot j → getD (contentStaging d staging report) j 0 ≡ getD staging j 0
+
+-- the staging buffer keeps its length, and changes only by a valid block of the accepted offer
 abbrev pub StagingChanges : Type 0
-StagingChanges = (d : Device) (staging report : List ℕ) → FitsDevice d → ((i : ℕ) → getD report i 0 < 256) → ChangesOnly d staging report
+StagingChanges = (d : Device) (staging report : List ℕ) → FitsDevice d → ((i : ℕ) → getD report i 0 < 256)
+    → (length (contentStaging d staging report) ≡ length staging)
+    × ((contentStaging d staging report ≡ staging) ⊎ TakesBlock d staging report)
 
--- how many replies each entry gives: none or one to an offer packet; to a content packet none where it is refused, else one, or two with the owed READY
+-- the replies of a served offer packet: none to a notify on ready that is now owed, else one
+abbrev pub awaits : Device → Kind → Bool
+awaits d (offer o) = false
+awaits d (information s) = false
+awaits d (extended s) = eqb (s .code) NOTIFY-ON-READY && (isOpen (d .stage) && not (owes (d .owed)))
+
 abbrev pub OfferReplies : Type 0
-OfferReplies = (d : Device) (n : ℕ) (report : List ℕ) → length (offerEntry d n report .sent) ≤ 1
+OfferReplies = (d : Device) (n : ℕ) (report : List ℕ) → offerEntry d n report .row ≡ served
+    → offerEntry d n report .sent ≡ cond (awaits d (kindIn report)) [] (offerEntry d n report .reply ∷ [])
+
+-- the replies of a served content packet: its own, and then the owed READY exactly where the session becomes idle
+abbrev pub becomesIdle : Device → Device → Bool
+becomesIdle d d′ = isOpen (d .stage) && not (isOpen (d′ .stage))
 
 abbrev pub ContentReplies : Type 0
 ContentReplies = (d : Device) (staging report : List ℕ) → contentEntry d staging report .row ≡ served
-    → (1 ≤ length (contentEntry d staging report .sent)) × (length (contentEntry d staging report .sent) ≤ 2)
+    → contentEntry d staging report .sent
+    ≡ contentEntry d staging report .reply ∷ readySent (cond (becomesIdle d (contentEntry d staging report .device)) (d .owed) Nothing)

@@ -78,10 +78,13 @@ refusalOf size d n m =
     ∷ [])
     served
 
--- what an entry for packets answers: the row, the reply's bytes (zero where none is due), what is sent, in order, and the next record
+-- what an entry for packets answers: the row; whether a reply is due, its bytes (zero where none is), and the owed READY that follows it; what is
+-- sent, in order; and the next record
 pub record Outcome : Type 0 where
   pub row : Row
+  pub due : Bool
   pub reply : List ℕ
+  pub ready : Owed
   pub sent : List (List ℕ)
   pub device : Device
 
@@ -101,22 +104,24 @@ dueSent false bytes = []
 abbrev pub told : Answer → Outcome
 told a = record {
   row = rowOf (a .refusal);
+  due = a .due;
   reply = a .reply;
+  ready = a .ready;
   sent = dueSent (a .due) (a .reply) ++ readySent (a .ready);
   device = a .device;
 }
 
 -- a refused call: its row, a zeroed reply, nothing sent, the record unchanged
 abbrev pub refusedBy : Row → Device → Outcome
-refusedBy row d = record { row = row; reply = replicate 16 0; sent = []; device = d }
+refusedBy row d = record { row = row; due = false; reply = replicate 16 0; ready = owed.Nothing; sent = []; device = d }
 
 -- a served call with one reply, and then the READY that was owed
 abbrev pub answeredWith : List ℕ → Owed → Device → Outcome
-answeredWith bytes ready d = record { row = served; reply = bytes; sent = bytes ∷ readySent ready; device = d }
+answeredWith bytes ready d = record { row = served; due = true; reply = bytes; ready = ready; sent = bytes ∷ readySent ready; device = d }
 
 -- a served call with no reply now
 abbrev pub silent : Device → Outcome
-silent d = record { row = served; reply = replicate 16 0; sent = []; device = d }
+silent d = record { row = served; due = false; reply = replicate 16 0; ready = owed.Nothing; sent = []; device = d }
 
 -- a refused call, or the answer of the entry
 abbrev pub unlessRefused : Row → Device → Outcome → Outcome

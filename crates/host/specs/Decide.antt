@@ -24,9 +24,9 @@ use Rattle.host.specs.Record.{withBit}
 abbrev pub BUSY-LIMIT : ℕ
 BUSY-LIMIT = 8
 
--- the step codes of the table
-abbrev pub H3 : ℕ
-H3 = 0
+-- the step codes of the table; the cells with no step end with H3
+abbrev pub NONE : ℕ
+NONE = 0
 
 abbrev pub LIST : ℕ
 LIST = 1
@@ -52,11 +52,11 @@ DECIDE = 7
 -- rows: opening, listing, offering, waiting, closing; columns: SKIP, ACCEPT, REJECT, BUSY, READY, any other status
 unfoldable pub table : List (List ℕ)
 table =
-    (H3 ∷ LIST ∷ H3 ∷ H3 ∷ H3 ∷ H3 ∷ [])
-    ∷ (H3 ∷ OFFER ∷ H3 ∷ H3 ∷ H3 ∷ H3 ∷ [])
-    ∷ (NEXT ∷ SEND ∷ NEXT ∷ WAIT ∷ H3 ∷ H3 ∷ [])
-    ∷ (H3 ∷ H3 ∷ H3 ∷ H3 ∷ SAME ∷ H3 ∷ [])
-    ∷ (H3 ∷ DECIDE ∷ H3 ∷ H3 ∷ H3 ∷ H3 ∷ [])
+    (NONE ∷ LIST ∷ NONE ∷ NONE ∷ NONE ∷ NONE ∷ [])
+    ∷ (NONE ∷ OFFER ∷ NONE ∷ NONE ∷ NONE ∷ NONE ∷ [])
+    ∷ (NEXT ∷ SEND ∷ NEXT ∷ WAIT ∷ NONE ∷ NONE ∷ [])
+    ∷ (NONE ∷ NONE ∷ NONE ∷ NONE ∷ SAME ∷ NONE ∷ [])
+    ∷ (NONE ∷ DECIDE ∷ NONE ∷ NONE ∷ NONE ∷ NONE ∷ [])
     ∷ []
 
 -- the column of a status

@@ -1,3 +1,4 @@
 pub mod Record
 pub mod Decide
 pub mod Step
+pub mod Inner

@@ -49,16 +49,35 @@ hasBit mask i = eqb (mask / 2 ^ i % 2) 1
 abbrev pub withBit : (mask i : ℕ) → ℕ
 withBit mask i = cond (hasBit mask i) mask (mask + 2 ^ i)
 
--- ended, and how
-abbrev pub progressOf : HostStage → Progress
-progressOf Fresh = progress.Running
-progressOf Opening = progress.Running
-progressOf Listing = progress.Running
-progressOf (Offering t) = progress.Running
-progressOf (Waiting t) = progress.Running
-progressOf (Sending p) = progress.Running
-progressOf Closing = progress.Running
-progressOf (Ended e) = progress.Ended e
+-- how far a host is, by the names of document 01: running, done, or an end H1 (with the content status) to H4
+pub data Ending : Type 0 where
+  running : Ending
+  done : Ending
+  H1 : (status : ℕ) → Ending
+  H2 : Ending
+  H3 : Ending
+  H4 : Ending
+
+abbrev pub endingOf : End → Ending
+endingOf end.Done = done
+endingOf (end.Status s) = H1 s
+endingOf end.Foreign = H2
+endingOf end.Unexpected = H3
+endingOf end.Busy = H4
+
+abbrev pub endingIn : HostStage → Ending
+endingIn Fresh = running
+endingIn Opening = running
+endingIn Listing = running
+endingIn (Offering t) = running
+endingIn (Waiting t) = running
+endingIn (Sending p) = running
+endingIn Closing = running
+endingIn (Ended e) = endingOf e
+
+abbrev pub toldProgress : Progress → Ending
+toldProgress progress.Running = running
+toldProgress (progress.Ended e) = endingOf e
 
 abbrev pub hasEnded : HostStage → Bool
 hasEnded Fresh = false
@@ -70,12 +89,29 @@ hasEnded (Sending p) = false
 hasEnded Closing = false
 hasEnded (Ended e) = true
 
+-- what the report tells
+pub record Reported : Type 0 where
+  pub completed : ℕ
+  pub mask : ℕ
+  pub packets : ℕ
+  pub passes : ℕ
+  pub ending : Ending
+
 -- the report: completed offers are the ones in the mask
-unfoldable pub reportOf : Host → Report
+unfoldable pub reportOf : Host → Reported
 reportOf h = record {
   completed = ones (h .mask);
   mask = h .mask;
   packets = h .packets;
   passes = h .passes;
-  progress = progressOf (h .stage);
+  ending = endingIn (h .stage);
+}
+
+abbrev pub toldReport : Report → Reported
+toldReport r = record {
+  completed = r .completed;
+  mask = r .mask;
+  packets = r .packets;
+  passes = r .passes;
+  ending = toldProgress (r .progress);
 }

@@ -43,47 +43,65 @@ entryAt b i = getD (entriesIn b) i []
 abbrev pub blocksAt : (b : List ℕ) → ℕ → List Block
 blocksAt b i = blocksIn b (entryAt b i)
 
--- N1: points at an entry that the bundle lacks, or counts over 8 BUSY
-abbrev pub badTurn : (b : List ℕ) → Turn → Bool
-badTurn b t = leb (countIn b) (t .entry) || ltb BUSY-LIMIT (t .busy)
+abbrev pub recordsAt : (b : List ℕ) → ℕ → ℕ
+recordsAt b i = length (blocksAt b i)
+
+-- N1, for a bundle of n offers whose bodies have so many records: points at an entry that the bundle lacks, or counts over 8 BUSY
+abbrev pub turnBreaks : (n : ℕ) → Turn → Bool
+turnBreaks n t = leb n (t .entry) || ltb BUSY-LIMIT (t .busy)
 
 -- N1: points at an entry or a body record that the bundle lacks
-abbrev pub badPlace : (b : List ℕ) → Place → Bool
-badPlace b p = leb (countIn b) (p .entry) || leb (length (blocksAt b (p .entry))) (p .block)
+abbrev pub placeBreaks : (n : ℕ) → (records : ℕ → ℕ) → Place → Bool
+placeBreaks n records p = leb n (p .entry) || leb (records (p .entry)) (p .block)
 
-abbrev pub badStage : (b : List ℕ) → HostStage → Bool
-badStage b Fresh = false
-badStage b Opening = false
-badStage b Listing = false
-badStage b (Offering t) = badTurn b t
-badStage b (Waiting t) = badTurn b t
-badStage b (Sending p) = badPlace b p
-badStage b Closing = false
-badStage b (Ended e) = false
+abbrev pub stageBreaks : (n : ℕ) → (records : ℕ → ℕ) → HostStage → Bool
+stageBreaks n records Fresh = false
+stageBreaks n records Opening = false
+stageBreaks n records Listing = false
+stageBreaks n records (Offering t) = turnBreaks n t
+stageBreaks n records (Waiting t) = turnBreaks n t
+stageBreaks n records (Sending p) = placeBreaks n records p
+stageBreaks n records Closing = false
+stageBreaks n records (Ended e) = false
 
 -- N1: .. more passes than offers, 2^31 or more packets, or a mask bit past its offers
+abbrev pub recordBreaks : (n : ℕ) → (records : ℕ → ℕ) → Host → Bool
+recordBreaks n records h =
+    stageBreaks n records (h .stage)
+    || (ltb n (h .passes) || (leb PACKET-LIMIT (h .packets) || leb (2 ^ n) (h .mask)))
+
+abbrev pub badStage : (b : List ℕ) → HostStage → Bool
+badStage b stage = stageBreaks (countIn b) (recordsAt b) stage
+
 unfoldable pub breaksN1 : (b : List ℕ) → Host → Bool
-breaksN1 b h =
-    badStage b (h .stage)
-    || (ltb (countIn b) (h .passes) || (leb PACKET-LIMIT (h .packets) || leb (2 ^ countIn b) (h .mask)))
+breaksN1 b h = recordBreaks (countIn b) (recordsAt b) h
 
 -- the block in hand is the last of its body
+abbrev pub isLastOf : (records : ℕ → ℕ) → Place → Bool
+isLastOf records p = eqb (p .block + 1) (records (p .entry))
+
+abbrev pub lastOf : (records : ℕ → ℕ) → HostStage → Bool
+lastOf records Fresh = false
+lastOf records Opening = false
+lastOf records Listing = false
+lastOf records (Offering t) = false
+lastOf records (Waiting t) = false
+lastOf records (Sending p) = isLastOf records p
+lastOf records Closing = false
+lastOf records (Ended e) = false
+
 abbrev pub isLast : (b : List ℕ) → Place → Bool
-isLast b p = eqb (p .block + 1) (length (blocksAt b (p .entry)))
+isLast b p = isLastOf (recordsAt b) p
 
 abbrev pub lastIn : (b : List ℕ) → HostStage → Bool
-lastIn b Fresh = false
-lastIn b Opening = false
-lastIn b Listing = false
-lastIn b (Offering t) = false
-lastIn b (Waiting t) = false
-lastIn b (Sending p) = isLast b p
-lastIn b Closing = false
-lastIn b (Ended e) = false
+lastIn b stage = lastOf (recordsAt b) stage
 
 -- first and last flags as fit
+abbrev pub flagsOf : (first last : Bool) → ℕ
+flagsOf first last = cond first FLAG-FIRST-BLOCK 0 + cond last FLAG-LAST-BLOCK 0
+
 abbrev pub flagsAt : (b : List ℕ) → Place → ℕ
-flagsAt b p = cond (eqb (p .block) 0) FLAG-FIRST-BLOCK 0 + cond (isLast b p) FLAG-LAST-BLOCK 0
+flagsAt b p = flagsOf (eqb (p .block) 0) (isLast b p)
 
 -- past the last record
 abbrev pub noBlock : Block
@@ -92,15 +110,18 @@ noBlock = record { address = record { 0 = 0 }; bytes = [] }
 abbrev pub blockAt : (b : List ℕ) → Place → Block
 blockAt b p = getD (blocksAt b (p .entry)) (p .block) noBlock
 
--- a record as content, unused data as zero
-abbrev pub blockPacket : (b : List ℕ) → Place → List ℕ
-blockPacket b p = contentBytes (record {
-  flags = flagsAt b p;
-  length = length (blockAt b p .bytes);
-  sequence = sequenceOf (p .block);
-  address = blockAt b p .address;
-  «data» = blockAt b p .bytes ++ replicate (52 - length (blockAt b p .bytes)) 0;
+-- block k of a body as content: the record's data, unused data as zero
+abbrev pub blockBytes : (k : ℕ) → (last : Bool) → Block → List ℕ
+blockBytes k last r = contentBytes (record {
+  flags = flagsOf (eqb k 0) last;
+  length = length (r .bytes);
+  sequence = sequenceOf k;
+  address = r .address;
+  «data» = r .bytes ++ replicate (52 - length (r .bytes)) 0;
 })
+
+abbrev pub blockPacket : (b : List ℕ) → Place → List ℕ
+blockPacket b p = blockBytes (p .block) (isLast b p) (blockAt b p)
 
 -- the packet of an action; an offer is the table's 16 bytes with our token in byte 3
 unfoldable pub packetOf : (b : List ℕ) → (token : ℕ) → Action → List (List ℕ)
@@ -146,13 +167,9 @@ unfoldable pub stepOf : (b : List ℕ) → Host → (reply : List ℕ) → Step
 stepOf b h reply = stepBy (bundle.bundleRow b) b h reply
 
 -- what an answer tells
-abbrev pub stepRow : bundle.Row → Row
-stepRow bundle.served = served
-stepRow (bundle.B k entry) = B k entry
-
 abbrev pub rowOf : StepRefusal → Row
 rowOf refusal.Served = served
-rowOf (refusal.Bundle verdict place) = stepRow (bundle.rowOf verdict place)
+rowOf (refusal.Bundle verdict place) = B (bundle.numberOf verdict) place
 rowOf refusal.N1 = N 1
 
 abbrev pub sentBy : Sent → List ℕ → List (List ℕ)

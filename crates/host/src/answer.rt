@@ -43,6 +43,12 @@ pub struct StepAnswer {
     pub host: Host,
 }
 
+// What the inner step answers: a step, and the place of the record after the one in hand.
+pub struct InnerAnswer {
+    pub step: StepAnswer,
+    pub cursor: u32,
+}
+
 pub enum Progress {
     Running,
     Ended(End),

@@ -45,7 +45,7 @@ put at bytes l = take at l ++ (bytes ++ drop (at + length bytes) l)
 unfoldable pub eraseOf : Region → List ℕ → List ℕ
 eraseOf r s = cond (isInside r (length s)) (within (r .base .0) (r .len) (λ old. blank (r .len)) s) s
 
--- the buffer after a write; bytes that the region, or a region that the buffer does not hold, change nothing
+-- the buffer after a write; bytes that the region does not hold change nothing, and so does a region that the buffer does not hold
 unfoldable pub writeOf : Region → RegionAddress → (bytes s : List ℕ) → List ℕ
 writeOf r a bytes s =
     cond (isInside r (length s) && holds r a (length bytes)) (within (r .base .0) (r .len) (put (a .0) bytes) s) s

@@ -138,7 +138,8 @@ fn build(what: &[u8], c: ContentFields) {
     print::gives();
     let b = contents::content::build_content(c);
     let p = b.packet;
-    print::refusal(b.verdict);
+    let v = b.verdict;
+    print::refusal(v);
     print::bytes(&p);
     print::end();
 }
@@ -148,8 +149,10 @@ fn read(what: &[u8], p: &[u8]) {
     print::bytes(p);
     print::gives();
     let r = contents::content::read_content(p);
-    print::refusal(r.verdict);
-    fields(r.content);
+    let v = r.verdict;
+    print::refusal(v);
+    let c = r.content;
+    fields(c);
     print::end();
 }
 
@@ -195,11 +198,14 @@ fn build_served() {
     build(b"51 bytes, unused data set", filled(0, 51, 1, 2, 255));
 }
 
-fn build_refused() {
+fn build_other_flags() {
     build(b"another flag, 0x01", filled(0x01, 52, 1, 2, 255));
     build(b"another flag, 0x20", filled(0x20, 52, 1, 2, 255));
     build(b"both flags and another", filled(0xC2, 52, 1, 2, 255));
     build(b"all flags", filled(0xFF, 52, 1, 2, 255));
+}
+
+fn build_other_lengths() {
     build(b"length 0", filled(0x80, 0, 1, 2, 255));
     build(b"length 53", filled(0x80, 53, 1, 2, 255));
     build(b"largest length", filled(0x80, 255, 1, 2, 255));
@@ -227,6 +233,9 @@ fn reads() {
     read_filled(b"one byte, unused data set", 255, 0x80, 1);
     read_counting(b"all fields different", 0x80, 52);
     read_counting(b"last block of 12 bytes, unused data set", 0x40, 12);
+}
+
+fn read_long() {
     read_counting(b"51 bytes, unused data set", 0, 51);
     read_filled(b"52 bytes, all fields largest", 255, 0xC0, 52);
     read_counting(b"length 53, as it stands", 0xC0, 53);
@@ -248,7 +257,9 @@ fn read_other_lengths() {
 
 pub fn run() {
     build_served();
-    build_refused();
+    build_other_flags();
+    build_other_lengths();
     reads();
+    read_long();
     read_other_lengths();
 }

@@ -25,8 +25,10 @@ fn read(what: &[u8], p: &[u8]) {
     print::bytes(p);
     print::gives();
     let r = contents::reply::read_content_reply(p);
-    print::refusal(r.verdict);
-    fields(r.reply);
+    let v = r.verdict;
+    print::refusal(v);
+    let x = r.reply;
+    fields(x);
     print::end();
 }
 

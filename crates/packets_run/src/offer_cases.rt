@@ -56,7 +56,8 @@ fn build(what: &[u8], o: OfferFields) {
     print::gives();
     let b = offers::offer::build_offer(o);
     let p = b.packet;
-    print::refusal(b.verdict);
+    let v = b.verdict;
+    print::refusal(v);
     print::bytes(&p);
     print::end();
 }
@@ -223,10 +224,16 @@ fn read_served() {
             255,
         ],
     );
+}
+
+fn read_flags() {
     read_zeros(b"I alone", 0x40, 1, 2, 0);
     read_zeros(b"V alone", 0x80, 1, 2, 0);
     read_zeros(b"reserved bits of byte 1", 0x3F, 1, 2, 0);
     read_zeros(b"reserved bits of byte 12, and byte 13", 0, 1, 0xF2, 255);
+}
+
+fn read_unjudged() {
     read_zeros(b"protocol 1", 0, 1, 1, 0);
     read_zeros(b"protocol 15", 0, 1, 15, 0);
     read_zeros(b"id 0xFD, the last that an offer may have", 0, 0xFD, 2, 0);
@@ -245,5 +252,7 @@ pub fn run() {
     build_served();
     build_refused();
     read_served();
+    read_flags();
+    read_unjudged();
     read_other_lengths();
 }

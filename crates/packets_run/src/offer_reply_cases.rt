@@ -27,8 +27,10 @@ fn read(what: &[u8], p: &[u8]) {
     print::bytes(p);
     print::gives();
     let r = offers::reply::read_offer_reply(p);
-    print::refusal(r.verdict);
-    fields(r.reply);
+    let v = r.verdict;
+    print::refusal(v);
+    let x = r.reply;
+    fields(x);
     print::end();
 }
 

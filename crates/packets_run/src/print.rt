@@ -49,11 +49,15 @@ pub fn version(name: &[u8], v: Version) {
     decimal8(b".", v.variant());
 }
 
+fn byte(x: u8) {
+    hex8(b" ", x);
+}
+
 // Each byte behind a space.
 pub fn bytes(p: &[u8]) {
     let mut i = 0;
     while i < p.len() {
-        hex8(b" ", p[i]);
+        byte(p[i]);
         i += 1;
     }
 }

@@ -29,7 +29,8 @@ fn build(what: &[u8], r: VersionReply) {
     print::gives();
     let b = versions::build_version_reply(r);
     let p = b.packet;
-    print::refusal(b.verdict);
+    let v = b.verdict;
+    print::refusal(v);
     print::bytes(&p);
     print::end();
 }
@@ -39,8 +40,10 @@ fn read(what: &[u8], p: &[u8]) {
     print::bytes(p);
     print::gives();
     let r = versions::read_version_reply(p);
-    print::refusal(r.verdict);
-    fields(r.reply);
+    let v = r.verdict;
+    print::refusal(v);
+    let x = r.reply;
+    fields(x);
     print::end();
 }
 
@@ -105,14 +108,20 @@ fn build_served() {
     build(b"no component", seven(0, 2, none()));
     build(b"no component, the rest set", seven(0, 2, largest()));
     build(b"one component, the rest set", seven(1, 2, largest()));
+}
+
+fn build_sevens() {
     build(b"seven of the smallest", seven(7, 2, none()));
     build(b"seven of the largest", seven(7, 2, largest()));
     build(b"seven different ones", different());
 }
 
-fn build_refused() {
+fn build_other_counts() {
     build(b"count 8", seven(8, 2, largest()));
     build(b"count 255", seven(255, 2, largest()));
+}
+
+fn build_other_protocols() {
     build(b"protocol 0", seven(7, 0, largest()));
     build(b"protocol 1", seven(7, 1, largest()));
     build(b"protocol 3", seven(7, 3, largest()));
@@ -161,6 +170,9 @@ fn read_served() {
     read_case(b"no component", filled(0, 0, 2));
     read_case(b"no component, the rest set", filled(255, 0, 2));
     read_case(b"one component, the rest set", counting(1, 2));
+}
+
+fn read_sevens() {
     read_case(b"seven of the smallest", filled(0, 7, 2));
     read_case(
         b"seven of the largest, reserved bits set",
@@ -257,8 +269,11 @@ const COUNTING: [u8; 60] = [
 
 pub fn run() {
     build_served();
-    build_refused();
+    build_sevens();
+    build_other_counts();
+    build_other_protocols();
     read_served();
+    read_sevens();
     read_refused();
     read_other_lengths();
 }

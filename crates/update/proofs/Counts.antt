@@ -24,7 +24,7 @@ use Rattle.host.specs.declared.answer.Action.the-variants.{Notify, Offer, Block
 use Rattle.host.specs.declared.answer.Move.{Move}
 use Rattle.update.specs.Trace as trace
 use Rattle.update.specs.Trace.{Exchange, opensPass, passesIn, completedIn}
-use Rattle.update.specs.Ends.{heardAs, talk, completedOf, HostCounts}
+use Rattle.update.specs.Ends.{heardAs, talk, completedOf, HostCounts, HostTallies}
 use Rattle.update.proofs.Moves.{isTaken, opening-cases, listing-cases, offering-cases, waiting-cases, closing-cases, sending-cases, offer-cases}
 use Rattle.update.proofs.Mask.{no-bit, with-bit, onesBelow, ones-below}
 use Rattle.update.proofs.Packets.{offer-opens, offer-completes, offer-about, block-opens, block-about, block-completes}
@@ -247,3 +247,8 @@ host-counts b token replies k bytes s t e =
       bits = m;
       ones = ones-below (h .mask) (countIn b) (r .mask) ∙ ones-shown b (talk b token replies k .trace) (h .mask) (countIn b) m;
     }
+
+-- at every step the packets and passes are those of the list sent
+pub host-tallies : HostTallies
+host-tallies b token replies k bytes s t =
+    let w = known-at b token replies (accepted b bytes s) s t k in (w .packets, w .passes)

@@ -8,8 +8,7 @@ use Rattle.wire.specs.Checks.{firstOf}
 use Rattle.bundle.specs.Rows as bundle
 use Rattle.device.specs.Refusals.{breaksD1}
 use Rattle.device.specs.declared.record.Device.{Device}
-use Rattle.host.specs.Record.{freshHost, reportOf}
-use Rattle.host.specs.declared.answer.Report.{Report}
+use Rattle.host.specs.Record.{freshHost, Reported, reportOf, toldReport}
 use Rattle.update.specs.declared.RunRefusal.{RunRefusal}
 use Rattle.update.specs.declared.RunRefusal.the-variants as refusal
 use Rattle.update.specs.declared.RunAnswer.{RunAnswer}
@@ -21,25 +20,21 @@ pub data Row : Type 0 where
   B : (number entry : ℕ) → Row
   D : ℕ → Row
 
-abbrev pub bundleRow : bundle.Row → Row
-bundleRow bundle.served = served
-bundleRow (bundle.B k entry) = B k entry
-
 abbrev pub rowOf : RunRefusal → Row
 rowOf refusal.Served = served
-rowOf (refusal.Bundle verdict place) = bundleRow (bundle.rowOf verdict place)
+rowOf (refusal.Bundle verdict place) = B (bundle.numberOf verdict) place
 rowOf refusal.D1 = D 1
 rowOf refusal.D2 = D 2
 
 -- what a run answers: its row, the report, the next record, and every byte of the staging buffer
 pub record Ran : Type 0 where
   pub row : Row
-  pub report : Report
+  pub report : Reported
   pub device : Device
   pub staging : List ℕ
 
 -- the report of a host that has sent nothing
-abbrev pub unsent : (token : ℕ) → Report
+abbrev pub unsent : (token : ℕ) → Reported
 unsent token = reportOf (freshHost token)
 
 -- a refused run: nothing sent and nothing changed
@@ -67,4 +62,4 @@ runOf b token d staging = ranBy (firstRow (bundle.bundleRow b) d staging) b toke
 
 -- what an answer tells, with the staging buffer as it was left
 abbrev pub told : RunAnswer → (staging : List ℕ) → Ran
-told a staging = record { row = rowOf (a .refusal); report = a .report; device = a .device; staging = staging }
+told a staging = record { row = rowOf (a .refusal); report = toldReport (a .report); device = a .device; staging = staging }

@@ -14,13 +14,15 @@ use Rattle.bundle.specs.Rows as rows
 use Rattle.device.specs.Record.{FitsDevice, find, part}
 use Rattle.device.specs.Refusals as deviceRows
 use Rattle.device.specs.declared.record.Device.{Device}
+use Rattle.host.specs.Record as ending
+use Rattle.host.specs.Record.{reportOf}
 use Rattle.host.specs.Step as hostStep
 use Rattle.host.specs.Step.{entryAt, blocksAt}
 use Rattle.host.specs.declared.record.HostStage.the-variants.{Ended}
 use Rattle.host.specs.declared.record.End.the-variants.{Done}
 use Rattle.update.specs.Trace.{passesIn, completedIn}
 use Rattle.update.specs.Run.{System, answerTo, run, start, recordsIn, lastOf}
-use Rattle.update.specs.Ends.{Counted}
+use Rattle.update.specs.Ends.{Counted, completedOf}
 use Rattle.update.specs.Claim.{offerAt, Set, Good, Smallest, Leaves, Fills}
 
 -- the premise: a device state and a staging buffer that pass D1 and D2, a bundle that the check accepts, and a good body for each component that the
@@ -73,6 +75,14 @@ pub record Demand (b : List ℕ) (token : ℕ) (d : Device) (staging reply : Lis
   pub passes : passesIn (s .trace) ≤ countIn b
   pub packets : length (s .trace) ≤ 1 + countIn b * (countIn b + 2) + recordsIn b
   pub counts : Counted b (s .host) (s .trace)
+  pub report : reportOf (s .host)
+      ≡ record {
+        completed = completedOf b (s .trace) (countIn b);
+        mask = s .host .mask;
+        packets = length (s .trace);
+        passes = passesIn (s .trace);
+        ending = ending.done;
+      }
   -- what was staged is the smallest closed set
   pub smallest : Smallest d b (stagedIn b s)
   -- each image is staged under its offered version, and fills its region; nothing else changes

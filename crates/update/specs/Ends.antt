@@ -71,10 +71,16 @@ pub record Ends (b : List ℕ) (token : ℕ) (replies : ℕ → List ℕ) : Type
   -- every packet is one that P2 allows
   pub built : (k : ℕ) → AllBuilt (stepOf b (talk b token replies k .host) (replies k) .sent)
 
--- once it has ended, the counts are those of the list sent
 abbrev pub HostEnds : Type 0
 HostEnds = (b : List ℕ) (token : ℕ) (replies : ℕ → List ℕ) → Bytes b → bundle.bundleRow b ≡ bundle.served → token < 256 → Ends b token replies
 
+-- at every step the packets and passes of the record are those of the list sent
+abbrev pub HostTallies : Type 0
+HostTallies = (b : List ℕ) (token : ℕ) (replies : ℕ → List ℕ) (k : ℕ) → Bytes b → bundle.bundleRow b ≡ bundle.served → token < 256
+    → (talk b token replies k .host .packets ≡ length (talk b token replies k .trace))
+    × (talk b token replies k .host .passes ≡ passesIn (talk b token replies k .trace))
+
+-- once it has ended, and so has heard every reply of the list, all its counts are those of the list sent
 abbrev pub HostCounts : Type 0
 HostCounts = (b : List ℕ) (token : ℕ) (replies : ℕ → List ℕ) (k : ℕ) → Bytes b → bundle.bundleRow b ≡ bundle.served → token < 256
     → hasEnded (talk b token replies k .host .stage) ≡ true

@@ -4,4 +4,4 @@ pub mod Answer
 pub mod Ends
 pub mod Claim
 pub mod Demand
-pub mod Example
+pub mod Bench

@@ -73,7 +73,8 @@ recordsFrom b (e ∷ es) = length (blocksIn b e) + recordsFrom b es
 abbrev pub recordsIn : List ℕ → ℕ
 recordsIn b = recordsFrom b (entriesIn b)
 
--- within so many steps every host ends, whatever it hears: n offers, r records
+-- within so many steps every host ends, whatever it hears: code 0 and the step that ends; in each of n passes code 1, code 2, r blocks, and for each
+-- of n offers nine offers and eight notifies
 abbrev pub stepBound : (n r : ℕ) → ℕ
 stepBound n r = 2 + n * (17 * n + 2 + r)
 

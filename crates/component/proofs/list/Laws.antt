@@ -1,6 +1,6 @@
 -- Where a component is found: in a listed slot that has its id, and, where ids do not repeat, in the only one. Assumes nothing.
 use mathlib.Core.Path.{_≡_, refl, sym, ap, _∙_}
-use mathlib.Core.Bool.{Bool, true, false, true≢false}
+use mathlib.Core.Bool.{Bool, true, false}
 use mathlib.Core.List.{List, [], _∷_, map}
 use Prim.Native.Nat.{ℕ, suc, _+_, _-_, _≤_, _<_}
 use native.Mathlib.Nat.{sub-zero, min-le-left, min-le-right}
@@ -10,7 +10,7 @@ use borrow.Author.Tests.{eqb-true, eqb-false}
 use lib.Dec.{eqb}
 use lib.ListN.{length, take, getD, length-take}
 use lib.Seq.{getD-take}
-use Rattle.wire.specs.Checks.{any, pairs}
+use Rattle.wire.specs.Checks.{any}
 use Rattle.component.specs.Record.{blankComponent}
 use Rattle.component.specs.Lists.{firstFrom, find, partAt}
 use Rattle.component.specs.Setup.{badId, badIds}

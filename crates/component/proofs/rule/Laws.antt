@@ -1,16 +1,14 @@
 -- How the three rules on versions follow from each other, and that none of them reads what is staged. Assumes nothing.
-use mathlib.Core.Path.{_≡_, refl, sym}
+use mathlib.Core.Path.{_≡_, refl}
 use mathlib.Core.Bool.{Bool, true, false, cond}
 use Prim.Native.Nat.{_≤_, _<_}
 use native.Mathlib.Omega.{arith}
 use borrow.Author.Tests.{leb-false, le-leb}
-use lib.Dec.{leb}
 use Rattle.wire.specs.Version.{releaseOf}
 use Rattle.wire.specs.declared.version.Version.{Version}
 use Rattle.component.specs.Record.{withStaged}
 use Rattle.component.specs.Versions.{offerVersion, imageVersionFits, stagedVersionFits, keepsStaged}
 use Rattle.component.specs.declared.record.Component.{Component}
-use Rattle.component.specs.declared.rule.VersionVerdict.{VersionVerdict}
 use Rattle.component.specs.declared.rule.VersionVerdict.the-variants.{Fits, Old}
 
 fits-tested : (b : Bool) → cond b Old Fits ≡ Fits → b ≡ false

@@ -10,7 +10,8 @@ use lib.Dec.{leb}
 use lib.ListN.{length, getD, take, drop, replicate, length-append, length-take, length-drop, length-replicate}
 use lib.Seq.{take-all, length-take-le}
 use Rattle.wire.specs.Bytes.{Packet, bytesAt, copyOf}
-use Rattle.wire.specs.Rows.{served, P, Told}
+use Rattle.wire.specs.Rows.{served}
+use Rattle.wire.proofs.Tests.{served-true}
 use Rattle.wire.proofs.words.Laws.{round, back, split}
 use Rattle.contents.specs.declared.content.ContentFields.{ContentFields}
 use Rattle.contents.specs.Content.{FitsContent, allowed, usedOf, cleared, contentBytes, buildOf, fieldsIn, readOf, norm, cleanContent}
@@ -97,14 +98,7 @@ clean-fields p k = simp (clean p k, cleared-twice)
 -- where building is not refused, the packet is what is built
 built : (c : ContentFields) → buildOf c .row ≡ served → buildOf c .value ≡ contentBytes c
 unfolding buildOf
-built c = go (allowed (c .flags) (c .length))
-  where
-    told : Bool → Told (List ℕ)
-    told b = cond b (record { row = served; value = contentBytes c }) (record { row = P 2; value = replicate 60 0 })
-
-    go : (b : Bool) → told b .row ≡ served → told b .value ≡ contentBytes c
-    go true h = refl
-    go false h = cc
+built c h = rw (served-true (allowed (c .flags) (c .length)) (contentBytes c) (replicate 60 0) 2 h)
 
 -- what is built reads back
 pub content-r1 : ContentR1

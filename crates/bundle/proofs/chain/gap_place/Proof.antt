@@ -1,0 +1,110 @@
+-- `chain::gap_place`: the entries that are left, from where the body before ends, give the answer for all. Assumes nothing.
+use mathlib.Core.Path.{_≡_, ap, _∙_}
+use Prim.Native.Nat.{_+_, _-_, _≤_}
+use native.Mathlib.Omega.{arith}
+use borrow.Author.Needs.{needs}
+use borrow.Author.Tests.{eq-eqb, ne-eqb}
+use lib.ListN.{length, drop}
+use Rattle.bundle.specs.Layout.{entriesIn, offsetIn, lengthIn}
+use Rattle.bundle.specs.Rows.{gap, rowB7}
+use Rattle.bundle.proofs.table.Laws.{entryAt}
+use Rattle.bundle.proofs.chain.Laws.{gap-here, gap-on, gap-end}
+use Rattle.bundle.proofs.chain.gap_place.Statement.{statement}
+use Rattle.bundle.proofs.chain.gap_place.Tie as tie
+
+abbrev Inv-loop : tie.InvT-loop
+Inv-loop b count at₀ i₀ at i = (gap (length b) at (i + 1) (drop i (entriesIn b)) ≡ rowB7 b) × (i ≤ count)
+
+abbrev μ-loop : tie.MeasureT-loop
+μ-loop b count at₀ i₀ at i = count - i
+
+-- where the body of this turn's entry starts, and its length
+starts : (c : tie.After-wide Inv-loop μ-loop) → c .wide .result ≡ offsetIn (entryAt (c .before .before .before .before .before .before .before .before .args .b .now) (c .before .before .before .before .loop .i))
+starts c = c .wide .ensures ∙ c .before .offset-in .ensures ∙ ap offsetIn (c .before .before .entry-at .ensures .0)
+
+ends : (c : tie.After-wide2 Inv-loop μ-loop) → c .wide2 .result ≡ lengthIn (entryAt (c .before .before .before .before .before .before .before .before .before .before .before .args .b .now) (c .before .before .before .before .before .before .before .loop .i))
+ends c = c .wide2 .ensures ∙ c .before .length-in .ensures ∙ ap lengthIn (c .before .before .before .before .before .entry-at .ensures .0)
+
+shared-slice-read-count : tie.Need-shared-slice-read-count Inv-loop μ-loop
+shared-slice-read-count c = search needs
+
+table-end-requires : tie.Need-table-end-requires Inv-loop μ-loop
+table-end-requires c κs = search needs
+
+loop-holds : tie.Need-loop-holds Inv-loop μ-loop
+unfolding rowB7
+loop-holds c = (rw (c .table-end .ensures), omega arith)
+
+entry-at-requires : tie.Need-entry-at-requires Inv-loop μ-loop
+entry-at-requires c κs = omega arith
+
+offset-in-requires : tie.Need-offset-in-requires Inv-loop μ-loop
+offset-in-requires c κs = search needs
+
+wide-requires : tie.Need-wide-requires Inv-loop μ-loop
+wide-requires c κs = search needs
+
+add-result : tie.Need-add-result Inv-loop μ-loop
+add-result c = search needs
+
+returns : tie.Need-returns Inv-loop μ-loop
+returns c =
+    let l = c .before .before .before .before .before .loop in
+    gap-here _ _ (l .at) (l .i) (omega arith) (rw (← starts (c .before)) (ne-eqb _ _ (c .if1 .taken))) ∙ l .inv .0
+
+length-in-requires : tie.Need-length-in-requires Inv-loop μ-loop
+length-in-requires c κs = search needs
+
+wide-requires-2 : tie.Need-wide-requires-2 Inv-loop μ-loop
+wide-requires-2 c κs = search needs
+
+add-at : tie.Need-add-at Inv-loop μ-loop
+add-at c = search needs
+
+add-i : tie.Need-add-i Inv-loop μ-loop
+add-i c = search needs
+
+loop-less : tie.Need-loop-less Inv-loop μ-loop
+loop-less c = search needs
+
+loop-again : tie.Need-loop-again Inv-loop μ-loop
+loop-again c =
+    let l = c .before .before .before .before .before .before .before .loop in
+    let s = starts (c .before .before .before) in
+    let z = ends c in
+    (rw (s, z) (gap-on _ _ (l .at) (l .i) (omega arith) (rw (← s) (eq-eqb _ _ (c .before .before .if1 .left)))) ∙ l .inv .0, omega arith)
+
+returns-2 : tie.Need-returns-2 Inv-loop μ-loop
+returns-2 c =
+    let l = c .before .before .loop in
+    let b = c .before .before .before .before .before .before .args .b .now in
+    (rw (eq-eqb _ _ (c .if2 .taken)) at (gap-end b (length b) (l .at) (l .i) (omega arith))) ∙ l .inv .0
+
+returns-3 : tie.Need-returns-3 Inv-loop μ-loop
+returns-3 c =
+    let l = c .before .before .loop in
+    let b = c .before .before .before .before .before .before .args .b .now in
+    (rw (ne-eqb _ _ (c .if2 .left)) at (gap-end b (length b) (l .at) (l .i) (omega arith))) ∙ l .inv .0
+
+pub gap-place-spec : {M : Type 1} → statement M
+gap-place-spec =
+    tie.close
+    (tie.spec
+    Inv-loop
+    μ-loop
+    shared-slice-read-count
+    table-end-requires
+    loop-holds
+    entry-at-requires
+    offset-in-requires
+    wide-requires
+    add-result
+    returns
+    length-in-requires
+    wide-requires-2
+    add-at
+    add-i
+    loop-less
+    loop-again
+    returns-2
+    returns-3)

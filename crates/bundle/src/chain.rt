@@ -1,0 +1,36 @@
+// Row B7: the bodies follow one another from the table's end to the file's end.
+ghost use mathlib.Core.Path.{_≡_};
+ghost use Prim.Native.Nat.{_≤_};
+ghost use lib.ListN.{length};
+ghost use Rattle.bundle.specs.Layout.{OFFER-LIMIT, countIn, tableEnd};
+ghost use Rattle.bundle.specs.Rows.{rowB7};
+use crate::head::table_end;
+use crate::table::entry_at;
+use crate::table::length_in;
+use crate::table::offset_in;
+
+fn wide(x: u32) -> usize
+    ensures { λ r. ⌜ r ≡ x ⌝ }
+{
+    x as usize
+}
+
+// B7: the first entry whose body does not start where the table or the previous body ends; the last entry where the last end is not the file's; or 0.
+pub fn gap_place(b: &[u8]) -> u8
+    requires { ⌜ (countIn (now b) ≤ OFFER-LIMIT) × (tableEnd (countIn (now b)) ≤ length (now b)) ⌝ }
+    ensures { λ r. ⌜ r ≡ rowB7 (now (b .entry)) ⌝ }
+{
+    let count = b[0];
+    let mut at = table_end(count);
+    let mut i: u8 = 0;
+    while i < count {
+        let e = entry_at(b, i);
+        let offset = wide(offset_in(e));
+        if offset != at {
+            return i + 1;
+        }
+        at = offset + wide(length_in(e));
+        i += 1;
+    }
+    if at == b.len() { 0 } else { count }
+}

@@ -1,0 +1,152 @@
+// Row B8, and the contents table: one walk over each body.
+ghost use mathlib.Core.Path.{_≡_};
+ghost use mathlib.Core.Bool.{false};
+ghost use mathlib.Core.List.{map, _++_};
+ghost use Prim.Native.Nat.{_+_, _-_, _≤_};
+ghost use lib.ListN.{length, take, drop, replicate};
+ghost use Rattle.offers.specs.Offer.{fieldsIn, blankOffer};
+ghost use Rattle.records.specs.Parse.{recordsOf, blocksOf};
+ghost use Rattle.bundle.specs.Layout.{BUNDLE-LIMIT, OFFER-LIMIT, ENTRY, countIn, tableEnd, entriesIn, offerIn, idIn, offsetIn, lengthIn};
+ghost use Rattle.bundle.specs.Rows.{rowB5, rowB7, rowB8, badOffer};
+ghost use Rattle.bundle.specs.Contents.{blankEntry, entryIn};
+use crate::BundleVerdict;
+use crate::Checked;
+use crate::Entry;
+use crate::table::entry_at;
+use crate::table::length_in;
+use crate::table::offset_in;
+use offers::kind::OfferPacket;
+use offers::kind::read_offer_packet;
+use offers::offer::OfferFields;
+use records::Tally;
+use records::walk::tally;
+use wire::version::Version;
+
+// What row B8 says (an entry, or 0), and the contents table where it says 0.
+pub struct Filled {
+    pub place: u8,
+    pub table: [Entry; 7],
+}
+
+fn no_offer() -> OfferFields
+    ensures { λ r. ⌜ r ≡ blankOffer ⌝ }
+{
+    OfferFields {
+        segment: 0,
+        force_immediate_reset: false,
+        force_ignore_version: false,
+        id: 0,
+        token: 0,
+        version: Version::new(0, 0, 0),
+        need: 0,
+        least: 0,
+        protocol: 0,
+        platform: 0,
+    }
+}
+
+fn no_entry() -> Entry
+    ensures { λ r. ⌜ r ≡ blankEntry ⌝ }
+{
+    let offer = no_offer();
+    Entry {
+        offer: offer,
+        offset: 0,
+        length: 0,
+        records: 0,
+    }
+}
+
+fn no_entries() -> [Entry; 7]
+    ensures { λ r. ⌜ r ≡ replicate OFFER-LIMIT blankEntry ⌝ }
+{
+    let none = no_entry();
+    [none; 7]
+}
+
+// A refusal: its row and entry, with no contents.
+pub fn refused(verdict: BundleVerdict, place: u8) -> Checked
+    ensures { λ r. ⌜ r ≡ record { verdict = verdict; place = place; count = 0; table = replicate OFFER-LIMIT blankEntry } ⌝ }
+{
+    let none = no_entries();
+    Checked {
+        verdict: verdict,
+        place: place,
+        count: 0,
+        table: none,
+    }
+}
+
+// The fields of 16 bytes that row B5 allows, by the one reader of the offer channel.
+fn offer_in(p: &[u8]) -> OfferFields
+    requires { ⌜ (length (now p) ≡ 16) × (idIn (now p) ≤ 0xDF) ⌝ }
+    ensures { λ r. ⌜ r ≡ fieldsIn (now (p .entry)) ⌝ }
+{
+    let k = read_offer_packet(p);
+    match k {
+        OfferPacket::Refused => no_offer(),
+        OfferPacket::Offer(o) => o,
+        OfferPacket::Information(_) => no_offer(),
+        OfferPacket::Extended(_) => no_offer(),
+    }
+}
+
+// How many records the body of `size` bytes at `offset` has, 0 where it is broken.
+fn records_in(b: &[u8], offset: u32, size: u32) -> u32
+    requires { ⌜ (offset + size ≤ length (now b)) × (length (now b) ≤ BUNDLE-LIMIT) ⌝ }
+    ensures { λ r. ⌜ r ≡ length (blocksOf (recordsOf (take size (drop offset (now (b .entry)))))) ⌝ }
+{
+    let at = offset as usize;
+    let end = at + size as usize;
+    let t = tally(b, at, end);
+    match t {
+        Tally::Broken => 0,
+        Tally::Records(n) => n as u32,
+    }
+}
+
+// An entry of the contents table, of an entry that rows B5 and B7 allow.
+fn contents_in(b: &[u8], e: &[u8]) -> Entry
+    requires { ⌜ (length (now e) ≡ ENTRY) × (badOffer (now e) ≡ false) ⌝ }
+    requires { ⌜ (offsetIn (now e) + lengthIn (now e) ≤ length (now b)) × (length (now b) ≤ BUNDLE-LIMIT) ⌝ }
+    ensures { λ r. ⌜ r ≡ entryIn (now (b .entry)) (now (e .entry)) ⌝ }
+{
+    let offer = offer_in(&e[0..16]);
+    let offset = offset_in(e);
+    let size = length_in(e);
+    let records = records_in(b, offset, size);
+    Entry {
+        offer: offer,
+        offset: offset,
+        length: size,
+        records: records,
+    }
+}
+
+// B8: the first entry whose body is empty or broken, or 0; then the contents table.
+pub fn contents_of(b: &[u8]) -> Filled
+    requires { ⌜ (countIn (now b) ≤ OFFER-LIMIT) × (tableEnd (countIn (now b)) ≤ length (now b)) × (length (now b) ≤ BUNDLE-LIMIT) ⌝ }
+    requires { ⌜ (rowB5 (now b) ≡ 0) × (rowB7 (now b) ≡ 0) ⌝ }
+    ensures { λ r. ⌜ r .place ≡ rowB8 (now (b .entry)) ⌝ }
+    ensures { λ r. ⌜ (rowB8 (now (b .entry)) ≡ 0 → r .table ≡ map (entryIn (now (b .entry))) (entriesIn (now (b .entry))) ++ replicate (OFFER-LIMIT - countIn (now (b .entry))) blankEntry) ⌝ }
+{
+    let count = b[0];
+    let mut table = no_entries();
+    let mut i: u8 = 0;
+    while i < count {
+        let e = entry_at(b, i);
+        let x = contents_in(b, e);
+        if x.records == 0 {
+            return Filled {
+                place: i + 1,
+                table: table,
+            };
+        }
+        table[i as usize] = x;
+        i += 1;
+    }
+    Filled {
+        place: 0,
+        table: table,
+    }
+}

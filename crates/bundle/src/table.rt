@@ -1,0 +1,108 @@
+// The table: an entry's parts, and rows B5 and B6.
+ghost use mathlib.Core.Path.{_≡_};
+ghost use Prim.Native.Nat.{_+_, _≤_};
+ghost use lib.Dec.{eqb};
+ghost use lib.ListN.{length, take, drop};
+ghost use Rattle.wire.specs.Checks.{any};
+ghost use Rattle.bundle.specs.Layout.{OFFER-LIMIT, ENTRY, countIn, tableEnd, entriesIn, idIn, offsetIn, lengthIn};
+ghost use Rattle.bundle.specs.Rows.{badOffer, rowB5, rowB6};
+use crate::head::table_end;
+use crate::limits::ENTRY;
+use wire::codes::PROTOCOL;
+use wire::words;
+
+// The 24 bytes of entry i, counted from 0.
+pub fn entry_at(b: &[u8], i: u8) -> &[u8]
+    requires { ⌜ tableEnd (i + 1) ≤ length (now b) ⌝ }
+    ensures { λ r. ⌜ (now r ≡ take ENTRY (drop (tableEnd i) (now (b .entry)))) × (length (now r) ≡ ENTRY) ⌝ }
+{
+    let at = table_end(i);
+    let end = at + ENTRY;
+    &b[at..end]
+}
+
+// Of an entry: its offer's id, its body's offset and length.
+pub fn id_in(e: &[u8]) -> u8
+    requires { ⌜ length (now e) ≡ ENTRY ⌝ }
+    ensures { λ r. ⌜ r ≡ idIn (now (e .entry)) ⌝ }
+{
+    e[2]
+}
+
+pub fn offset_in(e: &[u8]) -> u32
+    requires { ⌜ length (now e) ≡ ENTRY ⌝ }
+    ensures { λ r. ⌜ r ≡ offsetIn (now (e .entry)) ⌝ }
+{
+    words::word32(e[16], e[17], e[18], e[19])
+}
+
+pub fn length_in(e: &[u8]) -> u32
+    requires { ⌜ length (now e) ≡ ENTRY ⌝ }
+    ensures { λ r. ⌜ r ≡ lengthIn (now (e .entry)) ⌝ }
+{
+    words::word32(e[20], e[21], e[22], e[23])
+}
+
+// B5 of an entry: bytes 0, 1, 3 or 13 not zero, byte 12 not 2, or id outside 1-0xDF.
+fn bad_offer(e: &[u8]) -> bool
+    requires { ⌜ length (now e) ≡ ENTRY ⌝ }
+    ensures { λ r. ⌜ r ≡ badOffer (now (e .entry)) ⌝ }
+{
+    (e[0] != 0)
+        | (e[1] != 0)
+        | (e[3] != 0)
+        | (e[13] != 0)
+        | (e[12] != PROTOCOL)
+        | (e[2] < 1)
+        | (0xDF < e[2])
+}
+
+// B5: the first entry with a bad offer, or 0.
+pub fn bad_offer_place(b: &[u8]) -> u8
+    requires { ⌜ (countIn (now b) ≤ OFFER-LIMIT) × (tableEnd (countIn (now b)) ≤ length (now b)) ⌝ }
+    ensures { λ r. ⌜ r ≡ rowB5 (now (b .entry)) ⌝ }
+{
+    let count = b[0];
+    let mut i: u8 = 0;
+    while i < count {
+        let e = entry_at(b, i);
+        if bad_offer(e) {
+            return i + 1;
+        }
+        i += 1;
+    }
+    0
+}
+
+// Has one of the first n entries this id?
+fn is_used(b: &[u8], n: u8, id: u8) -> bool
+    requires { ⌜ (n ≤ countIn (now b)) × (countIn (now b) ≤ OFFER-LIMIT) × (tableEnd (countIn (now b)) ≤ length (now b)) ⌝ }
+    ensures { λ r. ⌜ r ≡ any (λ e. eqb id (idIn e)) (take n (entriesIn (now (b .entry)))) ⌝ }
+{
+    let mut i: u8 = 0;
+    while i < n {
+        let e = entry_at(b, i);
+        if id == id_in(e) {
+            return true;
+        }
+        i += 1;
+    }
+    false
+}
+
+// B6: the first entry whose id an earlier one has, or 0.
+pub fn repeated_place(b: &[u8]) -> u8
+    requires { ⌜ (countIn (now b) ≤ OFFER-LIMIT) × (tableEnd (countIn (now b)) ≤ length (now b)) ⌝ }
+    ensures { λ r. ⌜ r ≡ rowB6 (now (b .entry)) ⌝ }
+{
+    let count = b[0];
+    let mut i: u8 = 0;
+    while i < count {
+        let e = entry_at(b, i);
+        if is_used(b, i, id_in(e)) {
+            return i + 1;
+        }
+        i += 1;
+    }
+    0
+}

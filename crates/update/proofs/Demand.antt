@@ -5,6 +5,7 @@ use mathlib.Core.Logic.{inl, inr, _↔_}
 use mathlib.Core.Bool.{true, false, _&&_, true≢false}
 use mathlib.Core.List.{List}
 use lib.Dec.{T, T-not}
+use lib.ListN.{length}
 use Rattle.wire.specs.Bytes.{Bytes}
 use Rattle.offers.specs.declared.offer.OfferFields.{OfferFields}
 use Rattle.component.specs.Record.{isPending}
@@ -17,14 +18,20 @@ use Rattle.bundle.specs.Rows as rows
 use Rattle.bundle.proofs.Accepted.{Accepted, accepted}
 use Rattle.device.specs.Record.{find, part, toIdle}
 use Rattle.device.specs.declared.record.Device.{Device}
-use Rattle.device.proofs.Passes as d1
+use Rattle.host.specs.Record as ending
+use Rattle.host.specs.Record.{reportOf}
 use Rattle.host.specs.Step.{blocksAt}
+use Rattle.host.specs.declared.record.Host.{Host}
+use Rattle.host.specs.declared.record.HostStage.the-variants.{Ended}
+use Rattle.host.specs.declared.record.End.the-variants.{Done}
+use Rattle.update.specs.Trace.{Exchange, passesIn}
+use Rattle.update.specs.Ends.{Counted, completedOf}
 use Rattle.update.specs.Run.{System, lastOf}
 use Rattle.update.specs.Claim.{offerAt, Good, isEligible, Closed, Smallest, Leaves}
 use Rattle.update.specs.Demand.{Premise, stagedIn, Reordered, Same, DemandThree}
 use Rattle.update.proofs.Eligible.{eligible-says}
 use Rattle.update.proofs.Landed.{same-slot, one-offer}
-use Rattle.update.proofs.Filled.{fills-same}
+use Rattle.update.proofs.Filled.{fine-setup, fills-same}
 use Rattle.update.proofs.Whole.{Core, core}
 use Rattle.update.proofs.Orders.{flip, same-offer, same-blocks, same-set, same-leaves, same-fills, leaves-same}
 
@@ -55,6 +62,19 @@ state-form b α d X d′ s h i k l f = (forth, back)
         (λ t. absurd (true≢false (sym (p .1) ∙ ap (λ (c : Component). isPending (c .staged))
         (h .others k (λ j m u g. T-not (X i) t (subst (λ (n : ℕ). T (X n)) (one-offer b α d j i k m l g f) u))) ∙ p .0)))
 
+-- the report of a host that is done
+reports : (b : List ℕ) (h : Host) (trace : List Exchange) → Counted b h trace → h .stage ≡ Ended Done
+    → reportOf h
+    ≡ record {
+      completed = completedOf b trace (countIn b);
+      mask = h .mask;
+      packets = length trace;
+      passes = passesIn trace;
+      ending = ending.done;
+    }
+unfolding reportOf
+reports b h trace c e = rw (c .ones, c .packets, c .passes, e)
+
 -- the premise goes along with the order
 reordered : (b b′ : List ℕ) (token token′ : ℕ) (d : Device) (staging : List ℕ) → Premise b token d staging → Bytes b′ → token′ < 256 → rows.bundleRow b′ ≡ rows.served
     → Reordered b b′ → Premise b′ token′ d staging
@@ -84,6 +104,7 @@ demand-three b token d staging reply P =
       passes = c .passes;
       packets = c .packets;
       counts = c .counts;
+      report = reports b (s .host) (s .trace) (c .counts) (c .done);
       smallest = c .smallest;
       device = c .device;
       bytes = c .bytes;
@@ -107,7 +128,7 @@ demand-three b token d staging reply P =
           set = same;
           device = sym (leaves-same b α d (stagedIn b s) (s .device) (s′ .device) (c .device) (same-leaves b b′ π d (stagedIn b s) (stagedIn b′ s′) same (s′ .device) (c′ .device)));
           staging =
-              sym (fills-same b α d (P .fits .slots) (d1.fine _ (d1.passes d (P .d1) .setup)) staging (P .d2) (stagedIn b s) (s .staging) (s′ .staging) (c .bytes)
+              sym (fills-same b α d (P .fits .slots) (fine-setup d (P .d1)) staging (P .d2) (stagedIn b s) (s .staging) (s′ .staging) (c .bytes)
               (same-fills b b′ π d (stagedIn b s) (stagedIn b′ s′) same staging (s′ .staging) (c′ .bytes)));
         }
       where

@@ -2,7 +2,7 @@
 use Prim.Native.Nat.{ℕ, _+_, _-_, _≤_, _<_}
 use mathlib.Core.Path.{_≡_, refl, sym, ap, subst, _∙_}
 use mathlib.Core.Logic.{_⊎_, inl, inr}
-use mathlib.Core.Bool.{Bool, true, false, not, _&&_}
+use mathlib.Core.Bool.{Bool, true, false, not, _&&_, true≢false}
 use mathlib.Core.List.{List, [], _∷_}
 use native.Mathlib.Decide.{ℕ-discrete}
 use native.Mathlib.Omega.{arith}
@@ -14,7 +14,8 @@ use Rattle.image.specs.Region.{within, regionBytes, blank}
 use Rattle.image.specs.declared.region.Region.{Region}
 use Rattle.image.proofs.region.Within.{region-byte, blank-length, put-length, within-length, within-own, within-out, within-apart}
 use Rattle.component.specs.Setup.{setupVerdict}
-use Rattle.component.specs.declared.setup.SetupVerdict.the-variants.{Fine}
+use Rattle.component.specs.declared.setup.SetupVerdict.{SetupVerdict}
+use Rattle.component.specs.declared.setup.SetupVerdict.the-variants.{Fine, S1, S2, S3, S4}
 use Rattle.component.specs.declared.list.Found.{Found}
 use Rattle.component.specs.declared.list.Found.the-variants as found
 use Rattle.component.proofs.setup.Laws.{fine-region, fine-apart}
@@ -24,10 +25,23 @@ use Rattle.passes.proofs.Sets.{ins-old, ins-new, Some, some-out, some-in}
 use Rattle.bundle.specs.Layout.{countIn}
 use Rattle.bundle.proofs.Accepted.{Accepted}
 use Rattle.device.specs.Record.{find, part}
+use Rattle.device.specs.Refusals.{refusesSetup, breaksD1}
 use Rattle.device.specs.declared.record.Device.{Device}
+use Rattle.device.proofs.Passes.{passes}
 use Rattle.host.specs.Step.{blocksAt}
 use Rattle.update.specs.Claim.{offerAt, writes, imageOf, Inside, Untouched, Fills}
 use Rattle.update.proofs.Landed.{same-slot, numbered, below-count, at-slot, one-offer}
+
+-- what D1 lets pass, set-up finds fine
+pub fine-setup : (d : Device) → breaksD1 d ≡ false → setupVerdict (d .«staging_len») (d .count) (d .parts) ≡ Fine
+fine-setup d h = go (setupVerdict (d .«staging_len») (d .count) (d .parts)) (passes d h .setup)
+  where
+    go : (v : SetupVerdict) → refusesSetup v ≡ false → v ≡ Fine
+    go Fine e = refl
+    go S1 e = absurd (true≢false e)
+    go S2 e = absurd (true≢false e)
+    go S3 e = absurd (true≢false e)
+    go S4 e = absurd (true≢false e)
 
 -- records that lie inside leave the length
 writes-length : (len : ℕ) (m : List ℕ) (rs : List Block) → length m ≡ len → Inside len rs → length (writes m rs) ≡ len

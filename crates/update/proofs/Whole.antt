@@ -21,7 +21,6 @@ use Rattle.bundle.specs.Contents.{blocksIn}
 use Rattle.bundle.proofs.Accepted.{accepted}
 use Rattle.device.specs.Record.{toIdle}
 use Rattle.device.specs.declared.record.Device.{Device}
-use Rattle.device.proofs.Passes as d1
 use Rattle.host.specs.Record.{hasEnded}
 use Rattle.host.specs.Step as hostStep
 use Rattle.host.specs.Step.{Step, stepOf}
@@ -34,6 +33,7 @@ use Rattle.update.specs.Claim.{offerAt, isMet, feeds, Closed, Within, Sm
 use Rattle.update.specs.Demand.{Premise, stagedIn, Turn}
 use Rattle.update.proofs.Leads.{Fine, steps}
 use Rattle.update.proofs.Landed.{offers, numbered, below-count}
+use Rattle.update.proofs.Filled.{fine-setup}
 use Rattle.update.proofs.Pass.{Given}
 use Rattle.update.proofs.Rounds.{Comes, comes-whole}
 use Rattle.update.proofs.Talks.{run-then, ended-sends, ended-stays, step-is, run-goes, ended-within, run-counts}
@@ -53,7 +53,7 @@ given b token d staging P =
       small = P .small;
       accepted = accepted b (P .bundle) (P .accepted);
       slots = P .fits .slots;
-      fine = d1.fine _ (d1.passes d (P .d1) .setup);
+      fine = fine-setup d (P .d1);
       d1 = P .d1;
       d2 = P .d2;
       len = λ k. P .fits .each k .region .len;

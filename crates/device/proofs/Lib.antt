@@ -10,3 +10,7 @@ pub mod Fitting
 pub mod Staging
 pub mod Turns
 pub mod Replies
+pub mod Calls
+pub mod Offering
+pub mod Blocks
+pub mod Opened

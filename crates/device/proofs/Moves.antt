@@ -2,10 +2,10 @@
 use mathlib.Core.Path.{_≡_, refl, sym}
 use mathlib.Core.Bool.{Bool, true, false, true≢false}
 use mathlib.Core.List.{List}
-use Prim.Native.Nat.{ℕ}
+use Prim.Native.Nat.{ℕ, _+_, _≤_}
 use lib.Dec.{eqb, leb}
 use lib.ListN.{length, getD, set}
-use borrow.Author.Tests.{not-false}
+use borrow.Author.Tests.{ltb-false, leb-true, not-false}
 use Rattle.wire.specs.Codes.{KIND-INFORMATION, KIND-EXTENDED, NOTIFY-ON-READY, INFO-START-ENTIRE-TRANSACTION, INFO-END-OFFER-LIST}
 use Rattle.wire.specs.declared.version.Version.{Version}
 use Rattle.offers.specs.Kind.{kindIn}
@@ -37,9 +37,9 @@ use Rattle.device.specs.declared.judged.ContentVerdict.the-variants.{Ref
 use Rattle.device.specs.Record.{find, part, isOpen, openSlot, inStage, owing, idleWith, toIdle}
 use Rattle.device.specs.Refusals.{Row, served, D, refusalOf, unlessRefused, Outcome}
 use Rattle.device.specs.Offer.{slotOf, isAbsent, rejections, offerVerdict, afterOffer, onOffer, onInformation, onNotify, onExtended, onKind, offerEntry}
-use Rattle.device.specs.Content.{atSlot, contentVerdict, takeBlock, isLast, finish, judge, goesOn, onBlock, onVerdict, contentEntry}
+use Rattle.device.specs.Content.{window, atSlot, contentVerdict, takeBlock, isLast, finish, judge, goesOn, onBlock, onVerdict, contentEntry}
 use Rattle.device.specs.Entries.{serveEntry}
-use Rattle.device.proofs.Chain.{first-says}
+use Rattle.device.proofs.Chain.{neither, first-says}
 
 -- what an entry can do to the record d, where the report is an offer or a signal, or content for this staging buffer
 pub data Move (d : Device) (staging report : List ℕ) : Device → Type 0 where
@@ -73,10 +73,10 @@ pub offer-says : (d : Device) (o : OfferFields) → OfferSays d o (offerVerdict 
 unfolding offerVerdict rejections
 offer-says d o = first-says (OfferSays d o) _ _ (tt, (tt, (tt, (tt, (tt, (tt, (tt, (tt, tt)))))))) (λ h. (there (find d (o .id)) (h .1 .1 .0), h .1 .1 .1 .1 .1 .0))
 
--- what a verdict on content tells: a block is taken for the slot that the session is open on, and lies in its region
+-- what a verdict on content tells: a block is taken for the slot that the session is open on, has at most 52 bytes, and lies in its region
 abbrev pub ContentSays : Device → ContentFields → ContentVerdict → Type 0
 ContentSays d c (Refuse s) = Unit {0}
-ContentSays d c (Take k) = openSlot (d .stage) ≡ found.At k
+ContentSays d c (Take k) = (openSlot (d .stage) ≡ found.At k) × (c .length ≤ 52) × (c .address .0 + c .length ≤ window d k .len)
 
 -- a session that is open is open on a slot
 pub open-at : (s : Stage) → isOpen s ≡ true → openSlot s ≡ found.At (atSlot s)
@@ -87,7 +87,11 @@ open-at (Receiving r) e = refl
 pub content-says : (d : Device) (c : ContentFields) → ContentSays d c (contentVerdict d c)
 unfolding contentVerdict
 content-says d c = first-says (ContentSays d c) _ _ (tt, (tt, (tt, (tt, (tt, tt)))))
-    (λ h. open-at (d .stage) (not-false (isOpen (d .stage)) (h .0)))
+    (λ q. (
+      open-at (d .stage) (not-false (isOpen (d .stage)) (q .0)),
+      ltb-false 52 (c .length) (neither (eqb (c .length) 0) _ (neither _ _ (q .1 .0) .0) .1),
+      leb-true _ _ (not-false _ (q .1 .1 .1 .1 .0)),
+    ))
 
 module _ (d : Device) (staging report : List ℕ) where
   after-offer : (v : OfferVerdict) → OfferSays d (offers.fieldsIn report) v → Move d staging report (afterOffer d (offers.fieldsIn report .token) v)
@@ -144,7 +148,7 @@ module _ (d : Device) (staging report : List ℕ) where
 
   after-content : (v : ContentVerdict) → ContentSays d (contents.fieldsIn report) v → Move d staging report (onVerdict d (contents.fieldsIn report) staging v .device)
   after-content (Refuse s) h = stays
-  after-content (Take k) h = after-block k h
+  after-content (Take k) h = after-block k (h .0)
 
   -- each entry for packets does one of the six
   pub serve-moves : (channel : Channel) → Move d staging report (serveEntry d channel staging report .device)

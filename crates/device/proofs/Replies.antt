@@ -82,8 +82,8 @@ module _ (d : Device) (c : ContentFields) (s : List ℕ) where
   verdict-sends (Refuse status) h = rw (stays-open (isOpen (d .stage)))
   verdict-sends (Take k) h = go (isLast c) refl where
     go : (b : Bool) → isLast c ≡ b → Sends d (onBlock d k c (takeBlock d k c s))
-    go true e = rw (e, is-open (d .stage) k h, judge-idles d k (imageIn (regionBytes (part d k .region) (takeBlock d k c s)) (part d k .id)))
-    go false e = rw (e, is-open (d .stage) k h)
+    go true e = rw (e, is-open (d .stage) k (h .0), judge-idles d k (imageIn (regionBytes (part d k .region) (takeBlock d k c s)) (part d k .id)))
+    go false e = rw (e, is-open (d .stage) k (h .0))
 
 pub content-replies : ContentReplies
 unfolding contentEntry

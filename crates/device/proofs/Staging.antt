@@ -5,8 +5,7 @@ use mathlib.Core.Logic.{_⊎_, inl, inr}
 use mathlib.Core.List.{List, _++_, append-nil}
 use Prim.Native.Nat.{ℕ, _+_, _-_, _≤_, _<_}
 use native.Mathlib.Omega.{arith}
-use borrow.Author.Tests.{leb-true, le-leb, ltb-false, not-false}
-use lib.Dec.{eqb}
+use borrow.Author.Tests.{le-leb}
 use lib.ListN.{length, getD, take, drop, length-append, length-take, length-drop, length-replicate, getD-replicate, drop-of-length-le, List·getD-append}
 use lib.Seq.{getD-append-add, getD-take, getD-drop, length-take-le}
 use Rattle.contents.specs.Content.{cleared, fieldsIn}
@@ -20,7 +19,7 @@ use Rattle.device.specs.declared.judged.ContentVerdict.the-variants.{Ref
 use Rattle.device.specs.Refusals.{Row, served, D, refusalOf}
 use Rattle.device.specs.Content.{isFirst, window, takeBlock, contentVerdict, contentEntry, contentStaging}
 use Rattle.device.specs.Promises.{Beside, Around, TakesBlock, StagingChanges}
-use Rattle.device.proofs.Chain.{either, neither, first-says}
+use Rattle.device.proofs.Chain.{either}
 use Rattle.device.proofs.Passes.{serves, open-slot, region-inside}
 use Rattle.device.proofs.Answers.{content-served}
 use Rattle.device.proofs.Moves.{ContentSays, content-says}
@@ -91,16 +90,6 @@ module _ (p : List ℕ) (h : fieldsIn p .length ≤ 52) (l : length p ≡ 60) wh
       let m : i < length (take n (drop 8 p)) = simp (length-take, length-drop) (omega arith) in
       getD-take n _ i 0 k ∙ List·getD-append (take n (drop 8 p)) _ 0 i m ∙ getD-take n (drop 8 p) i 0 k ∙ getD-drop 8 p i 0
 
--- what checks 2 and 5 leave of a block: at most 52 bytes, all in the region
-abbrev Fitting : Device → ContentFields → ContentVerdict → Type 0
-Fitting d c (Refuse s) = Unit {0}
-Fitting d c (Take k) = (c .length ≤ 52) × (c .address .0 + c .length ≤ window d k .len)
-
-fitting : (d : Device) (c : ContentFields) → Fitting d c (contentVerdict d c)
-unfolding contentVerdict
-fitting d c = first-says (Fitting d c) _ _ (tt, (tt, (tt, (tt, (tt, tt)))))
-    (λ q. (ltb-false 52 (c .length) (neither (eqb (c .length) 0) _ (neither _ _ (q .1 .0) .0) .1), leb-true _ _ (not-false _ (q .1 .1 .1 .1 .0))))
-
 -- the buffer that a block's data are written to
 abbrev before : Device → ℕ → ContentFields → List ℕ → List ℕ
 before d k c s = cond (isFirst c) (eraseOf (window d k) s) s
@@ -170,24 +159,24 @@ staging-changes d staging report f h = go (refusalOf 60 d (length staging) (leng
   Result : Type 0
   Result = (length (contentStaging d staging report) ≡ length staging) × ((contentStaging d staging report ≡ staging) ⊎ TakesBlock d staging report)
 
-  by-verdict : (v : ContentVerdict) → contentVerdict d c ≡ v → ContentSays d c v → Fitting d c v → refusalOf 60 d (length staging) (length report) ≡ served → Result
-  by-verdict (Refuse s) e says fit r = (rw (r, e), inl (rw (r, e)))
-  by-verdict (Take k) e says fit r =
+  by-verdict : (v : ContentVerdict) → contentVerdict d c ≡ v → ContentSays d c v → refusalOf 60 d (length staging) (length report) ≡ served → Result
+  by-verdict (Refuse s) e says r = (rw (r, e), inl (rw (r, e)))
+  by-verdict (Take k) e says r =
       let v = serves 60 d (length staging) (length report) r in
-      let i : isInside (window d k) (length staging) ≡ true = rw (v .staging) (region-inside d k (v .record-passes) (f .slots) (open-slot d k (v .record-passes) says .0)) in
-      let u = used-length report (fit .0) (v .report) in (
+      let i : isInside (window d k) (length staging) ≡ true = rw (v .staging) (region-inside d k (v .record-passes) (f .slots) (open-slot d k (v .record-passes) (says .0) .0)) in
+      let u = used-length report (says .1) (v .report) in (
         rw (r, e) (block-length d k c staging),
         inr (record {
           slot = k;
-          opened = says;
+          opened = says .0;
           row = rw r (content-served d c staging (contentVerdict d c));
           verdict = e;
-          written = λ j p q. rw (r, e) (block-in d k c staging i u (fit .1) j p q ∙ used-byte report (fit .0) (v .report) (j - c .address .0) (omega arith));
-          rest = λ j p o. rw (r, e) (block-rest d k c staging i u (fit .1) j p o);
-          beside = λ j o. rw (r, e) (block-beside d k c staging i u (fit .1) j o);
+          written = λ j p q. rw (r, e) (block-in d k c staging i u (says .2) j p q ∙ used-byte report (says .1) (v .report) (j - c .address .0) (omega arith));
+          rest = λ j p o. rw (r, e) (block-rest d k c staging i u (says .2) j p o);
+          beside = λ j o. rw (r, e) (block-beside d k c staging i u (says .2) j o);
         }),
       )
 
   go : (row : Row) → refusalOf 60 d (length staging) (length report) ≡ row → Result
-  go served r = by-verdict (contentVerdict d c) refl (content-says d c) (fitting d c) r
+  go served r = by-verdict (contentVerdict d c) refl (content-says d c) r
   go (D k) r = (rw r, inl (rw r))

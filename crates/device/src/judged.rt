@@ -2,6 +2,7 @@
 use wire::codes;
 ghost use mathlib.Core.Path.{_≡_};
 ghost use Rattle.device.specs.Offer.{statusOf, reasonOf};
+ghost use Rattle.device.specs.Content.{isWrong};
 
 // Of an offer: the first check that applies.
 pub enum OfferVerdict {
@@ -42,6 +43,17 @@ impl OfferVerdict {
 pub enum SequenceVerdict {
     Next,
     Wrong,
+}
+
+impl SequenceVerdict {
+    pub fn is_wrong(self) -> bool
+        ensures { λ r. ⌜ r ≡ isWrong self ⌝ }
+    {
+        match self {
+            SequenceVerdict::Next => false,
+            SequenceVerdict::Wrong => true,
+        }
+    }
 }
 
 // Of a content packet: the first check that applies.

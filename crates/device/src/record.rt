@@ -1,4 +1,5 @@
 // The device's record (document 01, "The device"): its session, and the one way it becomes idle.
+use crate::judged::SequenceVerdict;
 use component::list::Found;
 use component::record::Component;
 use component::record::Staged;
@@ -9,6 +10,7 @@ ghost use mathlib.Core.Path.{_≡_};
 ghost use lib.ListN.{set};
 ghost use Rattle.component.specs.Lists.{partAt};
 ghost use Rattle.component.specs.Record.{blankComponent};
+ghost use Rattle.device.specs.Content.{atToken, isReceiving, sequenceVerdict};
 ghost use Rattle.device.specs.Record.{isOpen, openSlot, owes, inStage, owing as owingOf, idleWith, toIdle, blankDevice};
 
 // An offer was accepted for the component in this slot.
@@ -68,6 +70,44 @@ impl Stage {
             Stage::Idle => Found::Nothing,
             Stage::Offered(o) => Found::At(o.slot),
             Stage::Receiving(r) => Found::At(r.slot),
+        }
+    }
+
+    // The token of the accepted offer, and 0 while idle.
+    pub fn token(self) -> u8
+        ensures { λ r. ⌜ r ≡ atToken self ⌝ }
+    {
+        match self {
+            Stage::Idle => 0,
+            Stage::Offered(o) => o.token,
+            Stage::Receiving(r) => r.token,
+        }
+    }
+
+    pub fn is_receiving(self) -> bool
+        ensures { λ r. ⌜ r ≡ isReceiving self ⌝ }
+    {
+        match self {
+            Stage::Idle => false,
+            Stage::Offered(_) => false,
+            Stage::Receiving(_) => true,
+        }
+    }
+
+    // While receiving the expected sequence, otherwise any.
+    pub fn sequence_verdict(self, sequence: u16) -> SequenceVerdict
+        ensures { λ r. ⌜ r ≡ sequenceVerdict self sequence ⌝ }
+    {
+        match self {
+            Stage::Idle => SequenceVerdict::Next,
+            Stage::Offered(_) => SequenceVerdict::Next,
+            Stage::Receiving(r) => {
+                if sequence == r.next {
+                    SequenceVerdict::Next
+                } else {
+                    SequenceVerdict::Wrong
+                }
+            }
         }
     }
 }

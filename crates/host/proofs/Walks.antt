@@ -1,7 +1,7 @@
 -- What stands at a place of a body, and what the records from there on are. Assumes nothing.
-use mathlib.Core.Path.{_≡_, refl, ap, subst, _∙_}
+use mathlib.Core.Path.{_≡_, refl, sym, ap, subst, _∙_}
 use mathlib.Core.Bool.{Bool, true, false, cond, _&&_}
-use mathlib.Core.List.{List, []}
+use mathlib.Core.List.{List, [], _∷_}
 use Prim.Native.Nat.{ℕ, _+_, _-_, _≤_}
 use native.Mathlib.Omega.{arith}
 use borrow.Author.Tests.{leb-true, le-leb}
@@ -66,3 +66,25 @@ module _ (bytes : List ℕ) (at end : ℕ) where
   pub says : Says (nextOf bytes at end)
   unfolding nextOf
   says = says-by _ _ refl refl
+
+  -- what a step finds where a record is due: it, and the place from which on the others stand
+  abbrev pub Goes : (x : Block) (xs : List Block) → Next → Type 0
+  Goes x xs End = ⊥
+  Goes x xs Bad = ⊥
+  Goes x xs (Record address start size next) =
+      (record { address = address; bytes = take size (drop start bytes) } ≡ x) × (next ≤ end) × (recordsOf (between bytes next end) ≡ whole xs)
+
+  -- the first record of some, and the rest
+  more-whole : (r : Block) (q : Parsed) (x : Block) (xs : List Block) → more r q ≡ whole (x ∷ xs) → (r ≡ x) × (q ≡ whole xs)
+  more-whole r (whole ts) x xs h = (cc, cc)
+  more-whole r broken x xs h = let z : _≡_ {A = ℕ} 0 1 = cc in absurd (omega arith)
+
+  goes-by : (x : Block) (xs : List Block) → at ≤ end → end ≤ length bytes → recordsOf (between bytes at end) ≡ whole (x ∷ xs) → (r : Next) → Says r → Goes x xs r
+  goes-by x xs l m q End h = let z : _≡_ {A = ℕ} 0 1 = cc in omega arith
+  goes-by x xs l m q Bad h = let k = h l m in let z : _≡_ {A = ℕ} 0 1 = cc in omega arith
+  goes-by x xs l m q (Record a start size next) h =
+      let w = more-whole (record { address = a; bytes = take size (drop start bytes) }) (recordsOf (between bytes next end)) x xs (sym (h .reads) ∙ q) in
+      (w .0, h .inside, w .1)
+
+  pub goes : (x : Block) (xs : List Block) → at ≤ end → end ≤ length bytes → recordsOf (between bytes at end) ≡ whole (x ∷ xs) → Goes x xs (nextOf bytes at end)
+  goes x xs l m q = goes-by x xs l m q (nextOf bytes at end) says

@@ -6,3 +6,4 @@ mod decide; // decide.rt: what the host does on a reply
 mod fits; // fits.rt: row N1, over the contents of a bundle
 mod make; // make.rt: the packets that are sent
 pub mod inner; // inner.rt: the step over the contents of a bundle that was checked once, and a cursor
+pub mod step; // step.rt: the step over a bundle

@@ -32,10 +32,10 @@ use Rattle.host.specs.declared.answer.Action.{Action}
 use Rattle.host.specs.declared.answer.Action.the-variants as action
 use Rattle.host.specs.declared.answer.Move.{Move}
 use Rattle.host.specs.Decide.{BUSY-LIMIT, ends, offerFrom, noted, completes, decideIn, decideOf}
-use Rattle.host.specs.Step.{PACKET-LIMIT, entryAt, blocksAt, recordsAt, turnBreaks, placeBreaks, stageBreaks, recordBreaks, breaksN1, isLastOf, lastOf, isLast, lastIn, noBlock, blockAt, blockBytes, blockPacket, packetOf, moved, stepOn, stepOf}
+use Rattle.host.specs.Step.{PACKET-LIMIT, entryAt, blocksAt, recordsAt, turnBreaks, placeBreaks, stageBreaks, recordBreaks, badStage, breaksN1, isLastOf, lastOf, isLast, lastIn, noBlock, blockAt, blockBytes, blockPacket, packetOf, moved, stepOn, stepOf}
 use Rattle.host.specs.Inner.{listedAt, recordsOn, bodyEnd, recordStart, InnerStep, sending, madeBlock, madeOf, innerOf, CursorIn, InnerIsStep}
 use Rattle.host.proofs.Moves.{opening-cases, listing-cases, offering-cases, waiting-cases, closing-cases, sending-cases, offer-cases}
-use Rattle.host.proofs.Walks.{Stands, Says, says}
+use Rattle.host.proofs.Walks.{Goes, goes}
 
 -- a member of a list that is mapped
 map-at : {A B : Type 0} (f : A → B) (l : List A) (i : ℕ) (d : B) (e : A) → i < length l → getD (map f l) i d ≡ f (getD l i e)
@@ -47,11 +47,6 @@ map-at f (x ∷ l) (suc i) d e h = map-at f l i d e (le-of-suc-le-suc h)
 whole-blocks : (p : Parsed) → 1 ≤ length (blocksOf p) → p ≡ whole (blocksOf p)
 whole-blocks (whole rs) h = refl
 whole-blocks broken h = absurd (omega arith)
-
--- the first record of some, and the rest
-more-whole : (r : Block) (q : Parsed) (x : Block) (xs : List Block) → more r q ≡ whole (x ∷ xs) → (r ≡ x) × (q ≡ whole xs)
-more-whole r (whole ts) x xs h = (cc, cc)
-more-whole r broken x xs h = let z : _≡_ {A = ℕ} 0 1 = cc in absurd (omega arith)
 
 -- N1 of a stage asks only for the records of the bundle's entries
 module _ (n : ℕ) (f g : ℕ → ℕ) (same : (i : ℕ) → i < n → f i ≡ g i) where
@@ -152,25 +147,18 @@ module _ (b : List ℕ) (α : Accepted b) (s : bundle.bundleRow b ≡ bundle.ser
         let k : 16 ≤ ENTRY = omega arith in
         rw (le-leb (tableEnd (e + 1)) (length b) t, α .places e l, take-take 16 ENTRY (drop (tableEnd e) b) k) (refl, still cursor)
 
-    block-by : (p : Place) (r : Next) → p .entry < countIn b → p .block < recordsAt b (p .entry) → Stood cursor p
-        → Says b (recordStart (checkOf b) cursor p) (bodyEnd (checkOf b) p) r
+    block-by : (p : Place) → p .entry < countIn b → (r : Next)
+        → Goes b (recordStart (checkOf b) cursor p) (bodyEnd (checkOf b) p) (blockAt b p) (drop (suc (p .block)) (blocksAt b (p .entry))) r
         → (madeBlock b (checkOf b) cursor p before after r .step ≡ moved b (record { action = action.Block p; host = after }))
           × CursorIn b (Sending p) (madeBlock b (checkOf b) cursor p before after r .cursor)
     unfolding packetOf
-    block-by p r l m o h = go r (o .reads ∙ ap whole (drop-cons (blocksAt b (p .entry)) (p .block) noBlock m)) h
-      where
-        go : (r : Next) → recordsOf (between b (recordStart (checkOf b) cursor p) (bodyEnd (checkOf b) p)) ≡ whole (blockAt b p ∷ drop (suc (p .block)) (blocksAt b (p .entry)))
-            → Says b (recordStart (checkOf b) cursor p) (bodyEnd (checkOf b) p) r
-            → (madeBlock b (checkOf b) cursor p before after r .step ≡ moved b (record { action = action.Block p; host = after }))
-              × CursorIn b (Sending p) (madeBlock b (checkOf b) cursor p before after r .cursor)
-        go next.End q h = let z : _≡_ {A = ℕ} 0 1 = cc in absurd (omega arith)
-        go next.Bad q h = let k = h (o .below) (end-inside p l) in let z : _≡_ {A = ℕ} 0 1 = cc in absurd (omega arith)
-        go (next.Record a start size past) q h =
-            let w = more-whole _ _ _ _ (sym (h .reads) ∙ q) in (
-              ap (λ (x : List ℕ). sending x after past .step)
-                  (ap₂ (λ (t : Bool) (x : Block). blockBytes (p .block) t x) (ap (eqb (p .block + 1)) (records-is (p .entry) l)) (w .0)),
-              (h .inside, w .1),
-            )
+    block-by p l next.End h = absurd h
+    block-by p l next.Bad h = absurd h
+    block-by p l (next.Record a start size past) h = (
+      ap (λ (x : List ℕ). sending x after past .step)
+          (ap₂ (λ (t : Bool) (x : Block). blockBytes (p .block) t x) (ap (eqb (p .block + 1)) (records-is (p .entry) l)) (h .0)),
+      (h .1, h .2),
+    )
 
     made-same : (a : Action) → Fine cursor a (after .stage) → Same after a (madeOf b (checkOf b) cursor before after a)
     unfolding madeOf packetOf
@@ -180,7 +168,9 @@ module _ (b : List ℕ) (α : Accepted b) (s : bundle.bundleRow b ≡ bundle.ser
     made-same (action.Offer e) f = offer-same e (f .0) (f .1)
     made-same (action.Block p) f =
         let r = nextOf b (recordStart (checkOf b) cursor p) (bodyEnd (checkOf b) p) in
-        let w = block-by p r (f .1) (f .2) (f .3) (says b (recordStart (checkOf b) cursor p) (bodyEnd (checkOf b) p)) in
+        let g = goes b (recordStart (checkOf b) cursor p) (bodyEnd (checkOf b) p) _ _ (f .3 .below) (end-inside p (f .1))
+        (f .3 .reads ∙ ap whole (drop-cons (blocksAt b (p .entry)) (p .block) noBlock (f .2))) in
+        let w = block-by p (f .1) r g in
         (w .0, subst (λ (g : HostStage). CursorIn b g (madeBlock b (checkOf b) cursor p before after r .cursor)) (sym (f .0)) (w .1))
 
   -- every move from a record that N1 leaves is such an action
@@ -251,3 +241,28 @@ inner-is-step b h cursor reply bytes s w k =
     let α = accepted b bytes s in
     let q = same b α s cursor h reply w k in
     rw (step-moves b α s cursor h reply w) q
+
+-- and so it is, cursor and all, where N1 holds
+pub inner-same : (b : List ℕ) (h : Host) (cursor : ℕ) (reply : List ℕ) → Bytes b → bundle.bundleRow b ≡ bundle.served
+    → (badStage b (h .stage) ≡ false → CursorIn b (h .stage) cursor) → innerOf b (checkOf b) cursor h reply .step ≡ stepOf b h reply
+unfolding innerOf stepOf stepOn breaksN1
+inner-same b h cursor reply bytes s k = go (breaksN1 b h) refl
+  where
+    go : (t : Bool) → breaksN1 b h ≡ t → innerOf b (checkOf b) cursor h reply .step ≡ stepOf b h reply
+    go true e = rw (breaks-is b (accepted b bytes s) s cursor h reply, s, e)
+    go false e = inner-is-step b h cursor reply bytes s e (k (neither (badStage b (h .stage)) _ e .0)) .0
+
+-- a walk past the block in hand finds the cursor
+pub cursor-found : (b : List ℕ) (p : Place) (start end cursor : ℕ) → Bytes b → bundle.bundleRow b ≡ bundle.served → badStage b (Sending p) ≡ false
+    → start ≡ listedAt (checkOf b) (p .entry) .offset → end ≡ bodyEnd (checkOf b) p
+    → ((rs : List Block) → start ≤ end → end ≤ length b → recordsOf (between b start end) ≡ whole rs → p .block + 1 ≤ length rs
+      → (cursor ≤ end) × (recordsOf (between b cursor end) ≡ whole (drop (p .block + 1) rs)))
+    → CursorIn b (Sending p) cursor
+cursor-found b p start end cursor bytes s w e d f =
+    let α = accepted b bytes s in
+    let q = neither (leb (countIn b) (p .entry)) (leb (recordsAt b (p .entry)) (p .block)) w in
+    let l = leb-false (countIn b) (p .entry) (q .0) in
+    let m = leb-false (recordsAt b (p .entry)) (p .block) (q .1) in
+    let o = first-stood b α s cursor (p .entry) l in
+    let t = rw (e, d) at f in
+    let u = t (blocksAt b (p .entry)) (o .below) (end-inside b α s p l) (o .reads) (omega arith) in (u .0, rw (← add-one (p .block)) (u .1))

@@ -1,5 +1,5 @@
 -- What stands at a place of a body, and what the records from there on are. Assumes nothing.
-use mathlib.Core.Path.{_≡_, refl, sym, ap, subst, _∙_}
+use mathlib.Core.Path.{_≡_, refl, sym, subst, _∙_}
 use mathlib.Core.Bool.{Bool, true, false, cond, _&&_}
 use mathlib.Core.List.{List, [], _∷_}
 use Prim.Native.Nat.{ℕ, _+_, _-_, _≤_}
@@ -14,7 +14,7 @@ use Rattle.records.specs.declared.Head.{Head}
 use Rattle.records.specs.declared.Head.the-variants.{Empty, Cut, Whole}
 use Rattle.records.specs.declared.Next.{Next}
 use Rattle.records.specs.declared.Next.the-variants.{End, Bad, Record}
-use Rattle.records.specs.Record.{Block, headIn, blockIn}
+use Rattle.records.specs.Record.{Block, headIn}
 use Rattle.records.specs.Parse.{Parsed, whole, broken, more, recordsOf}
 use Rattle.records.specs.Walk.{between, placed, nextOf}
 use Rattle.records.proofs.Parts.{drop-take}

@@ -100,4 +100,4 @@ abbrev pub InnerIsStep : Type 0
 InnerIsStep = (b : List ℕ) (h : Host) (cursor : ℕ) (reply : List ℕ) → Bytes b → bundle.bundleRow b ≡ bundle.served
     → breaksN1 b h ≡ false → CursorIn b (h .stage) cursor
     → (innerOf b (checkOf b) cursor h reply .step ≡ stepOf b h reply)
-      × CursorIn b (stepOf b h reply .host .stage) (innerOf b (checkOf b) cursor h reply .cursor)
+    × CursorIn b (stepOf b h reply .host .stage) (innerOf b (checkOf b) cursor h reply .cursor)

@@ -55,7 +55,14 @@ fn refused(h: Host, cursor: usize) -> InnerAnswer
 }
 
 // The offer of an entry; where the bytes do not have it, N1.
-fn made_offer(b: &[u8], c: Checked, cursor: usize, before: Host, after: Host, entry: u32) -> InnerAnswer
+fn made_offer(
+    b: &[u8],
+    c: Checked,
+    cursor: usize,
+    before: Host,
+    after: Host,
+    entry: u32,
+) -> InnerAnswer
     ensures { λ r. ⌜ toldInner r ≡ madeOf (now (b .entry)) (toldChecked c) cursor before after (Action.Offer entry) ⌝ }
 {
     if HEAD + ENTRY * (entry as usize + 1) <= b.len() {
@@ -74,7 +81,14 @@ fn start_of(body: Body, cursor: usize, k: u32) -> usize
 }
 
 // The block of the record that stands at its start; where none stands there, N1.
-fn made_block(b: &[u8], c: Checked, cursor: usize, before: Host, after: Host, p: Place) -> InnerAnswer
+fn made_block(
+    b: &[u8],
+    c: Checked,
+    cursor: usize,
+    before: Host,
+    after: Host,
+    p: Place,
+) -> InnerAnswer
     ensures { λ r. ⌜ toldInner r ≡ madeOf (now (b .entry)) (toldChecked c) cursor before after (Action.Block p) ⌝ }
 {
     let table = c.table;
@@ -122,7 +136,13 @@ fn made(b: &[u8], c: Checked, cursor: usize, before: Host, m: Move) -> InnerAnsw
 }
 
 // N1, or the move.
-pub fn inner_step(checked: Checked, cursor: usize, h: Host, bundle: &[u8], reply: &[u8]) -> InnerAnswer
+pub fn inner_step(
+    checked: Checked,
+    cursor: usize,
+    h: Host,
+    bundle: &[u8],
+    reply: &[u8],
+) -> InnerAnswer
     ensures { λ r. ⌜ toldInner r ≡ innerOf (now (bundle .entry)) (toldChecked checked) cursor h (now (reply .entry)) ⌝ }
 {
     if fits::breaks(checked, h) {

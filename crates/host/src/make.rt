@@ -77,7 +77,14 @@ fn flags(first: bool, last: bool) -> u8
 }
 
 // Block k of a body as content: the record's data, unused data as zero.
-pub fn block(b: &[u8], k: u32, last: bool, address: RegionAddress, start: usize, size: u8) -> [u8; 60]
+pub fn block(
+    b: &[u8],
+    k: u32,
+    last: bool,
+    address: RegionAddress,
+    start: usize,
+    size: u8,
+) -> [u8; 60]
     requires { ⌜ (1 ≤ size) × (size ≤ 52) × (start + size ≤ length (now b)) ⌝ }
     ensures { λ r. ⌜ r ≡ blockBytes k last (record { address = address; bytes = take size (drop start (now (b .entry))) }) ⌝ }
 {

@@ -2,10 +2,10 @@
 use mathlib.Core.Path.{_≡_, refl, sym, ap, _∙_}
 use mathlib.Core.Bool.{Bool, true, false, cond}
 use Prim.Native.Nat.{ℕ, suc, _+_, _*_, _-_, _/_, _%_, _^_, _<_, _≤_}
-use native.Mathlib.Nat.{pow-suc, one-mul, mod-lt}
+use native.Mathlib.Nat.{pow-suc, one-mul}
 use native.Mathlib.Omega.{arith}
 use borrow.Author.Tests.{eqb-true, eqb-false}
-use lib.Dec.{eqb, lit<}
+use lib.Dec.{lit<}
 use lib.Pow.{shl-exact}
 use lib.Bits.{bitAnd, bitOr, and-high, or-add-and}
 use mathlib.Core.List.{List}
@@ -21,7 +21,6 @@ use Rattle.host.specs.Record.{hasBit, withBit}
 use Rattle.host.specs.Decide.{decideIn, decideOf}
 use Rattle.host.specs.declared.record.Host.{Host}
 use Rattle.host.specs.declared.record.HostStage.{HostStage}
-use Rattle.host.specs.declared.answer.Move.{Move}
 
 -- `&` with one bit is that bit
 and-bit : (i m : ℕ) → bitAnd m (2 ^ i) ≡ m / 2 ^ i % 2 * 2 ^ i

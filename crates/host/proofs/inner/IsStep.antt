@@ -1,19 +1,19 @@
 -- Where the check passes, N1 does not hold and the cursor is right, the inner step is the step, and leaves the cursor right. Assumes nothing.
 use mathlib.Core.Path.{_≡_, refl, sym, ap, ap₂, subst, _∙_}
 use mathlib.Core.Bool.{Bool, true, false, _||_}
-use mathlib.Core.List.{List, [], _∷_, _++_, map}
+use mathlib.Core.List.{List, [], _∷_, map}
 use Prim.Native.Nat.{ℕ, zero, suc, _+_, _-_, _^_, _<_, _≤_}
 use native.Mathlib.Nat.{not-suc-le-zero, le-of-suc-le-suc}
 use native.Mathlib.Numerals.{add-one}
 use native.Mathlib.Omega.{arith}
-use borrow.Author.Tests.{ltb-false, leb-false, le-leb, eqb-false, ne-eqb}
+use borrow.Author.Tests.{leb-false, le-leb, eqb-false, ne-eqb}
 use lib.Dec.{leb, ltb, eqb}
-use lib.ListN.{length, getD, take, drop, replicate, length-map, List·getD-append}
+use lib.ListN.{length, getD, drop, replicate, length-map, List·getD-append}
 use lib.Seq.{drop-cons, take-take}
 use Rattle.wire.specs.Bytes.{Bytes}
 use Rattle.wire.proofs.Tests.{neither}
 use Rattle.records.specs.Record.{Block}
-use Rattle.records.specs.Parse.{Parsed, whole, broken, more, recordsOf, blocksOf}
+use Rattle.records.specs.Parse.{Parsed, whole, broken, recordsOf, blocksOf}
 use Rattle.records.specs.Walk.{between, nextOf}
 use Rattle.records.specs.declared.Next.{Next}
 use Rattle.records.specs.declared.Next.the-variants as next
@@ -32,7 +32,7 @@ use Rattle.host.specs.declared.answer.Action.{Action}
 use Rattle.host.specs.declared.answer.Action.the-variants as action
 use Rattle.host.specs.declared.answer.Move.{Move}
 use Rattle.host.specs.Decide.{BUSY-LIMIT, ends, offerFrom, noted, completes, decideIn, decideOf}
-use Rattle.host.specs.Step.{PACKET-LIMIT, entryAt, blocksAt, recordsAt, turnBreaks, placeBreaks, stageBreaks, recordBreaks, badStage, breaksN1, isLastOf, lastOf, isLast, lastIn, noBlock, blockAt, blockBytes, blockPacket, packetOf, moved, stepOn, stepOf}
+use Rattle.host.specs.Step.{PACKET-LIMIT, entryAt, blocksAt, recordsAt, turnBreaks, placeBreaks, stageBreaks, recordBreaks, badStage, breaksN1, lastOf, isLast, lastIn, noBlock, blockAt, blockBytes, packetOf, moved, stepOn, stepOf}
 use Rattle.host.specs.Inner.{listedAt, recordsOn, bodyEnd, recordStart, InnerStep, sending, madeBlock, madeOf, innerOf, CursorIn, InnerIsStep}
 use Rattle.host.proofs.Moves.{opening-cases, listing-cases, offering-cases, waiting-cases, closing-cases, sending-cases, offer-cases}
 use Rattle.host.proofs.Walks.{Goes, goes}
@@ -150,7 +150,7 @@ module _ (b : List ℕ) (α : Accepted b) (s : bundle.bundleRow b ≡ bundle.ser
     block-by : (p : Place) → p .entry < countIn b → (r : Next)
         → Goes b (recordStart (checkOf b) cursor p) (bodyEnd (checkOf b) p) (blockAt b p) (drop (suc (p .block)) (blocksAt b (p .entry))) r
         → (madeBlock b (checkOf b) cursor p before after r .step ≡ moved b (record { action = action.Block p; host = after }))
-          × CursorIn b (Sending p) (madeBlock b (checkOf b) cursor p before after r .cursor)
+        × CursorIn b (Sending p) (madeBlock b (checkOf b) cursor p before after r .cursor)
     unfolding packetOf
     block-by p l next.End h = absurd h
     block-by p l next.Bad h = absurd h
@@ -256,7 +256,7 @@ inner-same b h cursor reply bytes s k = go (breaksN1 b h) refl
 pub cursor-found : (b : List ℕ) (p : Place) (start end cursor : ℕ) → Bytes b → bundle.bundleRow b ≡ bundle.served → badStage b (Sending p) ≡ false
     → start ≡ listedAt (checkOf b) (p .entry) .offset → end ≡ bodyEnd (checkOf b) p
     → ((rs : List Block) → start ≤ end → end ≤ length b → recordsOf (between b start end) ≡ whole rs → p .block + 1 ≤ length rs
-      → (cursor ≤ end) × (recordsOf (between b cursor end) ≡ whole (drop (p .block + 1) rs)))
+    → (cursor ≤ end) × (recordsOf (between b cursor end) ≡ whole (drop (p .block + 1) rs)))
     → CursorIn b (Sending p) cursor
 cursor-found b p start end cursor bytes s w e d f =
     let α = accepted b bytes s in

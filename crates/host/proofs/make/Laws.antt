@@ -1,7 +1,7 @@
 -- The packets: the bytes that a copy leaves, and content that is built. Assumes nothing.
 use mathlib.Core.Path.{_≡_, refl, sym, ap, _∙_}
-use mathlib.Core.Bool.{Bool, true, false, cond, _&&_}
-use mathlib.Core.List.{List, [], _∷_, _++_}
+use mathlib.Core.Bool.{Bool, true, false}
+use mathlib.Core.List.{List, _++_}
 use Prim.Native.Nat.{ℕ, zero, suc, _+_, _-_, _%_, _≤_}
 use native.Mathlib.Numerals.{unary-clauses}
 use native.Mathlib.Omega.{arith}
@@ -10,13 +10,11 @@ use lib.Dec.{eqb}
 use lib.Seq.{length-take-le}
 use Rattle.wire.specs.Bytes.{copyOf}
 use Rattle.wire.proofs.words.Copies.{copy-same}
-use lib.ListN.{length, take, drop, replicate, length-take, length-drop, length-replicate, length-append}
+use lib.ListN.{length, take, drop, replicate, length-take, length-drop, length-replicate}
 use Rattle.wire.specs.Rows.{Told}
-use Rattle.wire.specs.Codes.{FLAG-FIRST-BLOCK, FLAG-LAST-BLOCK}
 use Rattle.wire.specs.declared.address.RegionAddress.{RegionAddress}
 use Rattle.contents.specs.declared.content.BuiltContent.{BuiltContent}
-use Rattle.contents.specs.declared.content.ContentFields.{ContentFields}
-use Rattle.contents.specs.Content.{allowed, contentBytes, toldBuilt, buildOf}
+use Rattle.contents.specs.Content.{toldBuilt, buildOf}
 use Rattle.host.specs.Decide.{sequenceOf}
 use Rattle.host.specs.Step.{flagsOf, blockBytes}
 

@@ -6,15 +6,6 @@ use Rattle.host.specs.Decide.{act, offerFrom}
 use borrow.Author.Needs.{needs}
 use Rattle.host.proofs.decide.act.Statement.{statement}
 use Rattle.host.proofs.decide.act.Tie as tie
-use Rattle.host.proofs.decide.act.Reads as reads
-use Rattle.host.proofs.decide.act.Lts as lts
-use Rattle.host.proofs.decide.ends.Reads as ends-reads
-use Rattle.host.proofs.decide.list.Reads as list-reads
-use Rattle.host.proofs.decide.noted.Reads as noted-reads
-use Rattle.host.proofs.decide.offer_from.Reads as offer-from-reads
-use Rattle.host.proofs.decide.replays.Reads as replays-reads
-use Rattle.host.proofs.decide.send_block.Reads as send-block-reads
-use Rattle.host.proofs.decide.sends.Reads as sends-reads
 
 list-requires : tie.Need-list-requires
 list-requires c κs = search needs

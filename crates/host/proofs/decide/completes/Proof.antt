@@ -2,9 +2,6 @@
 use borrow.Author.Needs.{needs}
 use Rattle.host.proofs.decide.completes.Statement.{statement}
 use Rattle.host.proofs.decide.completes.Tie as tie
-use Rattle.host.proofs.decide.completes.Reads as reads
-use Rattle.host.proofs.decide.completes.Lts as lts
-use Rattle.host.proofs.decide.with_bit.Reads as with-bit-reads
 
 with-bit-requires : tie.Need-with-bit-requires
 with-bit-requires c κs = search needs

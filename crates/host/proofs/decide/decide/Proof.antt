@@ -6,11 +6,6 @@ use Rattle.host.proofs.decide.Laws.{by-stage}
 use borrow.Author.Needs.{needs}
 use Rattle.host.proofs.decide.decide.Statement.{statement}
 use Rattle.host.proofs.decide.decide.Tie as tie
-use Rattle.host.proofs.decide.decide.Reads as reads
-use Rattle.host.proofs.decide.decide.Lts as lts
-use Rattle.host.proofs.decide.hears.Reads as hears-reads
-use Rattle.host.proofs.decide.hears_block.Reads as hears-block-reads
-use Rattle.host.proofs.decide.sends.Reads as sends-reads
 
 enum-told : tie.Need-enum-told
 enum-told c = search needs

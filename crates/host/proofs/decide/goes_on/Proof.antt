@@ -5,11 +5,6 @@ use Rattle.host.specs.Decide.{offerFrom}
 use borrow.Author.Needs.{needs}
 use Rattle.host.proofs.decide.goes_on.Statement.{statement}
 use Rattle.host.proofs.decide.goes_on.Tie as tie
-use Rattle.host.proofs.decide.goes_on.Reads as reads
-use Rattle.host.proofs.decide.goes_on.Lts as lts
-use Rattle.host.proofs.decide.completes.Reads as completes-reads
-use Rattle.host.proofs.decide.offer_from.Reads as offer-from-reads
-use Rattle.host.proofs.decide.send_block.Reads as send-block-reads
 
 add-offer-from : tie.Need-add-offer-from
 add-offer-from c = search needs

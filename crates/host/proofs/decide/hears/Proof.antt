@@ -7,12 +7,6 @@ use Rattle.host.proofs.decide.Laws.{offer-read}
 use borrow.Author.Needs.{needs}
 use Rattle.host.proofs.decide.hears.Statement.{statement}
 use Rattle.host.proofs.decide.hears.Tie as tie
-use Rattle.host.proofs.decide.hears.Reads as reads
-use Rattle.host.proofs.decide.hears.Lts as lts
-use Rattle.host.proofs.decide.act.Reads as act-reads
-use Rattle.host.proofs.decide.ends.Reads as ends-reads
-use Rattle.host.proofs.table.code_for.Reads as code-for-reads
-use Rattle.offers.proofs.reply.read_offer_reply.Reads as read-offer-reply-reads
 
 -- what is read is the reply's fields
 answered : (c : tie.After-read-offer-reply) → c .read-offer-reply .result .reply ≡ replyIn (c .before .before .before .args .reply .now)

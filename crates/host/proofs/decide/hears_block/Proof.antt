@@ -7,12 +7,6 @@ use Rattle.host.proofs.decide.Laws.{content-read}
 use borrow.Author.Needs.{needs}
 use Rattle.host.proofs.decide.hears_block.Statement.{statement}
 use Rattle.host.proofs.decide.hears_block.Tie as tie
-use Rattle.host.proofs.decide.hears_block.Reads as reads
-use Rattle.host.proofs.decide.hears_block.Lts as lts
-use Rattle.contents.proofs.reply.read_content_reply.Reads as read-content-reply-reads
-use Rattle.host.proofs.decide.ends.Reads as ends-reads
-use Rattle.host.proofs.decide.goes_on.Reads as goes-on-reads
-use Rattle.host.proofs.decide.sequence.Reads as sequence-reads
 
 -- what is read is the reply's fields
 answered : (c : tie.After-read-content-reply) → c .read-content-reply .result .reply ≡ replyIn (c .before .before .before .args .reply .now)

@@ -3,9 +3,6 @@ use borrow.Author.Tests.{lt-ltb, le-ltb}
 use borrow.Author.Needs.{needs}
 use Rattle.host.proofs.decide.offer_from.Statement.{statement}
 use Rattle.host.proofs.decide.offer_from.Tie as tie
-use Rattle.host.proofs.decide.offer_from.Reads as reads
-use Rattle.host.proofs.decide.offer_from.Lts as lts
-use Rattle.host.proofs.decide.sends.Reads as sends-reads
 
 sends-requires : tie.Need-sends-requires
 sends-requires c κs = search needs

@@ -3,8 +3,6 @@ use Rattle.host.proofs.decide.Laws.{or-bit}
 use borrow.Author.Needs.{needs}
 use Rattle.host.proofs.decide.with_bit.Statement.{statement}
 use Rattle.host.proofs.decide.with_bit.Tie as tie
-use Rattle.host.proofs.decide.with_bit.Reads as reads
-use Rattle.host.proofs.decide.with_bit.Lts as lts
 
 shl-result : tie.Need-shl-result
 shl-result c = search needs

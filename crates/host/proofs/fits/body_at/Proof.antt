@@ -1,15 +1,12 @@
 -- `fits::body_at`: past the table it is empty. Assumes nothing.
 use lib.ListN.{length, List·getD-eq-default}
-use mathlib.Core.Path.{_≡_, refl, sym, ap}
+use mathlib.Core.Path.{_≡_, refl}
 use Prim.Native.Nat.{_≤_}
 use native.Mathlib.Omega.{arith}
 use Rattle.bundle.specs.Contents.{blankEntry}
 use borrow.Author.Needs.{needs}
 use Rattle.host.proofs.fits.body_at.Statement.{statement}
 use Rattle.host.proofs.fits.body_at.Tie as tie
-use Rattle.host.proofs.fits.body_at.Reads as reads
-use Rattle.host.proofs.fits.body_at.Lts as lts
-use Rattle.host.proofs.fits.body_of.Reads as body-of-reads
 
 mul-e : tie.Need-mul-e
 mul-e c = search needs

@@ -3,10 +3,6 @@ use Rattle.host.proofs.fits.Laws.{room}
 use borrow.Author.Needs.{needs}
 use Rattle.host.proofs.fits.breaks.Statement.{statement}
 use Rattle.host.proofs.fits.breaks.Tie as tie
-use Rattle.host.proofs.fits.breaks.Reads as reads
-use Rattle.host.proofs.fits.breaks.Lts as lts
-use Rattle.host.proofs.fits.mask_breaks.Reads as mask-breaks-reads
-use Rattle.host.proofs.fits.stage_breaks.Reads as stage-breaks-reads
 
 stage-breaks-requires : tie.Need-stage-breaks-requires
 stage-breaks-requires c κs = search needs

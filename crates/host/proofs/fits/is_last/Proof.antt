@@ -2,9 +2,6 @@
 use borrow.Author.Needs.{needs}
 use Rattle.host.proofs.fits.is_last.Statement.{statement}
 use Rattle.host.proofs.fits.is_last.Tie as tie
-use Rattle.host.proofs.fits.is_last.Reads as reads
-use Rattle.host.proofs.fits.is_last.Lts as lts
-use Rattle.host.proofs.fits.body_at.Reads as body-at-reads
 
 body-at-requires : tie.Need-body-at-requires
 body-at-requires c κs = search needs

@@ -2,9 +2,6 @@
 use borrow.Author.Needs.{needs}
 use Rattle.host.proofs.fits.last_in.Statement.{statement}
 use Rattle.host.proofs.fits.last_in.Tie as tie
-use Rattle.host.proofs.fits.last_in.Reads as reads
-use Rattle.host.proofs.fits.last_in.Lts as lts
-use Rattle.host.proofs.fits.is_last.Reads as is-last-reads
 
 enum-told : tie.Need-enum-told
 enum-told c = search needs

@@ -1,5 +1,5 @@
 -- `fits::mask_breaks`: a shift within 32 bits, and no bit past them. Assumes nothing.
-use mathlib.Core.Path.{_≡_, sym, ap, _∙_}
+use mathlib.Core.Path.{sym, ap, _∙_}
 use Prim.Native.Nat.{ℕ, _^_, _<_, _≤_}
 use native.Mathlib.Nat.{one-mul}
 use native.Mathlib.Omega.{arith}
@@ -9,8 +9,6 @@ use lib.Pow.{shl-exact, pow-mono}
 use borrow.Author.Needs.{needs}
 use Rattle.host.proofs.fits.mask_breaks.Statement.{statement}
 use Rattle.host.proofs.fits.mask_breaks.Tie as tie
-use Rattle.host.proofs.fits.mask_breaks.Reads as reads
-use Rattle.host.proofs.fits.mask_breaks.Lts as lts
 
 shl-result : tie.Need-shl-result
 shl-result c = search needs

@@ -4,9 +4,6 @@ use Rattle.host.proofs.fits.Laws.{place-room}
 use borrow.Author.Needs.{needs}
 use Rattle.host.proofs.fits.place_breaks.Statement.{statement}
 use Rattle.host.proofs.fits.place_breaks.Tie as tie
-use Rattle.host.proofs.fits.place_breaks.Reads as reads
-use Rattle.host.proofs.fits.place_breaks.Lts as lts
-use Rattle.host.proofs.fits.body_at.Reads as body-at-reads
 
 body-at-requires : tie.Need-body-at-requires
 body-at-requires c κs = search needs

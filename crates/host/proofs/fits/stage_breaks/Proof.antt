@@ -1,13 +1,9 @@
 -- `fits::stage_breaks`: by the stage. Assumes nothing.
-use mathlib.Core.Path.{_≡_, refl, sym, _∙_}
+use mathlib.Core.Path.{refl, sym, _∙_}
 use Rattle.host.proofs.fits.Laws.{turn-room}
 use borrow.Author.Needs.{needs}
 use Rattle.host.proofs.fits.stage_breaks.Statement.{statement}
 use Rattle.host.proofs.fits.stage_breaks.Tie as tie
-use Rattle.host.proofs.fits.stage_breaks.Reads as reads
-use Rattle.host.proofs.fits.stage_breaks.Lts as lts
-use Rattle.host.proofs.fits.place_breaks.Reads as place-breaks-reads
-use Rattle.host.proofs.fits.turn_breaks.Reads as turn-breaks-reads
 
 enum-told : tie.Need-enum-told
 enum-told c = search needs

@@ -1,5 +1,5 @@
 -- `inner::inner_step`: N1, or the move. Assumes nothing.
-use mathlib.Core.Path.{_≡_, sym, ap, _∙_}
+use mathlib.Core.Path.{sym, ap, _∙_}
 use mathlib.Core.Bool.{Bool}
 use Rattle.bundle.specs.Contents.{toldChecked}
 use Rattle.host.specs.Decide.{decideOf}
@@ -8,13 +8,6 @@ use Rattle.host.specs.Inner.{madeOf, innerOf}
 use borrow.Author.Needs.{needs}
 use Rattle.host.proofs.inner.inner_step.Statement.{statement}
 use Rattle.host.proofs.inner.inner_step.Tie as tie
-use Rattle.host.proofs.inner.inner_step.Reads as reads
-use Rattle.host.proofs.inner.inner_step.Lts as lts
-use Rattle.host.proofs.decide.decide.Reads as decide-reads
-use Rattle.host.proofs.fits.breaks.Reads as breaks-reads
-use Rattle.host.proofs.fits.last_in.Reads as last-in-reads
-use Rattle.host.proofs.inner.made.Reads as made-reads
-use Rattle.host.proofs.inner.refused.Reads as refused-reads
 
 breaks-requires : tie.Need-breaks-requires
 breaks-requires c κs = search needs

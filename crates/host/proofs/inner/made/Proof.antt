@@ -1,17 +1,10 @@
 -- `inner::made`: by the action. Assumes nothing.
-use mathlib.Core.Path.{_≡_, refl, ap, _∙_}
+use mathlib.Core.Path.{refl, ap, _∙_}
 use Rattle.host.specs.Inner.{madeOf, toldInner}
 use Rattle.host.proofs.inner.Laws.{told-offer}
 use borrow.Author.Needs.{needs}
 use Rattle.host.proofs.inner.made.Statement.{statement}
 use Rattle.host.proofs.inner.made.Tie as tie
-use Rattle.host.proofs.inner.made.Reads as reads
-use Rattle.host.proofs.inner.made.Lts as lts
-use Rattle.host.proofs.inner.made_block.Reads as made-block-reads
-use Rattle.host.proofs.inner.made_offer.Reads as made-offer-reads
-use Rattle.host.proofs.inner.served.Reads as served-reads
-use Rattle.host.proofs.make.information.Reads as information-reads
-use Rattle.host.proofs.make.notify.Reads as notify-reads
 
 enum-told : tie.Need-enum-told
 enum-told c = search needs

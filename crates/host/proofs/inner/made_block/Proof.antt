@@ -4,10 +4,8 @@ use mathlib.Core.Bool.{Bool, cond}
 use native.Mathlib.Omega.{arith}
 use Rattle.records.specs.Record.{Block}
 use Rattle.host.specs.Step.{isLastOf, blockBytes}
-use Prim.Native.Nat.{ℕ, _≤_}
 use lib.Dec.{eqb}
-use lib.ListN.{length, take, drop, length-take}
-use Rattle.records.specs.declared.Next.the-variants.{Record}
+use lib.ListN.{take, drop, length-take}
 use Rattle.records.specs.Walk.{nextOf}
 use Rattle.bundle.specs.Contents.{toldChecked}
 use Rattle.host.specs.Inner.{recordsOn, bodyEnd, recordStart, madeOf, toldInner}
@@ -17,15 +15,6 @@ use Rattle.host.proofs.inner.Laws.{told-content, block-length}
 use borrow.Author.Needs.{needs}
 use Rattle.host.proofs.inner.made_block.Statement.{statement}
 use Rattle.host.proofs.inner.made_block.Tie as tie
-use Rattle.host.proofs.inner.made_block.Reads as reads
-use Rattle.host.proofs.inner.made_block.Lts as lts
-use Rattle.host.proofs.fits.body_at.Reads as body-at-reads
-use Rattle.host.proofs.fits.is_last.Reads as is-last-reads
-use Rattle.host.proofs.inner.refused.Reads as refused-reads
-use Rattle.host.proofs.inner.served.Reads as served-reads
-use Rattle.host.proofs.inner.start_of.Reads as start-of-reads
-use Rattle.host.proofs.make.block.Reads as block-reads
-use Rattle.records.proofs.walk.next_record.Reads as next-record-reads
 
 -- what is read stands at the start of the block's record
 next-is : (c : tie.After-next-record)

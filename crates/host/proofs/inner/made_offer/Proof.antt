@@ -6,11 +6,6 @@ use Rattle.host.proofs.inner.Laws.{told-offer, offer-length}
 use borrow.Author.Needs.{needs}
 use Rattle.host.proofs.inner.made_offer.Statement.{statement}
 use Rattle.host.proofs.inner.made_offer.Tie as tie
-use Rattle.host.proofs.inner.made_offer.Reads as reads
-use Rattle.host.proofs.inner.made_offer.Lts as lts
-use Rattle.host.proofs.inner.refused.Reads as refused-reads
-use Rattle.host.proofs.inner.served.Reads as served-reads
-use Rattle.host.proofs.make.offer.Reads as offer-reads
 
 add-if1 : tie.Need-add-if1
 add-if1 c = search needs

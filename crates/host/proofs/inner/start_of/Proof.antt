@@ -2,8 +2,6 @@
 use borrow.Author.Tests.{eq-eqb, ne-eqb}
 use Rattle.host.proofs.inner.start_of.Statement.{statement}
 use Rattle.host.proofs.inner.start_of.Tie as tie
-use Rattle.host.proofs.inner.start_of.Reads as reads
-use Rattle.host.proofs.inner.start_of.Lts as lts
 
 returns : tie.Need-returns
 returns c = rw (eq-eqb _ _ (c .if1 .taken))

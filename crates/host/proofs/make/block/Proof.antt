@@ -5,12 +5,6 @@ use Rattle.host.proofs.make.Laws.{data-laid, block-made}
 use borrow.Author.Needs.{needs}
 use Rattle.host.proofs.make.block.Statement.{statement}
 use Rattle.host.proofs.make.block.Tie as tie
-use Rattle.host.proofs.make.block.Reads as reads
-use Rattle.host.proofs.make.block.Lts as lts
-use Rattle.contents.proofs.content.build_content.Reads as build-content-reads
-use Rattle.host.proofs.decide.sequence.Reads as sequence-reads
-use Rattle.host.proofs.make.flags.Reads as flags-reads
-use Rattle.wire.proofs.words.copy.Reads as copy-reads
 
 add-end : tie.Need-add-end
 add-end c = search needs

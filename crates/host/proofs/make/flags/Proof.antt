@@ -2,8 +2,6 @@
 use borrow.Author.Needs.{needs}
 use Rattle.host.proofs.make.flags.Statement.{statement}
 use Rattle.host.proofs.make.flags.Tie as tie
-use Rattle.host.proofs.make.flags.Reads as reads
-use Rattle.host.proofs.make.flags.Lts as lts
 
 add-result : tie.Need-add-result
 add-result c = search needs

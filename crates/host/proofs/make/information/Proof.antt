@@ -6,10 +6,6 @@ use lib.ListN.{replicate}
 use borrow.Author.Needs.{needs}
 use Rattle.host.proofs.make.information.Statement.{statement}
 use Rattle.host.proofs.make.information.Tie as tie
-use Rattle.host.proofs.make.information.Reads as reads
-use Rattle.host.proofs.make.information.Lts as lts
-use Rattle.host.proofs.make.laid.Reads as laid-reads
-use Rattle.offers.proofs.signal.build_information.Reads as build-information-reads
 
 build-information-requires : tie.Need-build-information-requires
 build-information-requires c κs = search needs

@@ -1,5 +1,5 @@
 -- `make::laid`: a copy over the first of the zeros. Assumes nothing.
-use mathlib.Core.Path.{_≡_, sym, ap, _∙_}
+use mathlib.Core.Path.{_≡_, ap}
 use mathlib.Core.List.{List, _++_}
 use Prim.Native.Nat.{ℕ}
 use lib.ListN.{length, replicate}
@@ -7,9 +7,6 @@ use Rattle.host.proofs.make.Laws.{copied}
 use borrow.Author.Needs.{needs}
 use Rattle.host.proofs.make.laid.Statement.{statement}
 use Rattle.host.proofs.make.laid.Tie as tie
-use Rattle.host.proofs.make.laid.Reads as reads
-use Rattle.host.proofs.make.laid.Lts as lts
-use Rattle.wire.proofs.words.copy.Reads as copy-reads
 
 sub-copy : tie.Need-sub-copy
 sub-copy c = search needs

@@ -6,10 +6,6 @@ use lib.ListN.{replicate}
 use borrow.Author.Needs.{needs}
 use Rattle.host.proofs.make.notify.Statement.{statement}
 use Rattle.host.proofs.make.notify.Tie as tie
-use Rattle.host.proofs.make.notify.Reads as reads
-use Rattle.host.proofs.make.notify.Lts as lts
-use Rattle.host.proofs.make.laid.Reads as laid-reads
-use Rattle.offers.proofs.signal.build_extended.Reads as build-extended-reads
 
 build-extended-requires : tie.Need-build-extended-requires
 build-extended-requires c κs = search needs

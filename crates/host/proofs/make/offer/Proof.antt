@@ -5,14 +5,10 @@ use mathlib.Core.List.{List, _++_}
 use Prim.Native.Nat.{ℕ, _+_, _-_}
 use Rattle.bundle.specs.Layout.{tableEnd}
 use lib.ListN.{set, replicate}
-use mathlib.Core.Path.{_≡_, sym, ap, _∙_}
+use mathlib.Core.Path.{ap, _∙_}
 use borrow.Author.Needs.{needs}
 use Rattle.host.proofs.make.offer.Statement.{statement}
 use Rattle.host.proofs.make.offer.Tie as tie
-use Rattle.host.proofs.make.offer.Reads as reads
-use Rattle.host.proofs.make.offer.Lts as lts
-use Rattle.host.proofs.make.laid.Reads as laid-reads
-use Rattle.wire.proofs.words.copy.Reads as copy-reads
 
 mul-at : tie.Need-mul-at
 mul-at c = search needs

@@ -7,10 +7,6 @@ use Rattle.host.proofs.inner.IsStep.{cursor-found}
 use borrow.Author.Needs.{needs}
 use Rattle.host.proofs.step.cursor_for.Statement.{statement}
 use Rattle.host.proofs.step.cursor_for.Tie as tie
-use Rattle.host.proofs.step.cursor_for.Reads as reads
-use Rattle.host.proofs.step.cursor_for.Lts as lts
-use Rattle.host.proofs.fits.body_at.Reads as body-at-reads
-use Rattle.host.proofs.step.place_after.Reads as place-after-reads
 
 enum-told : tie.Need-enum-told
 enum-told c = search needs
@@ -64,16 +60,16 @@ returns-5 : tie.Need-returns-5
 returns-5 c = rw (c .enum-told5 .given .1) (λ q s w. tt)
 
 returns-6 : tie.Need-returns-6
-returns-6 c = 
+returns-6 c =
     let a = c .before .before .before .before .before .before .before .before .args in
     let p = c .before .before .before .before .before .stage .given .0 .0 in
     let e = c .before .before .body-at .ensures .0 in
     rw (c .before .before .before .before .before .stage .given .1)
     (λ q s w.
-      cursor-found (a .b .now) p (c .before .before .body-at .result .start) (c .before .before .body-at .result .end) (c .place-after .result) (λ i. c .before .before .before .before .before .before .before .shared-slice-known .given i .fits) s w
-          (ap (λ (y : Body). y .start) e ∙ ap (λ (x : Contents). listedAt x (p .entry) .offset) q)
-          (ap (λ (y : Body). y .end) e ∙ ap (λ (x : Contents). bodyEnd x p) q)
-          (c .place-after .ensures))
+    cursor-found (a .b .now) p (c .before .before .body-at .result .start) (c .before .before .body-at .result .end) (c .place-after .result) (λ i. c .before .before .before .before .before .before .before .shared-slice-known .given i .fits) s w
+    (ap (λ (y : Body). y .start) e ∙ ap (λ (x : Contents). listedAt x (p .entry) .offset) q)
+    (ap (λ (y : Body). y .end) e ∙ ap (λ (x : Contents). bodyEnd x p) q)
+    (c .place-after .ensures))
 
 returns-7 : tie.Need-returns-7
 returns-7 c = rw (c .enum-told6 .given .1) (λ q s w. tt)

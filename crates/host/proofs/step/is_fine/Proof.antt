@@ -2,8 +2,6 @@
 use borrow.Author.Needs.{needs}
 use Rattle.host.proofs.step.is_fine.Statement.{statement}
 use Rattle.host.proofs.step.is_fine.Tie as tie
-use Rattle.host.proofs.step.is_fine.Reads as reads
-use Rattle.host.proofs.step.is_fine.Lts as lts
 
 enum-told : tie.Need-enum-told
 enum-told c = search needs

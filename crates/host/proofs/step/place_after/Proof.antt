@@ -14,15 +14,12 @@ use Rattle.host.specs.Step.{noBlock}
 use Rattle.host.proofs.Walks.{Goes, goes}
 use Rattle.host.proofs.step.place_after.Statement.{statement}
 use Rattle.host.proofs.step.place_after.Tie as tie
-use Rattle.host.proofs.step.place_after.Reads as reads
-use Rattle.host.proofs.step.place_after.Lts as lts
-use Rattle.records.proofs.walk.next_record.Reads as next-record-reads
 
 abbrev Inv-loop : tie.InvT-loop
 Inv-loop b at end count place₀ i₀ place i =
     (i ≤ count)
     × ((rs : List Block) → at ≤ end → end ≤ length b → recordsOf (between b at end) ≡ whole rs → count ≤ length rs
-      → (place ≤ end) × (recordsOf (between b place end) ≡ whole (drop i rs)))
+    → (place ≤ end) × (recordsOf (between b place end) ≡ whole (drop i rs)))
 
 abbrev μ-loop : tie.MeasureT-loop
 μ-loop b at end count place₀ i₀ place i = count - i

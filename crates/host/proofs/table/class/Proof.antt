@@ -2,8 +2,6 @@
 use borrow.Author.Tests.{lt-ltb, le-ltb}
 use Rattle.host.proofs.table.class.Statement.{statement}
 use Rattle.host.proofs.table.class.Tie as tie
-use Rattle.host.proofs.table.class.Reads as reads
-use Rattle.host.proofs.table.class.Lts as lts
 
 returns : tie.Need-returns
 returns c = rw (lt-ltb _ _ (c .if1 .taken))

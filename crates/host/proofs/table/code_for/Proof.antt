@@ -5,9 +5,6 @@ use Rattle.host.proofs.table.Laws.{class-below}
 use borrow.Author.Needs.{needs}
 use Rattle.host.proofs.table.code_for.Statement.{statement}
 use Rattle.host.proofs.table.code_for.Tie as tie
-use Rattle.host.proofs.table.code_for.Reads as reads
-use Rattle.host.proofs.table.code_for.Lts as lts
-use Rattle.host.proofs.table.class.Reads as class-reads
 
 class-requires : tie.Need-class-requires
 class-requires c κs = search needs

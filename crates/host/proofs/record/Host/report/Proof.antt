@@ -3,9 +3,6 @@ use Rattle.host.specs.Record.{reportOf}
 use borrow.Author.Needs.{needs}
 use Rattle.host.proofs.record.Host.report.Statement.{statement}
 use Rattle.host.proofs.record.Host.report.Tie as tie
-use Rattle.host.proofs.record.Host.report.Reads as reads
-use Rattle.host.proofs.record.Host.report.Lts as lts
-use Rattle.host.proofs.record.progress.Reads as progress-reads
 
 progress-requires : tie.Need-progress-requires
 progress-requires c κs = search needs

@@ -1,6 +1,6 @@
 -- `Host::step`: the check's row, or the inner step, which is the step. Assumes nothing.
 use mathlib.Core.Path.{_≡_, sym, ap, _∙_}
-use Rattle.bundle.specs.Rows.{bundleRow, served, B, numberOf, rowOf}
+use Rattle.bundle.specs.Rows.{bundleRow, rowOf}
 use Rattle.bundle.specs.Contents.{Contents}
 use Rattle.host.specs.Step.{stepOf}
 use Rattle.host.specs.Inner.{InnerStep, innerOf}
@@ -9,12 +9,6 @@ use Rattle.host.proofs.inner.IsStep.{inner-same}
 use borrow.Author.Needs.{needs}
 use Rattle.host.proofs.record.Host.step.Statement.{statement}
 use Rattle.host.proofs.record.Host.step.Tie as tie
-use Rattle.host.proofs.record.Host.step.Reads as reads
-use Rattle.host.proofs.record.Host.step.Lts as lts
-use Rattle.bundle.proofs.check.Reads as check-reads
-use Rattle.host.proofs.inner.inner_step.Reads as inner-step-reads
-use Rattle.host.proofs.step.cursor_for.Reads as cursor-for-reads
-use Rattle.host.proofs.step.is_fine.Reads as is-fine-reads
 
 -- the row is that of the verdict
 row-is : (c : tie.After-check) → bundleRow (c .before .before .before .args .bundle .now) ≡ rowOf (c .check .result .verdict) (c .check .result .place)
@@ -33,7 +27,7 @@ inner-step-requires : tie.Need-inner-step-requires
 inner-step-requires c κs = search needs
 
 returns : tie.Need-returns
-returns c = 
+returns c =
     let a = c .before .before .before .before .before .before .before .before .args in
     let k = c .before .before .before .before .before .check in
     let s = row-is (c .before .before .before .before .before) ∙ fine-row (k .result .verdict) (k .result .place) (sym (c .before .before .before .before .is-fine .ensures) ∙ c .before .before .before .if1 .taken) in
@@ -43,7 +37,7 @@ returns c =
 
 returns-2 : tie.Need-returns-2
 unfolding stepOf
-returns-2 c = 
+returns-2 c =
     let k = c .before .before .check in
     rw (row-is (c .before .before) ∙ bad-row (k .result .verdict) (k .result .place) (sym (c .before .is-fine .ensures) ∙ c .if1 .left))
 

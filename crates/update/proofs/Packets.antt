@@ -27,7 +27,7 @@ use Rattle.host.specs.declared.answer.Action.{Action}
 use Rattle.host.specs.declared.answer.Action.the-variants.{Nothing, Information, Notify, Offer, Block}
 use Rattle.update.specs.Trace.{opensPass, about, completes}
 use Rattle.update.specs.Ends.{Built, anInformation, anExtended, anOffer, aContent, AllBuilt}
-use Rattle.update.proofs.Moves.{isTaken}
+use Rattle.host.proofs.Moves.{isTaken}
 
 -- an action that the bundle has the bytes for
 abbrev pub Has : (b : List ℕ) → Action → Type 0

@@ -200,7 +200,7 @@ fn hears(row: usize, n: u32, t: Turn, h: Host, reply: &[u8]) -> Move
 }
 
 // The sequence of block k.
-pub fn sequence(k: u32) -> u16
+pub(crate) fn sequence(k: u32) -> u16
     ensures { λ r. ⌜ r ≡ decided.sequenceOf k ⌝ }
 {
     (k % 65536) as u16
@@ -244,7 +244,7 @@ fn hears_block(n: u32, last: bool, p: Place, h: Host, reply: &[u8]) -> Move
 }
 
 // What the host does, by its stage; a fresh host and an ended one await no reply.
-pub fn decide(h: Host, n: u32, last: bool, reply: &[u8]) -> Move
+pub(crate) fn decide(h: Host, n: u32, last: bool, reply: &[u8]) -> Move
     requires { ⌜ Room h × RoomIn (h .stage) ⌝ }
     ensures { λ r. ⌜ r ≡ decided.decideOf n last h (now (reply .entry)) ⌝ }
 {

@@ -38,7 +38,7 @@ fn body_of(e: Entry) -> Body
 }
 
 // The body of entry i; past the table it is empty.
-pub fn body_at(table: [Entry; 7], i: u32) -> Body
+pub(crate) fn body_at(table: [Entry; 7], i: u32) -> Body
     ensures { λ r. ⌜ r ≡ record { start = getD table i blankEntry .offset; end = getD table i blankEntry .offset + getD table i blankEntry .length; records = getD table i blankEntry .records } ⌝ }
     ensures { λ r. ⌜ (7 ≤ i → r .records ≡ 0) ⌝ }
 {
@@ -99,7 +99,7 @@ fn mask_breaks(n: u8, mask: u32) -> bool
 }
 
 // N1: .. more passes than offers, 2^31 or more packets, or a mask bit past its offers. A record that passes has room to go on.
-pub fn breaks(c: Checked, h: Host) -> bool
+pub(crate) fn breaks(c: Checked, h: Host) -> bool
     ensures { λ r. ⌜ r ≡ recordBreaks (c .count) (recordsOn (toldChecked c)) h ⌝ }
     ensures { λ r. ⌜ (r ≡ false → Room h × RoomIn (h .stage)) ⌝ }
 {
@@ -110,7 +110,7 @@ pub fn breaks(c: Checked, h: Host) -> bool
 }
 
 // The block in hand is the last of its body.
-pub fn is_last(c: Checked, p: Place) -> bool
+pub(crate) fn is_last(c: Checked, p: Place) -> bool
     ensures { λ r. ⌜ r ≡ isLastOf (recordsOn (toldChecked c)) p ⌝ }
 {
     let table = c.table;
@@ -118,7 +118,7 @@ pub fn is_last(c: Checked, p: Place) -> bool
     (p.block as usize) + 1 == b.records as usize
 }
 
-pub fn last_in(c: Checked, stage: HostStage) -> bool
+pub(crate) fn last_in(c: Checked, stage: HostStage) -> bool
     ensures { λ r. ⌜ r ≡ lastOf (recordsOn (toldChecked c)) stage ⌝ }
 {
     match stage {

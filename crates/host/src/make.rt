@@ -28,7 +28,7 @@ fn laid(p: [u8; 16]) -> [u8; 60]
     out
 }
 
-pub fn information(code: u8, token: u8) -> [u8; 60]
+pub(crate) fn information(code: u8, token: u8) -> [u8; 60]
     ensures { λ r. ⌜ r ≡ informationBytes (record { code = code; token = token }) ++ replicate 44 0 ⌝ }
 {
     let p = build_information(Signal {
@@ -38,7 +38,7 @@ pub fn information(code: u8, token: u8) -> [u8; 60]
     laid(p)
 }
 
-pub fn notify(token: u8) -> [u8; 60]
+pub(crate) fn notify(token: u8) -> [u8; 60]
     ensures { λ r. ⌜ r ≡ extendedBytes (record { code = NOTIFY-ON-READY; token = token }) ++ replicate 44 0 ⌝ }
 {
     let p = build_extended(Signal {
@@ -49,7 +49,7 @@ pub fn notify(token: u8) -> [u8; 60]
 }
 
 // The offer of an entry: the table's 16 bytes with our token in byte 3.
-pub fn offer(b: &[u8], entry: u32, token: u8) -> [u8; 60]
+pub(crate) fn offer(b: &[u8], entry: u32, token: u8) -> [u8; 60]
     requires { ⌜ tableEnd (entry + 1) ≤ length (now b) ⌝ }
     ensures { λ r. ⌜ r ≡ set (take 16 (drop (tableEnd entry) (now (b .entry)))) 3 token ++ replicate 44 0 ⌝ }
 {
@@ -77,7 +77,7 @@ fn flags(first: bool, last: bool) -> u8
 }
 
 // Block k of a body as content: the record's data, unused data as zero.
-pub fn block(
+pub(crate) fn block(
     b: &[u8],
     k: u32,
     last: bool,

@@ -48,7 +48,7 @@ fn class(status: u8) -> usize
 }
 
 // The step code of a row for a status.
-pub fn code_for(row: usize, status: u8) -> u8
+pub(crate) fn code_for(row: usize, status: u8) -> u8
     requires { ⌜ row < 5 ⌝ }
     ensures { λ r. ⌜ r ≡ cell row status ⌝ }
 {

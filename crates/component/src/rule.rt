@@ -37,11 +37,11 @@ impl Component {
     }
 
     // D1: not below running.
-    fn staged_version_fits(self, v: Version) -> bool
-        ensures { λ r. ⌜ r ≡ stagedVersionFits self v ⌝ }
+    fn staged_version_fits(self, staged: Version) -> bool
+        ensures { λ r. ⌜ r ≡ stagedVersionFits self staged ⌝ }
     {
         let running = self.running;
-        running.number() <= v.number()
+        running.number() <= staged.number()
     }
 
     // What is staged keeps that rule.

@@ -12,6 +12,10 @@ use Rattle.wire.specs.declared.address.RegionAddress.{RegionAddress}
 use Rattle.image.specs.Region.{placeOf, isInside, holds, within, regionBytes, blank, put, eraseOf, writeOf}
 use Rattle.image.specs.declared.region.Region.{Region}
 
+-- two regions that do not overlap: one lies before the other
+abbrev pub Apart : Region → Region → Type 0
+Apart r r′ = (r .base .0 + r .len ≤ r′ .base .0) ⊎ (r′ .base .0 + r′ .len ≤ r .base .0)
+
 -- the bytes of a region that the buffer holds are as many as it says
 pub region-length : (r : Region) (s : List ℕ) → r .base .0 + r .len ≤ length s → length (regionBytes r s) ≡ r .len
 unfolding regionBytes
@@ -85,17 +89,14 @@ module _ (r : Region) (f : List ℕ → List ℕ) (s : List ℕ) (h : r .base .0
       ∙ getD-drop n s (j - n) 0 ∙ ap (λ (i : ℕ). getD s i 0) e′)
 
   -- so do the bytes of a region that does not overlap it
-  pub within-apart : (r′ : Region) → r′ .base .0 + r′ .len ≤ length s
-      → (r .base .0 + r .len ≤ r′ .base .0) ⊎ (r′ .base .0 + r′ .len ≤ r .base .0)
-      → regionBytes r′ (within (r .base .0) (r .len) f s) ≡ regionBytes r′ s
+  pub within-apart : (r′ : Region) → r′ .base .0 + r′ .len ≤ length s → Apart r r′ → regionBytes r′ (within (r .base .0) (r .len) f s) ≡ regionBytes r′ s
   within-apart r′ h′ a =
       let n = region-length r′ (within (r .base .0) (r .len) f s) (omega (arith, within-length)) in
       ext-getD 0 _ _ (n ∙ sym (region-length r′ s h′))
       (λ i q. let q′ : i < r′ .len = omega arith in
       region-byte r′ _ i q′ ∙ within-out (r′ .base .0 + i) (out i q′ a) ∙ sym (region-byte r′ s i q′))
     where
-      out : (i : ℕ) → i < r′ .len → (r .base .0 + r .len ≤ r′ .base .0) ⊎ (r′ .base .0 + r′ .len ≤ r .base .0)
-          → (r′ .base .0 + i < r .base .0) ⊎ (r .base .0 + r .len ≤ r′ .base .0 + i)
+      out : (i : ℕ) → i < r′ .len → Apart r r′ → (r′ .base .0 + i < r .base .0) ⊎ (r .base .0 + r .len ≤ r′ .base .0 + i)
       out i q (inl z) = inr (omega arith)
       out i q (inr z) = inl (omega arith)
 

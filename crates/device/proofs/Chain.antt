@@ -1,17 +1,12 @@
 -- What a chain of checks answers. Assumes nothing.
 use mathlib.Core.Path.{_≡_, refl, sym, _∙_}
-use mathlib.Core.Bool.{Bool, true, false, cond, _||_, true≢false}
+use mathlib.Core.Bool.{Bool, true, false, cond}
 use mathlib.Core.List.{List, [], _∷_}
 use Rattle.wire.specs.Checks.{firstOf}
 
 -- a helper's answer r is s by its contract, and a branch says that r is b
 pub by : {A : Type 0} {r s b : A} → r ≡ s → r ≡ b → s ≡ b
 by e t = sym e ∙ t
-
--- neither of two tests applies
-pub neither : (a b : Bool) → (a || b) ≡ false → (a ≡ false) × (b ≡ false)
-neither true b e = absurd (true≢false e)
-neither false b e = (refl, e)
 
 -- no check applies
 abbrev pub Quiet : {A : Type 0} → List (Bool × A) → Type 0

@@ -4,7 +4,6 @@ use mathlib.Core.Bool.{Bool, true, false, cond}
 use mathlib.Core.List.{List, map}
 use Prim.Native.Nat.{ℕ, zero, suc, _<_, _^_}
 use native.Mathlib.Omega.{arith}
-use borrow.Author.Tests.{ltb-false}
 use lib.Dec.{eqb}
 use lib.ListN.{length, getD, length-set, length-map, replicate}
 use Rattle.wire.specs.Bytes.{Bytes}
@@ -22,7 +21,7 @@ use Rattle.component.specs.declared.record.Staged.{Staged}
 use Rattle.component.specs.declared.record.Staged.the-variants.{Nothing, Pending}
 use Rattle.component.specs.declared.setup.SetupVerdict.{SetupVerdict}
 use Rattle.device.specs.Entries.{newDevice, setUpBy, setUpOf, Reset, resetParts, resetEntry}
-use Rattle.device.proofs.Passes.{quiet-setup}
+use Rattle.device.proofs.Passes.{fine}
 use Rattle.device.proofs.setup.Laws.{refused-set-up, made-set-up}
 use Rattle.wire.specs.Version.{FitsVersion}
 use Rattle.component.specs.declared.list.Found.the-variants as found
@@ -35,7 +34,9 @@ use Rattle.device.specs.Refusals.{refusesSetup, breaksD1}
 use Rattle.device.specs.Content.{atToken, isFirst, window, takeBlock}
 use Rattle.device.specs.Promises.{SetUpFits, ResetKeepsFits, ServeKeepsFits}
 use Rattle.device.proofs.Chain.{either}
-use Rattle.device.proofs.Lists.{face, reset-faces, each-set, each-front, find-below}
+use Rattle.component.proofs.list.Laws.{find-at}
+use Rattle.component.proofs.setup.Laws.{seen, fine-staging}
+use Rattle.device.proofs.Lists.{reset-seen, each-set, each-front}
 use Rattle.device.proofs.Bytes.{take-bytes, drop-bytes, cleared-bytes, region-bytes, erase-bytes, write-bytes, version-fits}
 use Rattle.device.proofs.Moves.{Move, stays, idles, opens, owes, goes, stages, serve-moves}
 
@@ -78,7 +79,7 @@ unfolding offers.fieldsIn
 move-fits f h b stays = f
 move-fits {d} f h b idles = fits-with d f (d .parts) (f .slots) (f .each) Idle tt _ tt
 move-fits {d} {report = report} f h b (opens k e q) =
-    let m = find-below _ (d .count) k (d .parts) e in
+    let m = find-at _ (d .count) (d .parts) k e .0 in
     fits-with d f (d .parts) (f .slots) (f .each) _ (omega (arith, f .count), h 3) _ (f .owed)
 move-fits {d} f h b (owes e) = fits-with d f (d .parts) (f .slots) (f .each) _ (f .stage) _ (h 3)
 move-fits {d} f h b (goes k e) =
@@ -126,7 +127,7 @@ set-up-fits platform list count n p k l e = go (refusesSetup verdict) refl where
   go : (b : Bool) → refusesSetup verdict ≡ b → FitsDevice (setUpBy (rowOf verdict) new .device)
   go true r = rw (refused-set-up verdict new r) blank-fits
   go false r =
-      let s = ltb-false 65536 n (quiet-setup n count (map listed list) r .0) in
+      let s = fine-staging n count (map listed list) (fine _ r) in
       rw (made-set-up verdict new r)
       (record { platform = p; staging = omega arith; count = k; slots = length-map list listed ∙ l; each = e; stage = tt; owed = tt })
 
@@ -140,6 +141,6 @@ reset-fits c f = record { id = f .id; running = effective-fits (c .staged) (f .s
 pub reset-keeps-fits : ResetKeepsFits
 unfolding resetEntry
 reset-keeps-fits d f =
-    let l : length (resetParts (d .count) (d .parts)) ≡ 7 = sym (length-map (resetParts (d .count) (d .parts)) face) ∙ ap length (reset-faces (d .count) (d .parts)) ∙ length-map (d .parts) face ∙ f .slots in
+    let l : length (resetParts (d .count) (d .parts)) ≡ 7 = sym (length-map (resetParts (d .count) (d .parts)) seen) ∙ ap length (reset-seen (d .count) (d .parts)) ∙ length-map (d .parts) seen ∙ f .slots in
     either (λ (r : Reset). FitsDevice (r .device)) (breaksD1 d) _ _ f
     (fits-with d f (resetParts (d .count) (d .parts)) l (each-front FitsComponent afterReset blankComponent reset-fits (d .count) (d .parts) (f .each)) Idle tt _ tt)

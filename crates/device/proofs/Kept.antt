@@ -21,7 +21,10 @@ use Rattle.device.specs.Refusals.{breaksD1}
 use Rattle.device.specs.Content.{atSlot}
 use Rattle.device.specs.Entries.{newDevice, setUpBy, setUpOf, resetParts, resetEntry}
 use Rattle.device.specs.Promises.{SetUpPasses, ServeKeepsD1, ResetKeepsD1}
-use Rattle.device.proofs.Lists.{any-map, any-none, any-set, take-map, setup-same, set-faces, reset-faces, reset-take, find-below}
+use Rattle.component.proofs.list.Laws.{find-at}
+use Rattle.component.proofs.list.Members.{map-take, any-map}
+use Rattle.component.proofs.setup.Laws.{setup-same, setup-staged}
+use Rattle.device.proofs.Lists.{any-never, any-set, reset-seen, reset-take}
 use Rattle.device.proofs.Passes.{Passes, passes, keeps, count-most, open-slot}
 use Rattle.device.proofs.Moves.{Move, stays, idles, opens, owes, goes, stages, open-at, serve-moves}
 
@@ -35,7 +38,7 @@ set-up-passes platform list count n l = go (setupVerdict n count (map listed lis
   new = newDevice platform list count n
 
   fresh : any stale (take count (map listed list)) ≡ false
-  fresh = rw (take-map listed count list, any-map listed stale (take count list)) (any-none (take count list))
+  fresh = rw (← (map-take listed count list), ← (any-map listed stale (take count list))) (any-never (take count list))
 
   go : (v : SetupVerdict) → setupVerdict n count (map listed list) ≡ v → setUpBy (setup.rowOf v) new .row ≡ setup.served
       → breaksD1 (setUpBy (setup.rowOf v) new .device) ≡ false
@@ -50,7 +53,7 @@ move-passes : {d d′ : Device} {staging report : List ℕ} → Passes d → Mov
 move-passes {d} p stays = keeps d p
 move-passes {d} p idles = keeps _ (record { setup = p .setup; slot = refl; owed = refl; staged = p .staged })
 move-passes {d} p (opens k f q) =
-    let b = lt-leb (d .count) k (find-below _ (d .count) k (d .parts) f) in
+    let b = lt-leb (d .count) k (find-at _ (d .count) (d .parts) k f .0) in
     keeps _ (record { setup = p .setup; slot = rw (b, q); owed = refl; staged = p .staged })
 move-passes {d} p (owes e) =
     let s = open-at (d .stage) e in
@@ -63,7 +66,7 @@ move-passes {d} p (goes k s) =
 move-passes {d} p (stages k s v e f) =
     let o = open-slot d k p s in
     let c = withStaged (part d k) v in
-    let same = setup-same (d .«staging_len») (d .count) (set (d .parts) k c) (d .parts) (set-faces (d .parts) k v) in
+    let same = setup-staged (d .«staging_len») (d .count) (d .parts) k v in
     let kept : any stale (take (d .count) (set (d .parts) k c)) ≡ false
     = rw (take-set-lt (d .count) (d .parts) k c (o .0)) (any-set stale (take (d .count) (d .parts)) k c (rw f) (p .staged)) in
     keeps _ (record { setup = rw same (p .setup); slot = refl; owed = refl; staged = kept })
@@ -76,7 +79,7 @@ unfolding resetEntry
 reset-keeps-d1 d f h =
     let p = passes d h in
     let m : d .count ≤ length (d .parts) = omega (arith, count-most d p, f .slots) in
-    let same = setup-same (d .«staging_len») (d .count) (resetParts (d .count) (d .parts)) (d .parts) (reset-faces (d .count) (d .parts)) in
+    let same = setup-same (d .«staging_len») (d .count) (resetParts (d .count) (d .parts)) (d .parts) (reset-seen (d .count) (d .parts)) in
     let kept : any stale (take (d .count) (resetParts (d .count) (d .parts))) ≡ false
-    = rw (reset-take (d .count) (d .parts) m, any-map afterReset stale (take (d .count) (d .parts))) (any-none (take (d .count) (d .parts))) in
+    = rw (reset-take (d .count) (d .parts) m, ← (any-map afterReset stale (take (d .count) (d .parts)))) (any-never (take (d .count) (d .parts))) in
     rw h (keeps (idleWith d (resetParts (d .count) (d .parts))) (record { setup = rw same (p .setup); slot = refl; owed = refl; staged = kept }))

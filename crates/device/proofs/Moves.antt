@@ -39,7 +39,8 @@ use Rattle.device.specs.Refusals.{Row, served, D, refusalOf, unlessRefus
 use Rattle.device.specs.Offer.{slotOf, isAbsent, rejections, offerVerdict, afterOffer, onOffer, onInformation, onNotify, onExtended, onKind, offerEntry}
 use Rattle.device.specs.Content.{window, atSlot, contentVerdict, takeBlock, isLast, finish, judge, goesOn, onBlock, onVerdict, contentEntry}
 use Rattle.device.specs.Entries.{serveEntry}
-use Rattle.device.proofs.Chain.{neither, first-says}
+use Rattle.component.proofs.list.Members.{neither}
+use Rattle.device.proofs.Chain.{first-says}
 
 -- what an entry can do to the record d, where the report is an offer or a signal, or content for this staging buffer
 pub data Move (d : Device) (staging report : List ℕ) : Device → Type 0 where

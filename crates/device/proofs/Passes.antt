@@ -1,25 +1,24 @@
 -- D1 as its four parts, and what it tells of a record that passes. Assumes nothing.
-use mathlib.Core.Path.{_≡_}
+use mathlib.Core.Path.{_≡_, refl}
 use mathlib.Core.Bool.{Bool, true, false, not, true≢false}
 use mathlib.Core.List.{List, [], _∷_}
 use Prim.Native.Nat.{ℕ, _≤_, _<_}
 use native.Mathlib.Omega.{arith}
-use borrow.Author.Tests.{ltb-false, leb-false, eqb-true, not-false, le-leb}
-use lib.Dec.{ltb, leb, eqb}
-use lib.ListN.{length, take, length-take}
-use lib.Seq.{getD-take}
+use borrow.Author.Tests.{leb-false, eqb-true, not-false, le-leb}
+use lib.Dec.{leb, eqb}
+use lib.ListN.{length}
 use Rattle.image.specs.Region.{isInside}
-use Rattle.component.specs.Record.{isPending, blankComponent}
-use Rattle.component.specs.Setup.{stagingTooLong, badCount, badIds, badRegion, badRegions, setupVerdict}
-use Rattle.component.specs.declared.record.Component.{Component}
+use Rattle.component.specs.Record.{isPending}
+use Rattle.component.specs.Setup.{setupVerdict}
 use Rattle.component.specs.declared.list.Found.the-variants.{At}
 use Rattle.component.specs.declared.setup.SetupVerdict.{SetupVerdict}
 use Rattle.component.specs.declared.setup.SetupVerdict.the-variants.{Fine, S1, S2, S3, S4}
 use Rattle.device.specs.declared.record.Device.{Device}
 use Rattle.device.specs.Record.{part, openSlot}
 use Rattle.device.specs.Refusals.{Row, served, D, refusalOf, refusesSetup, breaksSetup, wrongSlot, opensWrong, owesIdle, stagedBelow, breaksD1}
-use Rattle.device.proofs.Lists.{any-at}
-use Rattle.device.proofs.Chain.{neither, Quiet, first-says}
+use Rattle.component.proofs.setup.Laws.{fine-count, fine-region}
+use Rattle.component.proofs.list.Members.{neither}
+use Rattle.device.proofs.Chain.{first-says}
 
 -- no part of D1 applies
 pub record Passes (d : Device) : Type 0 where
@@ -39,22 +38,20 @@ pub keeps : (d : Device) → Passes d → breaksD1 d ≡ false
 unfolding breaksD1
 keeps d p = rw (p .setup, p .slot, p .owed) (p .staged)
 
--- the rows of set-up
-abbrev rows : (n count : ℕ) → List Component → List (Bool × SetupVerdict)
-rows n count parts =
-    (stagingTooLong n, S1) ∷ (badCount count, S2) ∷ (badIds (take count parts), S3) ∷ (badRegions n (take count parts), S4) ∷ []
+-- what no row of set-up refuses is fine
+pub fine : (v : SetupVerdict) → refusesSetup v ≡ false → v ≡ Fine
+fine Fine h = refl
+fine S1 h = absurd (true≢false h)
+fine S2 h = absurd (true≢false h)
+fine S3 h = absurd (true≢false h)
+fine S4 h = absurd (true≢false h)
 
--- where no row refuses, no row applies
-pub quiet-setup : (n count : ℕ) (parts : List Component) → refusesSetup (setupVerdict n count parts) ≡ false → Quiet (rows n count parts)
-unfolding setupVerdict
-quiet-setup n count parts = first-says (λ (v : SetupVerdict). refusesSetup v ≡ false → Quiet (rows n count parts)) (rows n count parts) Fine
-    (λ e. absurd (true≢false e), (λ e. absurd (true≢false e), (λ e. absurd (true≢false e), (λ e. absurd (true≢false e), tt))))
-    (λ q e. q)
+pub setup-fine : (d : Device) → Passes d → setupVerdict (d .«staging_len») (d .count) (d .parts) ≡ Fine
+setup-fine d p = fine _ (p .setup)
 
 -- there are at most seven components
 pub count-most : (d : Device) → Passes d → d .count ≤ 7
-count-most d p =
-    ltb-false 7 (d .count) (neither (ltb (d .count) 1) _ (quiet-setup (d .«staging_len») (d .count) (d .parts) (p .setup) .1 .0) .1)
+count-most d p = fine-count (d .«staging_len») (d .count) (d .parts) (setup-fine d p) .1
 
 -- a session that is open on a slot is open on a component that is listed and not pending
 pub open-slot : (d : Device) (k : ℕ) → Passes d → openSlot (d .stage) ≡ At k → (k < d .count) × (isPending (part d k .staged) ≡ false)
@@ -87,12 +84,4 @@ serves size d n m = first-says (λ (r : Row). r ≡ served → Serves size d n m
 
 -- the region of a component in use lies in the staging buffer
 pub region-inside : (d : Device) (k : ℕ) → Passes d → length (d .parts) ≡ 7 → k < d .count → isInside (part d k .region) (d .«staging_len») ≡ true
-unfolding badRegions
-region-inside d k p l h =
-    let n = d .«staging_len» in
-    let inUse = take (d .count) (d .parts) in
-    let m : k < length inUse = simp length-take (omega (arith, count-most d p)) in
-    let q = quiet-setup n (d .count) (d .parts) (p .setup) .1 .1 .1 .0 in
-    let a = any-at (λ (c : Component). badRegion n (c .region)) inUse k blankComponent m (neither _ _ q .0) in
-    let b : badRegion n (part d k .region) ≡ false = rw (getD-take (d .count) (d .parts) k blankComponent h) at a in
-    le-leb _ n (ltb-false n _ (neither (ltb (part d k .region .len) 8) _ b .1))
+region-inside d k p l h = le-leb _ _ (fine-region (d .«staging_len») (d .count) (d .parts) (setup-fine d p) l k h .1)

@@ -1,11 +1,11 @@
 -- `setup::set_up` meets its contract: the blank record where a row refuses, and the new one where none does. Assumes nothing.
 use mathlib.Core.Path.{sym}
 use native.Mathlib.Omega.{arith}
-use borrow.Author.Tests.{ltb-false}
 use lib.ListN.{length}
 use Rattle.device.specs.Entries.{setUpOf}
 use Rattle.device.proofs.Chain.{by}
-use Rattle.device.proofs.Passes.{quiet-setup}
+use Rattle.device.proofs.Passes.{fine}
+use Rattle.component.proofs.setup.Laws.{fine-staging}
 use Rattle.device.proofs.setup.Laws.{refused-set-up, made-set-up}
 use borrow.Author.Needs.{needs}
 use Rattle.device.proofs.setup.set_up.Statement.{statement}
@@ -34,7 +34,7 @@ cast-t11 : tie.Need-cast-t11
 cast-t11 c =
     let n = length (c .before .before .before .before .before .args .staging .now) in
     let h = rw (c .before .before .setup-verdict .ensures) at (by (c .before .refuses-setup .ensures) (c .if1 .left)) in
-    record { fits = omega (arith, ltb-false 65536 n (quiet-setup n _ _ h .0)) }
+    record { fits = omega (arith, fine-staging n _ _ (fine _ h)) }
 
 returns-2 : tie.Need-returns-2
 unfolding setUpOf

@@ -1,5 +1,5 @@
 -- D1 lets an open session pass, and a component that has become pending. Assumes nothing.
-use Prim.Native.Nat.{ℕ, zero, suc, _<_}
+use Prim.Native.Nat.{ℕ, _<_}
 use mathlib.Core.Path.{_≡_, refl}
 use mathlib.Core.Bool.{Bool, true, false, not}
 use mathlib.Core.List.{List}
@@ -15,7 +15,8 @@ use Rattle.component.specs.declared.record.Component.{Component}
 use Rattle.device.specs.declared.record.Device.{Device}
 use Rattle.device.specs.Record.{toIdle, idleWith}
 use Rattle.device.specs.Refusals.{breaksD1}
-use Rattle.device.proofs.Lists.{any-set, setup-same, set-faces}
+use Rattle.component.proofs.setup.Laws.{setup-staged}
+use Rattle.device.proofs.Lists.{any-set}
 use Rattle.device.proofs.Passes.{passes, keeps}
 use Rattle.device.proofs.Blocks.{held, awaits, awaits-slot}
 
@@ -38,7 +39,7 @@ module _ (d : Device) (parts : List Component) (slot : ℕ) (listed : slot < d .
       let p = passes (idleWith d parts) h in
       let c = withStaged (partAt parts slot) v in
       let stale : Component → Bool = λ x. not (keepsStaged x (x .staged)) in
-      let same = setup-same (d .«staging_len») (d .count) (set parts slot c) parts (set-faces parts slot v) in
+      let same = setup-staged (d .«staging_len») (d .count) parts slot v in
       let kept : any stale (take (d .count) (set parts slot c)) ≡ false
       = rw (take-set-lt (d .count) parts slot c listed) (any-set stale (take (d .count) parts) slot c (rw f) (p .staged)) in
       keeps _ (record { setup = rw same (p .setup); slot = refl; owed = refl; staged = kept })

@@ -1,0 +1,100 @@
+#!/usr/bin/env python3
+"""Writes each impostor as a changed definition, and names the statement that it breaks.
+
+usage: tests/impostors/try.py [NAME ..]
+
+An impostor is a wrong device or host written into the definitions themselves, so that no contract can catch it: only a statement about the definitions
+can. A copy of the repository is made with the definitions, the declared types and the statements that compute (E1 to E10, E13 in both orders, the
+chain of seven, the mixed case, the need cycle), and no function. Each file NAME.impostor changes one line of a definition; the line `breaks:` says
+which proof must fail, or `nothing` where no statement that computes sees it and docs/IMPOSTORS.md says what does. Status 1 where it comes otherwise."""
+import glob
+import os
+import re
+import shutil
+import subprocess
+import sys
+import tempfile
+
+HERE = os.path.dirname(os.path.abspath(__file__))
+TOP = os.path.dirname(os.path.dirname(HERE))
+ROOMS = ['wire', 'offers', 'contents', 'versions', 'crc16', 'image', 'component', 'records', 'bundle', 'device', 'host', 'update']
+# the statements that compute, and what they stand on
+PROOFS = {'wire': ['Tests'], 'device': ['Bench'], 'update': ['Fitting', 'Goodness', 'Bench', 'Cases']}
+
+
+def types_only(text):
+    """A source file without its functions: modules, types and constants stay."""
+    kept, lines, i = [], text.split('\n'), 0
+    while i < len(lines):
+        line = lines[i]
+        if re.match(r'(pub(\(crate\))? )?fn |impl ', line):
+            while not lines[i].startswith('}'):
+                i += 1
+        elif line.startswith('ghost use') or re.match(r'use .*::[a-z_]\w*;', line) or re.match(r'use .*::[A-Z_]+;', line) or re.match(r'const ', line):
+            while not lines[i].rstrip().endswith(';'):
+                i += 1
+        else:
+            kept.append(line)
+        i += 1
+    return '\n'.join(kept)
+
+
+def definitions(folder):
+    """The repository without its functions and their proofs."""
+    table = open(os.path.join(TOP, 'crates.txt'), encoding='utf-8').read().split('\n')
+    with open(os.path.join(folder, 'crates.txt'), 'w', encoding='utf-8') as out:
+        for line in table:
+            if line.split(':')[0] in ROOMS:
+                name, rest = line.split(':')
+                out.write(name + ': ' + ' '.join(d for d in rest.split() if d in ROOMS) + '\n')
+    for room in ROOMS:
+        source, target = os.path.join(TOP, 'crates', room), os.path.join(folder, 'crates', room)
+        shutil.copytree(os.path.join(source, 'specs'), os.path.join(target, 'specs'))
+        os.makedirs(os.path.join(target, 'src'))
+        for path in glob.glob(os.path.join(source, 'src', '*.rt')):
+            with open(os.path.join(target, 'src', os.path.basename(path)), 'w', encoding='utf-8') as out:
+                out.write(types_only(open(path, encoding='utf-8').read()))
+        if room in PROOFS:
+            os.makedirs(os.path.join(target, 'proofs'))
+            for name in PROOFS[room]:
+                shutil.copy(os.path.join(source, 'proofs', name + '.antt'), os.path.join(target, 'proofs'))
+            with open(os.path.join(target, 'proofs', 'Lib.antt'), 'w', encoding='utf-8') as out:
+                out.write(''.join(f'pub mod {name}\n' for name in PROOFS[room]))
+    subprocess.run(['git', 'init', '-q', folder], check=True)
+
+
+def check(folder):
+    done = subprocess.run(['rt', 'check', 'update'], cwd=folder, capture_output=True, text=True, env=dict(os.environ, RT_CUT='0'))
+    return done.returncode, done.stdout + done.stderr
+
+
+def main():
+    bad = 0
+    with tempfile.TemporaryDirectory() as folder:
+        definitions(folder)
+        status, said = check(folder)
+        if status != 0:
+            print('the definitions themselves do not pass:\n' + said[-2000:])
+            return 1
+        wanted = sys.argv[1:] or sorted(os.path.basename(p)[:-len('.impostor')] for p in glob.glob(os.path.join(HERE, '*.impostor')))
+        for name in wanted:
+            lines = open(os.path.join(HERE, name + '.impostor'), encoding='utf-8').read().split('\n')
+            field = {l.split(': ', 1)[0]: l.split(': ', 1)[1] for l in lines if ': ' in l and not l.startswith('--')}
+            path = os.path.join(folder, field['file'])
+            before = open(path, encoding='utf-8').read()
+            assert before.count(field['old']) == 1, (name, before.count(field['old']))
+            with open(path, 'w', encoding='utf-8') as out:
+                out.write(before.replace(field['old'], field['new']))
+            status, said = check(folder)
+            errors = [l for l in said.split('\n') if ': error: `' in l]
+            first = re.search(r'error: `([\w-]+)`', errors[0]).group(1) if errors else 'nothing'
+            good = (status != 0) == (field['breaks'] != 'nothing') and first == field['breaks']
+            bad += not good
+            print(f"{'as said' if good else 'NOT AS SAID'}  {name}: {lines[0][3:]}\n    breaks {first}" + ('' if good else f", not {field['breaks']}"))
+            with open(path, 'w', encoding='utf-8') as out:
+                out.write(before)
+    return 1 if bad else 0
+
+
+if __name__ == '__main__':
+    sys.exit(main())

@@ -15,7 +15,7 @@ answered c = content-read (c .read-content-reply .result) _ (c .read-content-rep
 
 -- past both tests it is ours
 ours : (c : tie.Else2) → foreignContent (c .before .before .before .before .before .before .before .args .p) (c .before .before .before .before .before .before .before .args .reply .now) ≡ false
-ours c = rw (eq-eqb _ _ (c .before .before .before .before .before .if1 .left), eq-eqb _ _ (rw (answered (c .before .before .before .before), c .before .sequence .ensures) at (c .if2 .left)))
+ours c = rw (eq-eqb _ _ (c .before .before .before .before .before .if1 .left), eq-eqb _ _ (rw (answered (c .before .before .before .before), c .before .before .sequence .ensures) at (c .if2 .left)))
 
 ends-requires : tie.Need-ends-requires
 ends-requires c κs = search needs
@@ -36,7 +36,7 @@ ends-requires-2 c κs = search needs
 returns-2 : tie.Need-returns-2
 unfolding hearsBlock
 returns-2 c =
-    rw (eq-eqb _ _ (c .before .before .before .before .before .before .if1 .left), ne-eqb _ _ (rw (answered (c .before .before .before .before .before), c .before .before .sequence .ensures) at (c .before .if2 .taken)))
+    rw (eq-eqb _ _ (c .before .before .before .before .before .before .if1 .left), ne-eqb _ _ (rw (answered (c .before .before .before .before .before), c .before .before .before .sequence .ensures) at (c .before .if2 .taken)))
     (c .ends2 .ensures)
 
 goes-on-requires : tie.Need-goes-on-requires

@@ -234,13 +234,14 @@ fn hears_block(n: u32, last: bool, p: Place, h: Host, reply: &[u8]) -> Move
     }
     let read = read_content_reply(reply);
     let answer = read.reply;
+    let status = answer.status;
     if answer.sequence != sequence(p.block) {
         return ends(h, End::Foreign);
     }
-    if answer.status == codes::SUCCESS {
+    if status == codes::SUCCESS {
         return goes_on(n, last, p, h);
     }
-    ends(h, End::Status(answer.status))
+    ends(h, End::Status(status))
 }
 
 // What the host does, by its stage; a fresh host and an ended one await no reply.

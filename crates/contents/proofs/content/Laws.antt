@@ -38,7 +38,7 @@ used-most n = go (leb n 52) refl
     go false h = omega arith
 
 -- what follows n of m zeros
-drop-zeros : (n m : ℕ) → drop {A = ℕ} n (replicate m 0) ≡ replicate (m - n) 0
+pub drop-zeros : (n m : ℕ) → drop {A = ℕ} n (replicate m 0) ≡ replicate (m - n) 0
 drop-zeros zero m = simp unary-clauses
 drop-zeros (suc n) zero = let e : 0 - suc n ≡ 0 = omega arith in rw e
 drop-zeros (suc n) (suc m) = simp unary-clauses (drop-zeros n m)

@@ -2,8 +2,7 @@
 use mathlib.Core.Path.{_≡_, refl, sym, ap, _∙_}
 use mathlib.Core.Bool.{Bool, true, false}
 use mathlib.Core.List.{List, _++_}
-use Prim.Native.Nat.{ℕ, zero, suc, _+_, _-_, _%_, _≤_}
-use native.Mathlib.Numerals.{unary-clauses}
+use Prim.Native.Nat.{ℕ, _+_, _-_, _%_, _≤_}
 use native.Mathlib.Omega.{arith}
 use borrow.Author.Tests.{le-leb}
 use lib.Dec.{eqb}
@@ -14,6 +13,7 @@ use lib.ListN.{length, take, drop, replicate, length-take, length-drop, length-r
 use Rattle.wire.specs.Rows.{Told}
 use Rattle.wire.specs.declared.address.RegionAddress.{RegionAddress}
 use Rattle.contents.specs.declared.content.BuiltContent.{BuiltContent}
+use Rattle.contents.proofs.content.Laws.{drop-zeros}
 use Rattle.contents.specs.Content.{toldBuilt, buildOf}
 use Rattle.host.specs.Decide.{sequenceOf}
 use Rattle.host.specs.Step.{flagsOf, blockBytes}
@@ -28,12 +28,6 @@ flags-sound false false = refl
 -- a record's data in the bytes
 part-length : (b : List ℕ) (start size : ℕ) → start + size ≤ length b → length (take size (drop start b)) ≡ size
 part-length b start size h = simp (length-take, length-drop) (omega arith)
-
--- what follows n of m zeros
-drop-zeros : (n m : ℕ) → drop {A = ℕ} n (replicate m 0) ≡ replicate (m - n) 0
-drop-zeros zero m = simp unary-clauses
-drop-zeros (suc n) zero = let e : 0 - suc n ≡ 0 = omega arith in rw e
-drop-zeros (suc n) (suc m) = simp unary-clauses (drop-zeros n m)
 
 -- the data of a record, copied over as many of 52 zeros
 pub data-laid : (b : List ℕ) (start size n m : ℕ) (r : List ℕ) → n ≡ size → m ≡ size → size ≤ 52 → start + size ≤ length b

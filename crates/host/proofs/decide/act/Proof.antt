@@ -63,7 +63,9 @@ returns-3 c = rw (c .before .match .keys3) (c .send-block .ensures)
 
 returns-4 : tie.Need-returns-4
 unfolding act
-returns-4 c = rw (c .before .before .before .match .keys4) (c .offer-from2 .ensures ∙ ap (offerFrom (c .before .before .before .before .args .n) (c .before .before .before .before .args .t .entry + 1)) (c .before .noted .ensures))
+returns-4 c =
+    let a = c .before .before .before .before .args in
+    rw (c .before .before .before .match .keys4) (c .offer-from2 .ensures ∙ ap (offerFrom (a .n) (a .t .entry + 1)) (c .before .noted .ensures))
 
 returns-5 : tie.Need-returns-5
 unfolding act

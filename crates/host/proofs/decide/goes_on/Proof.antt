@@ -22,7 +22,9 @@ send-block-requires : tie.Need-send-block-requires
 send-block-requires c κs = search needs
 
 returns : tie.Need-returns
-returns c = rw (c .before .before .before .if1 .taken) (c .offer-from .ensures ∙ ap (offerFrom (c .before .before .before .before .args .n) (c .before .before .before .before .args .p .entry + 1)) (c .before .completes .ensures))
+returns c =
+    let a = c .before .before .before .before .args in
+    rw (c .before .before .before .if1 .taken) (c .offer-from .ensures ∙ ap (offerFrom (a .n) (a .p .entry + 1)) (c .before .completes .ensures))
 
 returns-2 : tie.Need-returns-2
 returns-2 c = rw (c .before .before .if1 .left) (c .send-block .ensures)

@@ -27,7 +27,9 @@ ends-requires-2 c κs = search needs
 
 returns-2 : tie.Need-returns-2
 unfolding hears
-returns-2 c = let e = answered (c .before .before .before .before .before) in rw (eq-eqb _ _ (c .before .before .before .before .before .before .if1 .left), ne-eqb _ _ (rw e at (c .before .if2 .taken))) (c .ends2 .ensures)
+returns-2 c =
+    rw (eq-eqb _ _ (c .before .before .before .before .before .before .if1 .left), ne-eqb _ _ (rw (answered (c .before .before .before .before .before)) at (c .before .if2 .taken)))
+    (c .ends2 .ensures)
 
 code-for-requires : tie.Need-code-for-requires
 code-for-requires c κs = search needs
@@ -37,7 +39,10 @@ act-requires c κs = search needs
 
 returns-3 : tie.Need-returns-3
 unfolding hears
-returns-3 c = let e = answered (c .before .before .before .before .before .before) in rw (eq-eqb _ _ (c .before .before .before .before .before .before .before .if1 .left), eq-eqb _ _ (rw e at (c .before .before .if2 .left))) (c .act .ensures ∙ rw (c .before .code-for .ensures, e))
+returns-3 c =
+    let e = answered (c .before .before .before .before .before .before) in
+    rw (eq-eqb _ _ (c .before .before .before .before .before .before .before .if1 .left), eq-eqb _ _ (rw e at (c .before .before .if2 .left)))
+    (c .act .ensures ∙ rw (c .before .code-for .ensures, e))
 
 pub hears-spec : {M : Type 1} → statement M
 hears-spec =

@@ -6,6 +6,7 @@ use Rattle.records.specs.Record.{Block}
 use Rattle.host.specs.Step.{isLastOf, blockBytes}
 use lib.Dec.{eqb}
 use lib.ListN.{take, drop, length-take}
+use Rattle.records.specs.declared.Next.{Next}
 use Rattle.records.specs.Walk.{nextOf}
 use Rattle.bundle.specs.Contents.{toldChecked}
 use Rattle.host.specs.Inner.{recordsOn, bodyEnd, recordStart, madeOf, toldInner}
@@ -16,13 +17,17 @@ use borrow.Author.Needs.{needs}
 use Rattle.host.proofs.inner.made_block.Statement.{statement}
 use Rattle.host.proofs.inner.made_block.Tie as tie
 
--- what is read stands at the start of the block's record
-next-is : (c : tie.After-next-record)
-    → c .next-record .result ≡ nextOf (c .before .before .before .before .before .args .b .now) (recordStart (toldChecked (c .before .before .before .before .before .args .c)) (c .before .before .before .before .before .args .cursor) (c .before .before .before .before .before .args .p)) (bodyEnd (toldChecked (c .before .before .before .before .before .args .c)) (c .before .before .before .before .before .args .p))
+-- what stands at the start of the block's record
+abbrev due : tie.Start → Next
+due s = nextOf (s .args .b .now) (recordStart (toldChecked (s .args .c)) (s .args .cursor) (s .args .p)) (bodyEnd (toldChecked (s .args .c)) (s .args .p))
+
+-- is what is read
+next-is : (c : tie.After-next-record) → c .next-record .result ≡ due (c .before .before .before .before .before)
 next-is c =
+    let a = c .before .before .before .before .before .args in
     let e = c .before .before .body-at .ensures .0 in
     c .next-record .ensures
-    ∙ ap₂ (nextOf (c .before .before .before .before .before .args .b .now)) (c .before .start-of .ensures ∙ ap (λ (y : Body). cond (eqb (c .before .before .before .before .before .args .p .block) 0) (y .start) (c .before .before .before .before .before .args .cursor)) e) (ap (λ (y : Body). y .end) e)
+    ∙ ap₂ (nextOf (a .b .now)) (c .before .start-of .ensures ∙ ap (λ (y : Body). cond (eqb (a .p .block) 0) (y .start) (a .cursor)) e) (ap (λ (y : Body). y .end) e)
 
 -- and where it is a record, what that is
 stood : (c : tie.After-r) → Stands (c .before .before .before .before .before .before .before .args .b .now) (c .before .before .before .start-of .result) (c .before .before .before .before .body-at .result .end) (c .r .given .0 .0) (c .r .given .0 .1 .0) (c .r .given .0 .1 .1 .0) (c .r .given .0 .1 .1 .1 .0)

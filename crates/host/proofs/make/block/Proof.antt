@@ -40,7 +40,13 @@ build-content-requires : tie.Need-build-content-requires
 build-content-requires c κs = search needs
 
 returns : tie.Need-returns
-returns c = let s = c .before .before .before .before .before .before .before .before .before in let p = s .pre in let e = data-laid _ (s .args .start) (s .args .size) (s .args .size - 0) (s .args .start + s .args .size - s .args .start) _ (omega arith) (omega arith) (p .1) (p .2) (c .before .before .before .before .before .copy .ensures) in block-made (c .before .build-content .result) _ (s .args .k) (s .args .last) (s .args .address) (s .args .start) (s .args .size) _ (p .0) (p .1) (p .2) e (rw (c .before .before .before .flags .ensures, c .before .before .sequence .ensures) at (c .before .build-content .ensures))
+returns c =
+    let s = c .before .before .before .before .before .before .before .before .before in
+    let a = s .args in
+    let p = s .pre in
+    let e = data-laid _ (a .start) (a .size) (a .size - 0) (a .start + a .size - a .start) _ (omega arith) (omega arith) (p .1) (p .2) (c .before .before .before .before .before .copy .ensures) in
+    block-made (c .before .build-content .result) _ (a .k) (a .last) (a .address) (a .start) (a .size) _ (p .0) (p .1) (p .2) e
+    (rw (c .before .before .before .flags .ensures, c .before .before .sequence .ensures) at (c .before .build-content .ensures))
 
 pub block-spec : {M : Type 1} → statement M
 block-spec =

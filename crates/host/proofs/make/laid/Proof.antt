@@ -24,7 +24,10 @@ copy-requires : tie.Need-copy-requires
 copy-requires c κs = search needs
 
 returns : tie.Need-returns
-returns c = let l : length (c .before .before .before .before .args .t1) ≡ 16 = search needs in ap (λ (q : List ℕ). q ++ replicate 44 0) (copied 16 (c .before .before .before .before .args .t1) _ l (c .before .copy .ensures))
+returns c =
+    let p = c .before .before .before .before .args .t1 in
+    let l : length p ≡ 16 = search needs in
+    ap (λ (q : List ℕ). q ++ replicate 44 0) (copied 16 p _ l (c .before .copy .ensures))
 
 pub laid-spec : {M : Type 1} → statement M
 laid-spec =

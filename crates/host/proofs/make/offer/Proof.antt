@@ -41,7 +41,12 @@ laid-requires : tie.Need-laid-requires
 laid-requires c κs = search needs
 
 returns : tie.Need-returns
-returns c = let at = tableEnd (c .before .before .before .before .before .before .args .entry) in c .laid .ensures ∙ ap (λ (q : List ℕ). set q 3 (c .before .before .before .before .before .before .args .token) ++ replicate 44 0) (offer-copied _ at (at + 16 - at) _ (omega arith) (omega (arith, c .before .before .before .before .before .before .pre)) (c .before .before .copy .ensures))
+returns c =
+    let s = c .before .before .before .before .before .before in
+    let at = tableEnd (s .args .entry) in
+    c .laid .ensures
+    ∙ ap (λ (q : List ℕ). set q 3 (s .args .token) ++ replicate 44 0)
+    (offer-copied _ at (at + 16 - at) _ (omega arith) (omega (arith, s .pre)) (c .before .before .copy .ensures))
 
 pub offer-spec : {M : Type 1} → statement M
 offer-spec =

@@ -26,7 +26,8 @@ use bundle::check;
 use records::Next;
 use records::walk::next_record;
 
-fn is_fine(verdict: BundleVerdict) -> bool
+// No row refuses the bundle.
+pub fn is_fine(verdict: BundleVerdict) -> bool
     ensures { λ r. ⌜ r ≡ eqb (rows.numberOf verdict) 0 ⌝ }
 {
     match verdict {

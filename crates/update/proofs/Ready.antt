@@ -200,7 +200,7 @@ module _ (b : List ℕ) (α : Accepted b) where
   fits-stage passes (Ended e) r = refl
 
   -- a ready record does not meet N1
-  ready-fits : (h : Host) → Ready b h → breaksN1 b h ≡ false
+  pub ready-fits : (h : Host) → Ready b h → breaksN1 b h ≡ false
   unfolding breaksN1
   ready-fits h r =
       rw (fits-stage (h .passes) (h .stage) (r .stage), le-ltb (countIn b) (h .passes) (r .passes), lt-leb PACKET-LIMIT (h .packets) (omega (arith, r .room, bound-small)))

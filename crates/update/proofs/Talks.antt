@@ -4,7 +4,7 @@ use Prim.Native.Nat.{ℕ, zero, suc, _+_, _<_}
 use mathlib.Core.Path.{_≡_, refl, sym, ap, subst, _∙_}
 use mathlib.Core.Bool.{Bool, true, false, cond}
 use mathlib.Core.List.{List, [], _∷_, _++_, append-nil}
-use native.Mathlib.Nat.{zero-add, suc-add}
+use native.Mathlib.Nat.{zero-add, suc-add, add-comm}
 use Rattle.bundle.specs.Layout.{countIn}
 use Rattle.bundle.specs.Rows as bundle
 use Rattle.bundle.proofs.Accepted.{accepted}
@@ -22,7 +22,7 @@ use Rattle.update.proofs.Ends.{stays, step-at, host-ends}
 use Rattle.update.proofs.Counts.{host-counts}
 
 -- what a step leaves
-deliver-host : (ps : List (List ℕ)) (h : Host) (s : System) → deliver ps h s .host ≡ h
+pub deliver-host : (ps : List (List ℕ)) (h : Host) (s : System) → deliver ps h s .host ≡ h
 unfolding deliver
 deliver-host [] h s = refl
 deliver-host (p ∷ ps) h s = refl
@@ -120,6 +120,13 @@ module _ (b : List ℕ) where
     -- the host has ended within the bound
     pub ended-within : hasEnded (at (boundOf b) .host .stage) ≡ true
     ended-within = subst (λ (h : Host). hasEnded (h .stage) ≡ true) (host-is (boundOf b)) (host-ends b token hears bytes accept small .ended)
+
+    -- so where it has ended, the run is at its last
+    pub ended-last : (k : ℕ) → hasEnded (at k .host .stage) ≡ true → at (boundOf b) ≡ at k
+    ended-last k e =
+        sym (ended-stays k (at (boundOf b)) ended-within) ∙ sym (run-then (boundOf b) k (start token d staging reply))
+        ∙ ap (λ (n : ℕ). run b n (start token d staging reply)) (add-comm (boundOf b) k)
+        ∙ run-then k (boundOf b) (start token d staging reply) ∙ ended-stays (boundOf b) (at k) e
 
     -- its counts are those of the list
     pub run-counts : (k : ℕ) → hasEnded (at k .host .stage) ≡ true → Counted b (at k .host) (at k .trace)

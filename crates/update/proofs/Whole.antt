@@ -4,7 +4,6 @@ use mathlib.Core.Path.{_≡_, sym, ap, subst, _∙_}
 use mathlib.Core.Logic.{inl, inr}
 use mathlib.Core.Bool.{Bool, true, not, _&&_}
 use mathlib.Core.List.{List, []}
-use native.Mathlib.Nat.{add-comm}
 use native.Mathlib.Decide.{decLt}
 use native.Mathlib.Omega.{arith}
 use lib.Dec.{T, T-not, not-T, eqb, eqb→eq, eqb-refl}
@@ -27,7 +26,7 @@ use Rattle.host.specs.Step.{Step, stepOf}
 use Rattle.host.specs.declared.record.HostStage.the-variants.{Ended}
 use Rattle.host.specs.declared.record.End.the-variants.{Done}
 use Rattle.update.specs.Trace.{passesIn}
-use Rattle.update.specs.Run.{System, run, start, recordsFrom, recordsIn, boundOf, lastOf}
+use Rattle.update.specs.Run.{System, run, start, recordsFrom, recordsIn, lastOf}
 use Rattle.update.specs.Ends.{Counted}
 use Rattle.update.specs.Claim.{offerAt, isMet, feeds, Closed, Within, Smallest, Leaves, Fills}
 use Rattle.update.specs.Demand.{Premise, stagedIn, Turn}
@@ -36,7 +35,7 @@ use Rattle.update.proofs.Landed.{offers, numbered, below-count}
 use Rattle.update.proofs.Filled.{fine-setup}
 use Rattle.update.proofs.Pass.{Given}
 use Rattle.update.proofs.Rounds.{Comes, comes-whole}
-use Rattle.update.proofs.Talks.{run-then, ended-sends, ended-stays, step-is, run-goes, ended-within, run-counts}
+use Rattle.update.proofs.Talks.{run-then, ended-sends, ended-stays, step-is, run-goes, ended-last, run-counts}
 
 -- the records of all bodies, by the numbers of the entries
 records-from : (b : List ℕ) (l : List (List ℕ)) (m k : ℕ) → k + m ≡ length l
@@ -109,19 +108,13 @@ module _ (b : List ℕ) (token : ℕ) (d : Device) (staging reply : List ℕ) (P
   over : hasEnded (c .last .host .stage) ≡ true
   over = ap hasEnded (c .done)
 
+  -- and so it has in the run
+  run-over : hasEnded (run b (c .leads .turns) (start token d staging reply) .host .stage) ≡ true
+  run-over = subst (λ (x : System). hasEnded (x .host .stage) ≡ true) (sym ends) over
+
   -- and is still there at the bound
   last-is : lastOf b token d staging reply ≡ c .last
-  last-is =
-      sym (ended-stays b n (at-bound) (ended-within b token d staging reply (P .bundle) (P .accepted) (P .small)))
-      ∙ sym (run-then b (boundOf b) n (start token d staging reply))
-      ∙ ap (λ (k : ℕ). run b k (start token d staging reply)) (add-comm (boundOf b) n)
-      ∙ run-then b n (boundOf b) (start token d staging reply) ∙ ap (run b (boundOf b)) ends ∙ ended-stays b (boundOf b) (c .last) over
-    where
-      n : ℕ
-      n = c .leads .turns
-
-      at-bound : System
-      at-bound = run b (boundOf b) (start token d staging reply)
+  last-is = ended-last b token d staging reply (P .bundle) (P .accepted) (P .small) (c .leads .turns) run-over ∙ ends
 
   -- every turn is served, with exactly one reply to what is sent
   turn-is : (m : ℕ) → Turn b (run b m (start token d staging reply))
@@ -149,7 +142,7 @@ module _ (b : List ℕ) (token : ℕ) (d : Device) (staging reply : List ℕ) (P
   counted : Counted b (c .last .host) (c .last .trace)
   counted =
       subst (λ (x : System). Counted b (x .host) (x .trace)) ends
-      (run-counts b token d staging reply (P .bundle) (P .accepted) (P .small) (c .leads .turns) (subst (λ (x : System). hasEnded (x .host .stage) ≡ true) (sym ends) over))
+      (run-counts b token d staging reply (P .bundle) (P .accepted) (P .small) (c .leads .turns) run-over)
 
   -- what the passes reached is what the list shows
   is-staged : (i : ℕ) → i < countIn b → stagedIn b (c .last) i ≡ passesOf y os .set i

@@ -1,5 +1,6 @@
 pub mod Trace
 pub mod Run
+pub mod Turn
 pub mod Answer
 pub mod Ends
 pub mod Claim

@@ -1,7 +1,19 @@
-// Both ends: what the run of a fresh host against a device answers.
+// Both ends: the run of a fresh host against a device, and what it answers.
+ghost use mathlib.Core.Path.{_≡_};
+ghost use mathlib.Core.List.{List, []};
+ghost use Prim.Native.Nat.{ℕ};
+ghost use Rattle.update.specs.Run.{lastOf};
+ghost use Rattle.update.specs.Answer.{rowOf, refusedBy, runOf, told};
+ghost use Rattle.update.specs.Demand.{Premise, Demand};
+use crate::turn::run_to_end;
 use bundle::BundleVerdict;
+use bundle::check;
 use device::record::Device;
 use host::answer::Report;
+use host::record::Host;
+use host::step::is_fine;
+
+pub mod turn; // turn.rt: one turn, and the turns until the host has ended
 
 // Served, or the row that refuses the run.
 pub enum RunRefusal {
@@ -18,4 +30,46 @@ pub struct RunAnswer {
     pub refusal: RunRefusal,
     pub report: Report,
     pub device: Device,
+}
+
+// A refused run sends nothing and changes nothing.
+fn refused(refusal: RunRefusal, token: u8, device: Device) -> RunAnswer
+    ensures { λ r. ⌜ ((staging : List ℕ) → told r staging ≡ refusedBy (rowOf refusal) token device staging) ⌝ }
+{
+    let host = Host::fresh(token);
+    let report = host.report();
+    RunAnswer {
+        refusal,
+        report,
+        device,
+    }
+}
+
+// The bundle's rows, D1 and D2; or the run, and the claim about it.
+pub fn run(bundle: &[u8], token: u8, device: Device, staging: &mut [u8]) -> RunAnswer
+    ensures { λ r. ⌜ (told r (now (staging .exit)) ≡ runOf (now (bundle .entry)) token device (now (staging .entry)))
+        × (Premise (now (bundle .entry)) token device (now (staging .entry)) → Demand (now (bundle .entry)) token device (now (staging .entry)) [] (lastOf (now (bundle .entry)) token device (now (staging .entry)) [])) ⌝ }
+{
+    let checked = check(bundle);
+    let verdict = checked.verdict;
+    if is_fine(verdict) {
+        if device.breaks_d1() {
+            return refused(RunRefusal::D1, token, device);
+        }
+        if staging.len() != (device.staging_len as usize) {
+            return refused(RunRefusal::D2, token, device);
+        }
+        let e = run_to_end(checked, bundle, token, device, staging);
+        let host = e.host;
+        let last = e.device;
+        let report = host.report();
+        RunAnswer {
+            refusal: RunRefusal::Served,
+            report,
+            device: last,
+        }
+    } else {
+        let place = checked.place;
+        refused(RunRefusal::Bundle { verdict, place }, token, device)
+    }
 }

@@ -1,0 +1,22 @@
+-- `refused` meets its contract: the report of a fresh host. Assumes nothing.
+use mathlib.Core.Path.{ap, _∙_}
+use Rattle.host.specs.Record.{Reported, reportOf}
+use Rattle.update.specs.Answer.{rowOf}
+use borrow.Author.Needs.{needs}
+use Rattle.update.proofs.refused.Statement.{statement}
+use Rattle.update.proofs.refused.Tie as tie
+
+fresh-requires : tie.Need-fresh-requires
+fresh-requires c κs = search needs
+
+report-requires : tie.Need-report-requires
+report-requires c κs = search needs
+
+returns : tie.Need-returns
+returns c =
+    let a = c .before .before .args in
+    λ staging. ap (λ (x : Reported). record { row = rowOf (a .refusal); report = x; device = a .device; staging = staging })
+    (c .report .ensures ∙ ap reportOf (c .before .fresh .ensures))
+
+pub refused-spec : {M : Type 1} → statement M
+refused-spec = tie.close (tie.spec fresh-requires report-requires returns)

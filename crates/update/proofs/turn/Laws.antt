@@ -1,0 +1,213 @@
+-- One turn of both ends is one exchange of the run, and the run is at its last where the host has ended. Assumes nothing.
+use Prim.Native.Nat.{ℕ, suc, _+_, _-_, _<_}
+use mathlib.Core.Path.{_≡_, refl, sym, ap, subst, _∙_}
+use mathlib.Core.Logic.{_⊎_, inl, inr}
+use mathlib.Core.Bool.{Bool, true, false, cond, true≢false}
+use mathlib.Core.List.{List, [], _∷_}
+use native.Mathlib.Omega.{arith}
+use lib.Dec.{eqb, leb}
+use lib.ListN.{length, take, length-take}
+use Rattle.wire.specs.Bytes.{Bytes}
+use Rattle.wire.specs.Codes.{NOTIFY-ON-READY, INFO-START-ENTIRE-TRANSACTION, INFO-END-OFFER-LIST}
+use Rattle.offers.specs.Kind.{Kind, offer, information, extended, kindIn}
+use Rattle.contents.specs.Content.{fieldsIn}
+use Rattle.contents.specs.declared.content.ContentFields.{ContentFields}
+use Rattle.bundle.specs.Layout.{countIn}
+use Rattle.bundle.specs.Rows as rows
+use Rattle.bundle.specs.Contents.{checkOf}
+use Rattle.bundle.proofs.Accepted.{accepted}
+use Rattle.device.specs.Record.{isOpen}
+use Rattle.device.specs.Refusals.{Row, served, D, Outcome, told, refusalOf, unlessRefused}
+use Rattle.device.specs.Offer.{onOffer, onInformation, onNotify, onExtended, onKind, offerEntry}
+use Rattle.device.specs.Content.{isLast, onBlock, onVerdict, contentVerdict, contentEntry}
+use Rattle.device.specs.Entries.{serveEntry, serveStaging}
+use Rattle.device.specs.declared.record.Device.{Device}
+use Rattle.device.specs.declared.record.Owed.{Owed}
+use Rattle.device.specs.declared.record.Owed.the-variants as owed
+use Rattle.device.specs.declared.answer.Answer.{Answer}
+use Rattle.device.specs.declared.answer.Channel.{Channel}
+use Rattle.device.specs.declared.answer.Channel.the-variants.{Offer, Content}
+use Rattle.device.specs.declared.judged.ContentVerdict.{ContentVerdict}
+use Rattle.device.specs.declared.judged.ContentVerdict.the-variants.{Refuse, Take}
+use Rattle.device.proofs.Chain.{either}
+use Rattle.host.specs.Record.{freshHost, hasEnded}
+use Rattle.host.specs.Decide.{decideOf}
+use Rattle.host.specs.Step.{Step, lastIn, stepOf}
+use Rattle.host.specs.Inner.{CursorIn}
+use Rattle.host.specs.declared.record.Host.{Host}
+use Rattle.host.specs.declared.answer.Move.{Move}
+use Rattle.host.proofs.inner.IsStep.{inner-is-step}
+use Rattle.update.specs.declared.turn.BothEnds.{BothEnds}
+use Rattle.update.specs.Trace.{Exchange}
+use Rattle.update.specs.Run.{System, channelOf, heard, flight, deliver, exchange, run, start, boundOf, lastOf}
+use Rattle.update.specs.Turn.{replyOf, systemOf, Comes, stepFrom, Delivered, Turned}
+use Rattle.update.proofs.Ready.{Ready, Goes, goes, ready-fits, step-moves, fresh-ready, owed-step}
+use Rattle.update.proofs.Talks.{deliver-host, run-next, ended-last}
+
+-- the first that is sent is the reply, where one is due; a READY follows only a reply
+abbrev First : Outcome → Type 0
+First a = heard (a .sent) ≡ cond (a .due) (a .reply) []
+
+module _ (d : Device) where
+  -- of a notify on ready
+  notify-first : (token : ℕ) (b : Bool) (o : Owed) → First (onNotify d token b o)
+  notify-first token false o = refl
+  notify-first token true owed.Nothing = refl
+  notify-first token true (owed.Token t) = refl
+
+  -- of an offer packet
+  kind-first : (x : Kind) → First (onKind d x)
+  unfolding onOffer onInformation onExtended
+  kind-first (offer o) = refl
+  kind-first (information s) =
+      either First (eqb (s .code) INFO-START-ENTIRE-TRANSACTION) _ _ refl (either First (leb (s .code) INFO-END-OFFER-LIST) _ _ refl refl)
+  kind-first (extended s) = either First (eqb (s .code) NOTIFY-ON-READY) _ _ (notify-first (s .token) (isOpen (d .stage)) (d .owed)) refl
+
+  -- of a content packet
+  content-first : (c : ContentFields) (s : List ℕ) (v : ContentVerdict) → First (onVerdict d c s v)
+  unfolding onBlock
+  content-first c s (Refuse status) = refl
+  content-first c s (Take k) = either First (isLast c) _ _ refl refl
+
+  -- of a refused call
+  unless-first : (row : Row) (a : Outcome) → First a → First (unlessRefused row d a)
+  unless-first served a h = h
+  unless-first (D k) a h = refl
+
+  -- of every call
+  serve-first : (channel : Channel) (staging p : List ℕ) → First (serveEntry d channel staging p)
+  unfolding serveEntry offerEntry contentEntry
+  serve-first Offer staging p = unless-first (refusalOf 16 d (length staging) (length p)) (onKind d (kindIn p)) (kind-first (kindIn p))
+  serve-first Content staging p =
+      let v = contentVerdict d (fieldsIn p) in
+      unless-first (refusalOf 60 d (length staging) (length p)) (onVerdict d (fieldsIn p) staging v) (content-first (fieldsIn p) staging v)
+
+-- the first 16 bytes of a packet
+pub first-16 : (p : List ℕ) → length p ≡ 60 → 16 ≡ length (take 16 p)
+first-16 p l = simp length-take (omega arith)
+
+module _ (h : Host) (cursor : ℕ) (e : BothEnds) where
+  -- nothing is sent
+  pub nothing-delivered : (staging : List ℕ)
+      → Delivered [] h cursor e staging (record { host = h; device = e .device; due = e .due; reply = e .reply; cursor = cursor }) staging
+  unfolding deliver
+  nothing-delivered staging = (refl, λ trace. (trace, refl))
+
+  -- both ends after an answer
+  abbrev afterOf : Answer → BothEnds
+  afterOf a = record { host = h; device = a .device; due = a .due; reply = a .reply; cursor = cursor }
+
+  -- a packet on its channel is answered
+  pub answer-delivered : (p staging staging′ : List ℕ) (channel : Channel) (a : Answer) (r : BothEnds) → channelOf p ≡ channel
+      → told a ≡ serveEntry (e .device) channel staging p → staging′ ≡ serveStaging (e .device) channel staging p → r ≡ afterOf a
+      → Delivered (p ∷ []) h cursor e staging r staging′
+  unfolding deliver
+  answer-delivered p staging staging′ channel a r c t s z = rw z (refl, comes)
+    where
+      comes : (trace : List Exchange) → Comes (deliver (p ∷ []) h (systemOf e staging trace)) (afterOf a) staging′
+      comes trace =
+          let last = flight p h (e .device) staging trace .trace in (
+            last,
+            ap (λ (x : Channel). record {
+              host = h;
+              device = serveEntry (e .device) x staging p .device;
+              staging = serveStaging (e .device) x staging p;
+              reply = heard (serveEntry (e .device) x staging p .sent);
+              trace = last;
+            }) c
+                ∙ rw (serve-first (e .device) channel staging p, ← t, ← s),
+          )
+
+-- what the turns keep: a run has come to these ends, the host is ready, and its cursor is right
+pub record Reached (b : List ℕ) (token : ℕ) (d : Device) (staging : List ℕ) (e : BothEnds) (staging′ : List ℕ) : Type 0 where
+  pub turns : ℕ
+  pub comes : Comes (run b turns (start token d staging [])) e staging′
+  pub ready : Ready b (e .host)
+  pub cursor : CursorIn b (e .host .stage) (e .cursor)
+
+-- the turns that are left, and one more until the host has ended
+abbrev pub leftOf : (b : List ℕ) → (ended : Bool) → Host → ℕ
+leftOf b ended h = cond ended 0 (suc (boundOf b - h .packets))
+
+module _ (b : List ℕ) (token : ℕ) (d : Device) (staging : List ℕ) (bytes : Bytes b) (accept : rows.bundleRow b ≡ rows.served) (small : token < 256) where
+  -- at the start
+  pub reached-start : (h : Host) (reply : List ℕ) (cursor : ℕ) → h ≡ freshHost token
+      → Reached b token d staging (record { host = h; device = d; due = false; reply = reply; cursor = cursor }) staging
+  unfolding run
+  reached-start h reply cursor z =
+      record {
+        turns = 0;
+        comes = ([], rw z);
+        ready = rw z (fresh-ready b (accepted b bytes accept) token small);
+        cursor = rw z tt;
+      }
+
+  module _ (e e′ : BothEnds) (s s′ : List ℕ) (ready : Ready b (e .host)) (place : CursorIn b (e .host .stage) (e .cursor)) (t : Turned b (checkOf b) e s e′ s′) where
+    -- the inner step is the step
+    inner : (stepFrom b (checkOf b) e .step ≡ stepOf b (e .host) (replyOf e)) × CursorIn b (stepOf b (e .host) (replyOf e) .host .stage) (stepFrom b (checkOf b) e .cursor)
+    inner = inner-is-step b (e .host) (e .cursor) (replyOf e) bytes accept (ready-fits b (accepted b bytes accept) (e .host) ready) place
+
+    -- so a turn is an exchange
+    turn-comes : (trace : List Exchange) → Comes (exchange b (systemOf e s trace)) e′ s′
+    unfolding exchange
+    turn-comes trace = subst (λ (x : Step). Comes (deliver (x .sent) (x .host) (systemOf e s trace)) e′ s′) (inner .0) (t .1 trace)
+
+    -- the next record is the step's
+    host-is : e′ .host ≡ stepOf b (e .host) (replyOf e) .host
+    host-is =
+        sym (ap (λ (x : System). x .host) (t .1 [] .1))
+        ∙ deliver-host (stepFrom b (checkOf b) e .step .sent) (stepFrom b (checkOf b) e .step .host) (systemOf e s [])
+        ∙ ap (λ (x : Step). x .host) (inner .0)
+
+    -- the host's move
+    abbrev move : Move
+    move = decideOf (countIn b) (lastIn b (e .host .stage)) (e .host) (replyOf e)
+
+    -- the next record is the move's
+    moved-is : e′ .host ≡ move .host
+    moved-is = host-is ∙ ap (λ (x : Step). x .host) (step-moves b (accepted b bytes accept) accept (e .host) (replyOf e) ready)
+
+    -- an end, or one packet more
+    went : Goes b (e .host .packets) move
+    went = goes b (accepted b bytes accept) (e .host) (replyOf e) ready
+
+    -- so a turn leaves less to do
+    pub turn-less : (ended ended′ : Bool) → ended ≡ false → ended ≡ hasEnded (e .host .stage) → ended′ ≡ hasEnded (e′ .host .stage)
+        → leftOf b ended′ (e′ .host) < leftOf b ended (e .host)
+    turn-less ended ended′ f z q = rw f (go ended′ q (subst Counts (sym moved-is) (went .counted)))
+      where
+        Counts : Host → Type 0
+        Counts h = (hasEnded (h .stage) ≡ true) ⊎ (h .packets ≡ e .host .packets + 1)
+
+        go : (x : Bool) → x ≡ hasEnded (e′ .host .stage) → (hasEnded (e′ .host .stage) ≡ true) ⊎ (e′ .host .packets ≡ e .host .packets + 1)
+            → leftOf b x (e′ .host) < leftOf b false (e .host)
+        go true q k = omega arith
+        go false q (inl k) = absurd (true≢false (sym k ∙ sym q))
+        go false q (inr k) = omega (arith, ready .room, owed-step b (accepted b bytes accept) (e .host .stage) (sym z ∙ f))
+
+    -- the next record is ready
+    next-ready : Ready b (e′ .host)
+    next-ready = subst (Ready b) (sym moved-is) (went .ready)
+
+    -- and its cursor is right
+    next-cursor : CursorIn b (e′ .host .stage) (e′ .cursor)
+    next-cursor = rw (t .0) (subst (λ (x : Host). CursorIn b (x .stage) (stepFrom b (checkOf b) e .cursor)) (sym host-is) (inner .1))
+
+  -- after a turn
+  pub reached-turn : (e e′ : BothEnds) (s s′ : List ℕ) → Reached b token d staging e s → Turned b (checkOf b) e s e′ s′ → Reached b token d staging e′ s′
+  reached-turn e e′ s s′ r t =
+      let w = turn-comes e e′ s s′ (r .ready) (r .cursor) t (r .comes .0) in
+      record {
+        turns = suc (r .turns);
+        comes = (w .0, run-next b (r .turns) (start token d staging []) ∙ ap (exchange b) (r .comes .1) ∙ w .1);
+        ready = next-ready e e′ s s′ (r .ready) (r .cursor) t;
+        cursor = next-cursor e e′ s s′ (r .ready) (r .cursor) t;
+      }
+
+  -- where the host has ended
+  pub reached-end : (e : BothEnds) (s : List ℕ) → Reached b token d staging e s → hasEnded (e .host .stage) ≡ true
+      → Comes (lastOf b token d staging []) e s
+  reached-end e s r z = (
+    r .comes .0,
+    ended-last b token d staging [] bytes accept small (r .turns) (ap (λ (x : System). hasEnded (x .host .stage)) (r .comes .1) ∙ z) ∙ r .comes .1,
+  )

@@ -1,4 +1,5 @@
 // What a line is made of: words, numbers under their names, bytes, and the row of a verdict.
+use crate::names;
 use libc::STDOUT_FILENO;
 use wire::verdict::Verdict;
 use wire::version::Version;
@@ -7,82 +8,85 @@ pub fn text(s: &[u8]) {
     io::write_all(STDOUT_FILENO, s);
 }
 
-pub fn decimal8(name: &[u8], x: u8) {
-    text(name);
-    io::print_decimal(STDOUT_FILENO, x as u64);
-}
-
-pub fn decimal16(name: &[u8], x: u16) {
-    text(name);
-    io::print_decimal(STDOUT_FILENO, x as u64);
-}
-
-pub fn hex8(name: &[u8], x: u8) {
-    text(name);
-    io::print_hex(STDOUT_FILENO, x as u64, 2);
-}
-
-pub fn hex16(name: &[u8], x: u16) {
-    text(name);
-    io::print_hex(STDOUT_FILENO, x as u64, 4);
-}
-
-// A number of 24 or 32 bits.
-pub fn hex32(name: &[u8], x: u32, digits: usize) {
-    text(name);
-    io::print_hex(STDOUT_FILENO, x as u64, digits);
-}
-
-pub fn bit(name: &[u8], x: bool) {
-    text(name);
-    if x {
-        text(b"1");
-    } else {
-        text(b"0");
+// The part of a text behind its first k bars, up to the next one.
+fn part(s: &[u8], k: usize) {
+    let mut bars: usize = 0;
+    let mut i = 0;
+    while i < s.len() {
+        if s[i] == b'/' {
+            bars += 1;
+        } else if bars == k {
+            text(&s[i..i + 1]);
+        }
+        i += 1;
     }
 }
 
-// Major, minor and variant.
-pub fn version(name: &[u8], v: Version) {
-    decimal8(name, v.major());
-    decimal16(b".", v.minor());
-    decimal8(b".", v.variant());
+// A word of names.rt: they stand here in the order of their numbers.
+pub fn name(k: usize) {
+    part(
+        b" / ->/ refused P1,/ refused P2,/ refused P1/ bad frame/\n\
+        / count / protocol / | id / version /./ platform \
+        / segment / I / V / id / token / need / least / offer/ information/ extended/ code / reason / status \
+        / flags / length / sequence / address / data/",
+        k,
+    );
 }
 
-fn byte(x: u8) {
-    hex8(b" ", x);
+pub fn decimal8(k: usize, x: u8) {
+    name(k);
+    io::print_decimal(STDOUT_FILENO, x as u64);
+}
+
+pub fn hex8(k: usize, x: u8) {
+    name(k);
+    io::print_hex(STDOUT_FILENO, x as u64, 2);
+}
+
+pub fn hex(k: usize, x: u32, digits: usize) {
+    name(k);
+    io::print_hex(STDOUT_FILENO, x as u64, digits);
+}
+
+pub fn bit(k: usize, x: bool) {
+    decimal8(k, if x { 1 } else { 0 });
+}
+
+// Major, minor and variant.
+pub fn version(v: Version) {
+    decimal8(names::VERSION, v.major());
+    name(names::POINT);
+    io::print_decimal(STDOUT_FILENO, v.minor() as u64);
+    decimal8(names::POINT, v.variant());
 }
 
 // Each byte behind a space.
 pub fn bytes(p: &[u8]) {
     let mut i = 0;
     while i < p.len() {
-        byte(p[i]);
+        hex8(names::SPACE, p[i]);
         i += 1;
     }
 }
 
-// The line's first words: the kind and the way, and the case.
-pub fn begin(kind: &[u8], what: &[u8]) {
-    text(kind);
-    text(b", ");
-    text(what);
-    text(b":");
-}
-
-// What stands between what was asked and what came.
-pub fn gives() {
-    text(b" ->");
-}
-
-pub fn refusal(v: Verdict) {
+// What stands between what was asked and what came, with the refusal where there is one.
+pub fn gives(v: Verdict) {
+    name(names::GIVES);
     match v {
         Verdict::Served => {}
-        Verdict::P1 => text(b" refused P1,"),
-        Verdict::P2 => text(b" refused P2,"),
+        Verdict::P1 => name(names::REFUSED_P1),
+        Verdict::P2 => name(names::REFUSED_P2),
     }
 }
 
-pub fn end() {
-    text(b"\n");
+// A packet of 16 bytes that is built.
+pub fn built16(v: Verdict, p: [u8; 16]) {
+    gives(v);
+    bytes(&p);
+}
+
+// A packet of 60 bytes that is built.
+pub fn built60(v: Verdict, p: [u8; 60]) {
+    gives(v);
+    bytes(&p);
 }

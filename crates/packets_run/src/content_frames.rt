@@ -19,11 +19,17 @@ fn fields(c: ContentFields) {
     print::bytes(&data);
 }
 
-pub fn build(p: &[u8]) {
+// The bytes from 8 on, where they are 52.
+fn data_in(p: &[u8]) -> [u8; 52] {
     let mut data = [0u8; 52];
     if 8 <= p.len() {
         words::copy(&mut data, &p[8..]);
     }
+    data
+}
+
+pub fn build(p: &[u8]) {
+    let data = data_in(p);
     let c = ContentFields {
         flags: byte(p, 0),
         length: byte(p, 1),
@@ -35,7 +41,7 @@ pub fn build(p: &[u8]) {
     let b = contents::content::build_content(c);
     let verdict = b.verdict;
     let packet = b.packet;
-    print::built60(verdict, packet);
+    print::built(verdict, &packet);
 }
 
 pub fn read(p: &[u8]) {
@@ -58,7 +64,7 @@ pub fn build_reply(p: &[u8]) {
         status: byte(p, 2),
     };
     reply(r);
-    print::built16(Verdict::Served, contents::reply::build_content_reply(r));
+    print::built(Verdict::Served, &contents::reply::build_content_reply(r));
 }
 
 pub fn read_reply(p: &[u8]) {

@@ -15,8 +15,8 @@ use wire::words;
 fn fields(k: usize, o: OfferFields) {
     print::name(k);
     print::hex8(names::SEGMENT, o.segment);
-    print::bit(names::I, o.force_immediate_reset);
-    print::bit(names::V, o.force_ignore_version);
+    print::decimal8(names::I, o.force_immediate_reset as u8);
+    print::decimal8(names::V, o.force_ignore_version as u8);
     print::hex8(names::ID, o.id);
     print::hex8(names::TOKEN, o.token);
     let version = o.version;
@@ -44,7 +44,7 @@ pub fn build(p: &[u8]) {
     let b = offers::offer::build_offer(o);
     let verdict = b.verdict;
     let packet = b.packet;
-    print::built16(verdict, packet);
+    print::built(verdict, &packet);
 }
 
 // The code and the token, behind a word.
@@ -61,9 +61,9 @@ pub fn build_signal(p: &[u8], extended: bool) {
     };
     signal(names::NOTHING, s);
     if extended {
-        print::built16(Verdict::Served, offers::signal::build_extended(s));
+        print::built(Verdict::Served, &offers::signal::build_extended(s));
     } else {
-        print::built16(Verdict::Served, offers::signal::build_information(s));
+        print::built(Verdict::Served, &offers::signal::build_information(s));
     }
 }
 
@@ -92,7 +92,7 @@ pub fn build_reply(p: &[u8]) {
         status: byte(p, 2),
     };
     reply(r);
-    print::built16(Verdict::Served, offers::reply::build_offer_reply(r));
+    print::built(Verdict::Served, &offers::reply::build_offer_reply(r));
 }
 
 pub fn read_reply(p: &[u8]) {

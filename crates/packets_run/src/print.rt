@@ -4,10 +4,6 @@ use libc::STDOUT_FILENO;
 use wire::verdict::Verdict;
 use wire::version::Version;
 
-pub fn text(s: &[u8]) {
-    io::write_all(STDOUT_FILENO, s);
-}
-
 // The part of a text behind its first k bars, up to the next one.
 fn part(s: &[u8], k: usize) {
     let mut bars: usize = 0;
@@ -16,7 +12,7 @@ fn part(s: &[u8], k: usize) {
         if s[i] == b'/' {
             bars += 1;
         } else if bars == k {
-            text(&s[i..i + 1]);
+            io::write_all(STDOUT_FILENO, &s[i..i + 1]);
         }
         i += 1;
     }
@@ -48,10 +44,6 @@ pub fn hex(k: usize, x: u32, digits: usize) {
     io::print_hex(STDOUT_FILENO, x as u64, digits);
 }
 
-pub fn bit(k: usize, x: bool) {
-    decimal8(k, if x { 1 } else { 0 });
-}
-
 // Major, minor and variant.
 pub fn version(v: Version) {
     decimal8(names::VERSION, v.major());
@@ -79,14 +71,8 @@ pub fn gives(v: Verdict) {
     }
 }
 
-// A packet of 16 bytes that is built.
-pub fn built16(v: Verdict, p: [u8; 16]) {
+// The packet that is built.
+pub fn built(v: Verdict, p: &[u8]) {
     gives(v);
-    bytes(&p);
-}
-
-// A packet of 60 bytes that is built.
-pub fn built60(v: Verdict, p: [u8; 60]) {
-    gives(v);
-    bytes(&p);
+    bytes(p);
 }

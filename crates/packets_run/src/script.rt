@@ -8,6 +8,7 @@ use crate::offer_frames;
 use crate::payload::byte;
 use crate::print;
 use crate::version_frames;
+use libc::STDOUT_FILENO;
 use wire::verdict::Verdict;
 
 // How many bytes a payload of this kind has, where a packet is built; n otherwise.
@@ -22,12 +23,6 @@ fn payload(kind: u8, n: usize) -> usize {
         b'S' => 3,
         _ => n,
     }
-}
-
-fn crc(message: &[u8]) {
-    print::bytes(message);
-    print::gives(Verdict::Served);
-    print::hex(names::SPACE, crc16::crc16(message) as u32, 4);
 }
 
 // A capital letter builds, a small one reads.
@@ -45,14 +40,18 @@ fn case(kind: u8, p: &[u8]) {
         b'c' => content_frames::read(p),
         b'S' => content_frames::build_reply(p),
         b's' => content_frames::read_reply(p),
-        b'x' => crc(p),
+        b'x' => {
+            print::bytes(p);
+            print::gives(Verdict::Served);
+            print::hex(names::SPACE, crc16::crc16(p) as u32, 4);
+        }
         _ => print::name(names::BAD_FRAME),
     }
 }
 
 fn show(kind: u8, p: &[u8]) {
     if kind == b'#' {
-        print::text(p);
+        io::write_all(STDOUT_FILENO, p);
         return;
     }
     let n = p.len();
@@ -64,20 +63,13 @@ fn show(kind: u8, p: &[u8]) {
     print::name(names::END);
 }
 
-// A byte that counts.
-fn count(n: u8) -> usize
-    ensures { λ r. ⌜ r < 256 ⌝ }
-{
-    n as usize
-}
-
 // Shows the frame at the start of s and gives its length; a cut frame takes the rest.
 fn frame(s: &[u8]) -> usize
     requires { ⌜ 0 < length (now s) ⌝ }
     ensures { λ r. ⌜ (0 < r) × (r ≤ length (now (s .entry))) ⌝ }
 {
     let n = s.len();
-    let end = 2 + count(byte(s, 1));
+    let end = 2 + byte(s, 1) as usize;
     if n < end {
         return n;
     }

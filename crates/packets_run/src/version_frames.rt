@@ -65,7 +65,7 @@ pub fn build(p: &[u8]) {
     let b = versions::build_version_reply(r);
     let verdict = b.verdict;
     let packet = b.packet;
-    print::built60(verdict, packet);
+    print::built(verdict, &packet);
 }
 
 pub fn read(p: &[u8]) {

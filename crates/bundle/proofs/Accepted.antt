@@ -16,9 +16,11 @@ use Rattle.records.specs.Record.{Block, headIn, isSound, blockIn, restOf}
 use Rattle.records.specs.Parse.{Parsed, whole, broken, more, after, parse, recordsOf, blocksOf}
 use Rattle.records.specs.declared.Head.{Head}
 use Rattle.records.specs.declared.Head.the-variants.{Empty, Cut, Whole}
-use Rattle.bundle.specs.Layout.{ENTRY, HEAD, BUNDLE-LIMIT, OFFER-LIMIT, countIn, tableEnd, entriesFrom, entriesIn, idIn, bodyIn}
+use Rattle.bundle.specs.Layout.{ENTRY, HEAD, BUNDLE-LIMIT, OFFER-LIMIT, countIn, tableEnd, entriesFrom, entriesIn, idIn, offsetIn, lengthIn, bodyIn}
 use Rattle.bundle.specs.Rows.{Row, served, B, firstEntry, badLength, badCount, badOffer, badBody, isBad, repeated, cutTable, badHead, named, rowB5, rowB6, rowB7, rowB8, bundleRow}
 use Rattle.bundle.specs.Contents.{blocksIn}
+use Rattle.bundle.proofs.table.Laws.{entry-is}
+use Rattle.bundle.proofs.chain.Laws.{bodies-inside}
 
 -- neither part of a disjunction holds
 pub neither : (a b : Bool) → (a || b) ≡ false → (a ≡ false) × (b ≡ false)
@@ -41,6 +43,7 @@ pub record Passes (b : List ℕ) : Type 0 where
   pub b4 : cutTable b ≡ false
   pub b5 : rowB5 b ≡ 0
   pub b6 : rowB6 b ≡ 0
+  pub b7 : rowB7 b ≡ 0
   pub b8 : rowB8 b ≡ 0
 
 -- a bundle that is served passes every row
@@ -61,6 +64,7 @@ rows-pass b h =
       b4 = p4 .0;
       b5 = unnamed (rowB5 b) (p5 .0);
       b6 = unnamed (rowB6 b) (p6 .0);
+      b7 = unnamed (rowB7 b) (p7 .0);
       b8 = unnamed (rowB8 b) (p8 .0);
     }
 
@@ -233,9 +237,12 @@ pub record Accepted (b : List ℕ) : Type 0 where
   pub some : 1 ≤ countIn b
   pub few : countIn b ≤ OFFER-LIMIT
   pub entries : length (entriesIn b) ≡ countIn b
+  pub table : tableEnd (countIn b) ≤ length b
+  pub places : (i : ℕ) → i < countIn b → getD (entriesIn b) i [] ≡ take ENTRY (drop (tableEnd i) b)
   pub packet : (i : ℕ) → i < countIn b → Packet ENTRY (getD (entriesIn b) i [])
   pub offer : (i : ℕ) → i < countIn b → Offered (getD (entriesIn b) i [])
   pub ids : (i j : ℕ) → i < countIn b → j < countIn b → idIn (getD (entriesIn b) i []) ≡ idIn (getD (entriesIn b) j []) → i ≡ j
+  pub inside : (i : ℕ) → i < countIn b → offsetIn (getD (entriesIn b) i []) + lengthIn (getD (entriesIn b) i []) ≤ length b
   pub records : (i : ℕ) → i < countIn b → 1 ≤ length (blocksIn b (getD (entriesIn b) i []))
   pub carries : (e : List ℕ) → Carries BUNDLE-LIMIT (blocksIn b e)
 
@@ -253,9 +260,12 @@ accepted b bytes h =
       some = ltb-false (countIn b) 1 (count .0);
       few = ltb-false OFFER-LIMIT (countIn b) (count .1);
       entries = es;
+      table = table;
+      places = entry-is b;
       packet = entries-packet (countIn b) (drop HEAD b) (drop-bytes HEAD b bytes) (omega (arith, length-drop HEAD b));
       offer = λ i l. offered (entry b i) (none-of badOffer 0 (entriesIn b) i (p .b5) (omega arith));
       ids = λ i j l m e. ids (p .b6) i j (omega arith) (omega arith) e;
+      inside = λ i l. rw (entry-is b i l) (bodies-inside b (p .b7) i l);
       records = λ i l. some-records (recordsOf (bodyIn b (entry b i))) (none-of (badBody b) 0 (entriesIn b) i (p .b8) (omega arith));
       carries = λ e. shorter (bodyIn b e) (omega (arith, length-take (number (bytesAt 4 20 e)) (drop (number (bytesAt 4 16 e)) b), length-drop (number (bytesAt 4 16 e)) b));
     }

@@ -16,7 +16,7 @@ fn wide(x: u32) -> usize
 }
 
 // B7: the first entry whose body does not start where the table or the previous body ends; the last entry where the last end is not the file's; or 0.
-pub fn gap_place(b: &[u8]) -> u8
+pub(crate) fn gap_place(b: &[u8]) -> u8
     requires { ⌜ (countIn (now b) ≤ OFFER-LIMIT) × (tableEnd (countIn (now b)) ≤ length (now b)) ⌝ }
     ensures { λ r. ⌜ r ≡ rowB7 (now (b .entry)) ⌝ }
 {

@@ -65,7 +65,7 @@ fn no_entries() -> [Entry; 7]
 }
 
 // A refusal: its row and entry, with no contents.
-pub fn refused(verdict: BundleVerdict, place: u8) -> Checked
+pub(crate) fn refused(verdict: BundleVerdict, place: u8) -> Checked
     ensures { λ r. ⌜ r ≡ record { verdict = verdict; place = place; count = 0; table = replicate OFFER-LIMIT blankEntry } ⌝ }
 {
     let none = no_entries();
@@ -124,7 +124,7 @@ fn contents_in(b: &[u8], e: &[u8]) -> Entry
 }
 
 // B8: the first entry whose body is empty or broken, or 0; then the contents table.
-pub fn contents_of(b: &[u8]) -> Filled
+pub(crate) fn contents_of(b: &[u8]) -> Filled
     requires { ⌜ (countIn (now b) ≤ OFFER-LIMIT) × (tableEnd (countIn (now b)) ≤ length (now b)) × (length (now b) ≤ BUNDLE-LIMIT) ⌝ }
     requires { ⌜ (rowB5 (now b) ≡ 0) × (rowB7 (now b) ≡ 0) ⌝ }
     ensures { λ r. ⌜ r .place ≡ rowB8 (now (b .entry)) ⌝ }

@@ -10,14 +10,14 @@ use crate::limits::HEAD;
 use crate::limits::OFFER_LIMIT;
 
 // B1: under 8 or over 65,536 bytes.
-pub fn bad_length(b: &[u8]) -> bool
+pub(crate) fn bad_length(b: &[u8]) -> bool
     ensures { λ r. ⌜ r ≡ badLength (now (b .entry)) ⌝ }
 {
     (b.len() < HEAD) | (BUNDLE_LIMIT < b.len())
 }
 
 // B2: byte 1 not 1, or bytes 2-7 not zero.
-pub fn bad_head(b: &[u8]) -> bool
+pub(crate) fn bad_head(b: &[u8]) -> bool
     requires { ⌜ HEAD ≤ length (now b) ⌝ }
     ensures { λ r. ⌜ r ≡ badHead (now (b .entry)) ⌝ }
 {
@@ -25,7 +25,7 @@ pub fn bad_head(b: &[u8]) -> bool
 }
 
 // B3: count not 1-7.
-pub fn bad_count(b: &[u8]) -> bool
+pub(crate) fn bad_count(b: &[u8]) -> bool
     requires { ⌜ HEAD ≤ length (now b) ⌝ }
     ensures { λ r. ⌜ r ≡ badCount (now (b .entry)) ⌝ }
 {
@@ -33,14 +33,14 @@ pub fn bad_count(b: &[u8]) -> bool
 }
 
 // Where the table of n offers ends.
-pub fn table_end(n: u8) -> usize
+pub(crate) fn table_end(n: u8) -> usize
     ensures { λ r. ⌜ r ≡ tableEnd n ⌝ }
 {
     HEAD + ENTRY * (n as usize)
 }
 
 // B4: table past the end.
-pub fn cut_table(b: &[u8]) -> bool
+pub(crate) fn cut_table(b: &[u8]) -> bool
     requires { ⌜ HEAD ≤ length (now b) ⌝ }
     ensures { λ r. ⌜ r ≡ cutTable (now (b .entry)) ⌝ }
 {

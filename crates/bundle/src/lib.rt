@@ -9,6 +9,7 @@ mod head; // head.rt: rows B1 to B4
 mod table; // table.rt: an entry of the table, rows B5 and B6
 mod chain; // chain.rt: row B7, the bodies one after the other
 mod contents; // contents.rt: row B8, and the contents table
+pub mod report; // report.rt: what a program tells of a check
 
 // What the check says of a bundle (document 01, "Numbered refusals").
 pub enum BundleVerdict {

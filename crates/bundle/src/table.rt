@@ -12,7 +12,7 @@ use wire::codes::PROTOCOL;
 use wire::words;
 
 // The 24 bytes of entry i, counted from 0.
-pub fn entry_at(b: &[u8], i: u8) -> &[u8]
+pub(crate) fn entry_at(b: &[u8], i: u8) -> &[u8]
     requires { ⌜ tableEnd (i + 1) ≤ length (now b) ⌝ }
     ensures { λ r. ⌜ (now r ≡ take ENTRY (drop (tableEnd i) (now (b .entry)))) × (length (now r) ≡ ENTRY) ⌝ }
 {
@@ -22,21 +22,21 @@ pub fn entry_at(b: &[u8], i: u8) -> &[u8]
 }
 
 // Of an entry: its offer's id, its body's offset and length.
-pub fn id_in(e: &[u8]) -> u8
+pub(crate) fn id_in(e: &[u8]) -> u8
     requires { ⌜ length (now e) ≡ ENTRY ⌝ }
     ensures { λ r. ⌜ r ≡ idIn (now (e .entry)) ⌝ }
 {
     e[2]
 }
 
-pub fn offset_in(e: &[u8]) -> u32
+pub(crate) fn offset_in(e: &[u8]) -> u32
     requires { ⌜ length (now e) ≡ ENTRY ⌝ }
     ensures { λ r. ⌜ r ≡ offsetIn (now (e .entry)) ⌝ }
 {
     words::word32(e[16], e[17], e[18], e[19])
 }
 
-pub fn length_in(e: &[u8]) -> u32
+pub(crate) fn length_in(e: &[u8]) -> u32
     requires { ⌜ length (now e) ≡ ENTRY ⌝ }
     ensures { λ r. ⌜ r ≡ lengthIn (now (e .entry)) ⌝ }
 {
@@ -58,7 +58,7 @@ fn bad_offer(e: &[u8]) -> bool
 }
 
 // B5: the first entry with a bad offer, or 0.
-pub fn bad_offer_place(b: &[u8]) -> u8
+pub(crate) fn bad_offer_place(b: &[u8]) -> u8
     requires { ⌜ (countIn (now b) ≤ OFFER-LIMIT) × (tableEnd (countIn (now b)) ≤ length (now b)) ⌝ }
     ensures { λ r. ⌜ r ≡ rowB5 (now (b .entry)) ⌝ }
 {
@@ -91,7 +91,7 @@ fn is_used(b: &[u8], n: u8, id: u8) -> bool
 }
 
 // B6: the first entry whose id an earlier one has, or 0.
-pub fn repeated_place(b: &[u8]) -> u8
+pub(crate) fn repeated_place(b: &[u8]) -> u8
     requires { ⌜ (countIn (now b) ≤ OFFER-LIMIT) × (tableEnd (countIn (now b)) ≤ length (now b)) ⌝ }
     ensures { λ r. ⌜ r ≡ rowB6 (now (b .entry)) ⌝ }
 {

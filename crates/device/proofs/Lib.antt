@@ -1,1 +1,16 @@
 pub mod Bench
+pub mod Chain
+pub mod Lists
+pub mod Passes
+pub mod Moves
+pub mod Kept
+pub mod Answers
+pub mod Bytes
+pub mod Fitting
+pub mod Staging
+pub mod Turns
+pub mod Replies
+pub mod Calls
+pub mod Offering
+pub mod Blocks
+pub mod Opened

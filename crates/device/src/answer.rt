@@ -2,6 +2,8 @@
 use crate::record::Device;
 use crate::record::Owed;
 use component::setup::SetupVerdict;
+ghost use mathlib.Core.Path.{_≡_};
+ghost use Rattle.device.specs.Refusals.{rowOf, told, refusedBy, answeredWith, silent as silentAs};
 
 // Served, or the row that refuses the call.
 pub enum Refusal {
@@ -42,4 +44,45 @@ pub struct SetupAnswer {
 pub enum Channel {
     Offer,
     Content,
+}
+
+impl Device {
+    // A refused call: a zeroed reply, nothing sent, the record unchanged.
+    pub(crate) fn refused(self, refusal: Refusal) -> Answer
+        ensures { λ r. ⌜ told r ≡ refusedBy (rowOf refusal) self ⌝ }
+    {
+        Answer {
+            refusal,
+            due: false,
+            reply: [0u8; 16],
+            ready: Owed::Nothing,
+            device: self,
+        }
+    }
+
+    // One reply, and then the READY that was owed.
+    pub(crate) fn answered(self, reply: [u8; 16], ready: Owed) -> Answer
+        ensures { λ r. ⌜ told r ≡ answeredWith reply ready self ⌝ }
+    {
+        Answer {
+            refusal: Refusal::Served,
+            due: true,
+            reply,
+            ready,
+            device: self,
+        }
+    }
+
+    // No reply now.
+    pub(crate) fn silent(self) -> Answer
+        ensures { λ r. ⌜ told r ≡ silentAs self ⌝ }
+    {
+        Answer {
+            refusal: Refusal::Served,
+            due: false,
+            reply: [0u8; 16],
+            ready: Owed::Nothing,
+            device: self,
+        }
+    }
 }

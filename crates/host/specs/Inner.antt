@@ -4,7 +4,7 @@ use Prim.Native.Nat.{ℕ, suc, _+_, _*_, _<_, _≤_}
 use mathlib.Core.Path.{_≡_}
 use mathlib.Core.Bool.{Bool, true, false, cond}
 use mathlib.Core.List.{List, [], _∷_}
-use lib.Dec.{eqb}
+use lib.Dec.{leb, eqb}
 use lib.ListN.{length, getD, set, take, drop}
 use Rattle.wire.specs.Bytes.{Bytes}
 use Rattle.wire.specs.Codes.{NOTIFY-ON-READY}
@@ -14,7 +14,7 @@ use Rattle.records.specs.Parse.{whole, recordsOf}
 use Rattle.records.specs.Walk.{between, nextOf}
 use Rattle.records.specs.declared.Next.{Next}
 use Rattle.records.specs.declared.Next.the-variants as next
-use Rattle.bundle.specs.Layout.{HEAD, ENTRY}
+use Rattle.bundle.specs.Layout.{tableEnd}
 use Rattle.bundle.specs.Rows as bundle
 use Rattle.bundle.specs.Contents.{Contents, blankEntry, checkOf}
 use Rattle.bundle.specs.declared.Entry.{Entry}
@@ -59,13 +59,16 @@ madeBlock b c cursor p before after next.Bad = record { step = refusedBy (N 1) b
 madeBlock b c cursor p before after (next.Record address start size past) =
     sending (blockBytes (p .block) (isLastOf (recordsOn c) p) (record { address = address; bytes = take size (drop start b) })) after past
 
--- what an action sends
+-- what an action sends; an offer whose entry the bytes do not have is N1
 unfoldable pub madeOf : (b : List ℕ) → Contents → (cursor : ℕ) → (before after : Host) → Action → InnerStep
 madeOf b c cursor before after action.Nothing =
     record { step = record { row = served; sent = []; packet = filled []; host = after }; cursor = cursor }
 madeOf b c cursor before after (action.Information code) = sending (informationBytes (record { code = code; token = after .token })) after cursor
 madeOf b c cursor before after action.Notify = sending (extendedBytes (record { code = NOTIFY-ON-READY; token = after .token })) after cursor
-madeOf b c cursor before after (action.Offer entry) = sending (set (take 16 (drop (HEAD + ENTRY * entry) b)) 3 (after .token)) after cursor
+madeOf b c cursor before after (action.Offer entry) =
+    cond (leb (tableEnd (entry + 1)) (length b))
+    (sending (set (take 16 (drop (tableEnd entry) b)) 3 (after .token)) after cursor)
+    (record { step = refusedBy (N 1) before; cursor = cursor })
 madeOf b c cursor before after (action.Block p) =
     madeBlock b c cursor p before after (nextOf b (recordStart c cursor p) (bodyEnd c p))
 
@@ -97,4 +100,4 @@ abbrev pub InnerIsStep : Type 0
 InnerIsStep = (b : List ℕ) (h : Host) (cursor : ℕ) (reply : List ℕ) → Bytes b → bundle.bundleRow b ≡ bundle.served
     → breaksN1 b h ≡ false → CursorIn b (h .stage) cursor
     → (innerOf b (checkOf b) cursor h reply .step ≡ stepOf b h reply)
-      × CursorIn b (stepOf b h reply .host .stage) (innerOf b (checkOf b) cursor h reply .cursor)
+    × CursorIn b (stepOf b h reply .host .stage) (innerOf b (checkOf b) cursor h reply .cursor)

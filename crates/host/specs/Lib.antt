@@ -1,4 +1,5 @@
 pub mod Record
 pub mod Decide
+pub mod Room
 pub mod Step
 pub mod Inner

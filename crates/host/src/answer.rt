@@ -46,7 +46,7 @@ pub struct StepAnswer {
 // What the inner step answers: a step, and the place of the record after the one in hand.
 pub struct InnerAnswer {
     pub step: StepAnswer,
-    pub cursor: u32,
+    pub cursor: usize,
 }
 
 pub enum Progress {

@@ -1,4 +1,8 @@
 // The host's record (document 01, "The host").
+ghost use mathlib.Core.Path.{_≡_};
+ghost use Rattle.host.specs.Record.{freshHost, endingIn, toldProgress, toldReport, reportOf};
+use crate::answer::Progress;
+use crate::answer::Report;
 
 // The offer in hand, and the BUSY replies that it had in this pass.
 pub struct Turn {
@@ -54,4 +58,52 @@ pub struct Host {
     // This pass had a SKIP; a completed image.
     pub skipped: bool,
     pub landed: bool,
+}
+
+// How far a host is.
+fn progress(stage: HostStage) -> Progress
+    ensures { λ r. ⌜ toldProgress r ≡ endingIn stage ⌝ }
+{
+    match stage {
+        HostStage::Fresh => Progress::Running,
+        HostStage::Opening => Progress::Running,
+        HostStage::Listing => Progress::Running,
+        HostStage::Offering(_) => Progress::Running,
+        HostStage::Waiting(_) => Progress::Running,
+        HostStage::Sending(_) => Progress::Running,
+        HostStage::Closing => Progress::Running,
+        HostStage::Ended(e) => Progress::Ended(e),
+    }
+}
+
+impl Host {
+    // A host that has sent nothing.
+    pub fn fresh(token: u8) -> Self
+        ensures { λ r. ⌜ r ≡ freshHost token ⌝ }
+    {
+        Host {
+            token: token,
+            stage: HostStage::Fresh,
+            mask: 0,
+            packets: 0,
+            passes: 0,
+            skipped: false,
+            landed: false,
+        }
+    }
+
+    // The completed offers are the ones in the mask.
+    pub fn report(self) -> Report
+        ensures { λ r. ⌜ toldReport r ≡ reportOf self ⌝ }
+    {
+        let stage = self.stage;
+        let how = progress(stage);
+        Report {
+            completed: u32::count_ones(self.mask),
+            mask: self.mask,
+            packets: self.packets,
+            passes: self.passes,
+            progress: how,
+        }
+    }
 }

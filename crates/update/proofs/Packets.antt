@@ -27,7 +27,7 @@ use Rattle.host.specs.declared.answer.Action.{Action}
 use Rattle.host.specs.declared.answer.Action.the-variants.{Nothing, Information, Notify, Offer, Block}
 use Rattle.update.specs.Trace.{opensPass, about, completes}
 use Rattle.update.specs.Ends.{Built, anInformation, anExtended, anOffer, aContent, AllBuilt}
-use Rattle.update.proofs.Moves.{isTaken}
+use Rattle.host.proofs.Moves.{isTaken}
 
 -- an action that the bundle has the bytes for
 abbrev pub Has : (b : List ℕ) → Action → Type 0
@@ -66,14 +66,14 @@ content-built c a =
     subst Built (ap (λ (t : Told (List ℕ)). t .value) w) (aContent c (ap (λ (t : Told (List ℕ)). t .row) w))
 
 -- the flags of a block, by whether it is first and last: no other bit
-flags-sound : (x y : Bool) → eqb ((cond x FLAG-FIRST-BLOCK 0 + cond y FLAG-LAST-BLOCK 0) % 64) 0 ≡ true
+pub flags-sound : (x y : Bool) → eqb ((cond x FLAG-FIRST-BLOCK 0 + cond y FLAG-LAST-BLOCK 0) % 64) 0 ≡ true
 flags-sound true true = refl
 flags-sound true false = refl
 flags-sound false true = refl
 flags-sound false false = refl
 
 -- the bit that says that a block is the last
-flags-last : (x y : Bool) → eqb ((cond x FLAG-FIRST-BLOCK 0 + cond y FLAG-LAST-BLOCK 0) / 64 % 2) 1 ≡ y
+pub flags-last : (x y : Bool) → eqb ((cond x FLAG-FIRST-BLOCK 0 + cond y FLAG-LAST-BLOCK 0) / 64 % 2) 1 ≡ y
 flags-last true true = refl
 flags-last true false = refl
 flags-last false true = refl
@@ -88,7 +88,7 @@ and-swap false false = refl
 
 module _ (b : List ℕ) (α : Accepted b) where
   -- the offer of an entry, with our token
-  abbrev offerPacket : (token e : ℕ) → List ℕ
+  abbrev pub offerPacket : (token e : ℕ) → List ℕ
   offerPacket token e = set (offerIn (entryAt b e)) 3 token
 
   -- has the entry's bytes but for the token
@@ -96,7 +96,7 @@ module _ (b : List ℕ) (α : Accepted b) where
   offer-byte token e i l n = getD-set-other (offerIn (entryAt b e)) 3 i token 0 n ∙ getD-take 16 (entryAt b e) i 0 l
 
   -- is 16 bytes
-  offer-packet : (token e : ℕ) → token < 256 → e < countIn b → Packet 16 (offerPacket token e)
+  pub offer-packet : (token e : ℕ) → token < 256 → e < countIn b → Packet 16 (offerPacket token e)
   offer-packet token e t l =
       let k = α .packet e l in
       record {
@@ -105,11 +105,11 @@ module _ (b : List ℕ) (α : Accepted b) where
       }
 
   -- has its id in byte 2
-  offer-id : (token e : ℕ) → getD (offerPacket token e) 2 0 ≡ idIn (entryAt b e)
+  pub offer-id : (token e : ℕ) → getD (offerPacket token e) 2 0 ≡ idIn (entryAt b e)
   offer-id token e = offer-byte token e 2 (omega arith) (omega arith)
 
   -- a block's data fills 52 bytes
-  block-length : (p : Place) → p .entry < countIn b → p .block < length (blocksAt b (p .entry)) → length (blockPacket b p) ≡ 60
+  pub block-length : (p : Place) → p .entry < countIn b → p .block < length (blocksAt b (p .entry)) → length (blockPacket b p) ≡ 60
   unfolding content.contentBytes content.cleared
   block-length p l m =
       let c = α .carries (entryAt b (p .entry)) .each (p .block) noBlock m in

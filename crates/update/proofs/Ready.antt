@@ -25,7 +25,7 @@ use Rattle.host.specs.declared.record.End.{End}
 use Rattle.host.specs.declared.answer.Action.{Action}
 use Rattle.host.specs.declared.answer.Move.{Move}
 use Rattle.update.specs.Run.{recordsFrom, recordsIn, boundOf}
-use Rattle.update.proofs.Moves.{opening-cases, listing-cases, offering-cases, waiting-cases, closing-cases, sending-cases, offer-cases}
+use Rattle.host.proofs.Moves.{opening-cases, listing-cases, offering-cases, waiting-cases, closing-cases, sending-cases, offer-cases}
 use Rattle.update.proofs.Mask.{with-bit-below}
 use Rattle.update.proofs.Packets.{Has}
 

@@ -5,3 +5,4 @@ pub mod Ends
 pub mod Claim
 pub mod Demand
 pub mod Bench
+pub mod Cases

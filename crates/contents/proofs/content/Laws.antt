@@ -2,7 +2,7 @@
 use mathlib.Core.Path.{_≡_, refl, sym, ap, ap₂, _∙_}
 use mathlib.Core.Bool.{Bool, true, false, cond}
 use mathlib.Core.List.{List, [], _∷_, _++_}
-use Prim.Native.Nat.{ℕ, zero, suc, _+_, _-_, _≤_}
+use Prim.Native.Nat.{ℕ, zero, suc, _+_, _-_, _^_, _<_, _≤_}
 use native.Mathlib.Numerals.{unary-clauses}
 use native.Mathlib.Omega.{arith}
 use borrow.Author.Tests.{eq-eqb, leb-true, leb-false}
@@ -70,9 +70,9 @@ unfolding contentBytes
 packet-length c f = simp (length-cleared, f .size)
 
 -- its fields are those that it was built of, unused data as zero
-packet-fields : (c : ContentFields) → FitsContent c → fieldsIn (contentBytes c) ≡ norm c
+pub packet-fields : (c : ContentFields) → c .sequence < 256 ^ 2 → c .address .0 < 256 ^ 4 → fieldsIn (contentBytes c) ≡ norm c
 unfolding contentBytes fieldsIn
-packet-fields c f = simp (round 2 (c .sequence) (f .sequence), round 4 (c .address .0) (f .address), cleared-twice)
+packet-fields c s a = simp (round 2 (c .sequence) s, round 4 (c .address .0) a, cleared-twice)
 
 -- the packet with unused data as zero, each byte of its head by its place
 clean : (p : List ℕ) → Packet 60 p → cleanContent p ≡ bytesAt 8 0 p ++ cleared (getD p 1 0) (drop 8 p)
@@ -103,7 +103,7 @@ built c h = rw (served-true (allowed (c .flags) (c .length)) (contentBytes c) (r
 -- what is built reads back
 pub content-r1 : ContentR1
 unfolding readOf
-content-r1 c f h = simp (built c h, packet-length c f, packet-fields c f)
+content-r1 c f h = simp (built c h, packet-length c f, packet-fields c (f .sequence) (f .address))
 
 -- what is read and built again is the packet with unused data as zero
 pub content-r2 : ContentR2

@@ -32,7 +32,7 @@ unfolding put
 put-length at bytes l h = simp (length-append, length-take, length-drop) (omega arith)
 
 -- a byte of a region
-region-byte : (r : Region) (s : List ℕ) (i : ℕ) → i < r .len → getD (regionBytes r s) i 0 ≡ getD s (r .base .0 + i) 0
+pub region-byte : (r : Region) (s : List ℕ) (i : ℕ) → i < r .len → getD (regionBytes r s) i 0 ≡ getD s (r .base .0 + i) 0
 unfolding regionBytes
 region-byte r s i h = getD-take (r .len) (drop (r .base .0) s) i 0 h ∙ getD-drop (r .base .0) s i 0
 

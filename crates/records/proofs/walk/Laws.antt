@@ -23,7 +23,7 @@ use Rattle.records.proofs.Heads.{Seen, seen}
 use Rattle.records.proofs.Parsing.{records-by}
 
 -- what follows a record is the part from its end on
-rest-between : (bytes : List ℕ) (at end size : ℕ) → restOf size (between bytes at end) ≡ between bytes (at + 5 + size) end
+pub rest-between : (bytes : List ℕ) (at end size : ℕ) → restOf size (between bytes at end) ≡ between bytes (at + 5 + size) end
 rest-between bytes at end size =
     let e : end - at - (5 + size) ≡ end - (at + 5 + size) = omega arith in
     let f : at + (5 + size) ≡ at + 5 + size = omega arith in

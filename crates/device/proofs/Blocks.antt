@@ -1,0 +1,158 @@
+-- A block that the session waits for: checks 1 to 5 let it pass, its bytes are put into the region, and the last one is judged. Assumes nothing.
+use Prim.Native.Nat.{ℕ, zero, suc, _+_, _%_}
+use mathlib.Core.Path.{_≡_, refl, ap, _∙_}
+use mathlib.Core.Bool.{true, false, cond}
+use mathlib.Core.List.{List}
+use native.Mathlib.Omega.{arith}
+use borrow.Author.Tests.{eq-eqb}
+use lib.Dec.{eqb, eqb·suc-zero}
+use lib.ListN.{length, set, take}
+use Rattle.wire.specs.Checks.{firstOf}
+use Rattle.wire.specs.Codes.{SUCCESS}
+use Rattle.wire.specs.declared.version.Version.{Version}
+use Rattle.contents.specs.Content.{fieldsIn}
+use Rattle.contents.specs.Reply.{replyBytes}
+use Rattle.contents.specs.declared.content.ContentFields.{ContentFields}
+use Rattle.image.specs.Region.{isInside, holds, within, regionBytes, blank, put, eraseOf}
+use Rattle.image.specs.Judge.{isRight, imageId, imageVersion, imageIn}
+use Rattle.image.specs.declared.region.Region.{Region}
+use Rattle.image.specs.declared.judge.Image.the-variants.{Bears}
+use Rattle.image.proofs.region.Within.{blank-length, within-twice, erase-inside, erase-length, write-inside, inside}
+use Rattle.component.specs.Lists.{partAt}
+use Rattle.component.specs.Record.{withStaged}
+use Rattle.component.specs.Versions.{imageVersionFits}
+use Rattle.component.specs.declared.record.Component.{Component}
+use Rattle.component.specs.declared.list.Found.the-variants.{At}
+use Rattle.device.specs.declared.record.Device.{Device}
+use Rattle.device.specs.declared.record.Owed.the-variants as owed
+use Rattle.device.specs.declared.record.Stage.{Stage}
+use Rattle.device.specs.declared.record.Stage.the-variants.{Offered, Receiving}
+use Rattle.device.specs.declared.answer.Channel.the-variants.{Content}
+use Rattle.device.specs.declared.judged.ContentVerdict.the-variants.{Take}
+use Rattle.device.specs.Record.{idleWith, openSlot}
+use Rattle.device.specs.Refusals.{answeredWith}
+use Rattle.device.specs.Content.{atToken, isFirst, isLast, badShape, contentVerdict, takeBlock, finish, onBlock, contentEntry, contentStaging}
+use Rattle.device.specs.Entries.{serveEntry, serveStaging}
+use Rattle.device.proofs.Calls.{Sound, rows-pass}
+
+-- the record with these components in this stage, owing nothing
+abbrev pub held : Device → List Component → Stage → Device
+held d parts stage = record {
+  platform = d .platform;
+  «staging_len» = d .«staging_len»;
+  count = d .count;
+  parts = parts;
+  stage = stage;
+  owed = owed.Nothing;
+}
+
+-- the session that waits for block k of an image
+abbrev pub awaits : (slot token k : ℕ) → Stage
+awaits slot token zero = Offered (record { slot = slot; token = token })
+awaits slot token (suc k) = Receiving (record { slot = slot; token = token; next = suc k % 65536 })
+
+-- it is open on the slot, with the token
+pub awaits-slot : (slot token k : ℕ) → openSlot (awaits slot token k) ≡ At slot
+awaits-slot slot token zero = refl
+awaits-slot slot token (suc k) = refl
+
+-- its token
+awaits-token : (slot token k : ℕ) → atToken (awaits slot token k) ≡ token
+awaits-token slot token zero = refl
+awaits-token slot token (suc k) = refl
+
+-- what block k finds in the region: the first finds it erased
+abbrev pub groundOf : (k len : ℕ) → List ℕ → List ℕ
+groundOf k len l = cond (eqb k 0) (blank len) l
+
+-- block k, as it is read, for a region
+pub record Fitting (c : ContentFields) (k : ℕ) (r : Region) : Type 0 where
+  pub shape : badShape c ≡ false
+  pub first : isFirst c ≡ eqb k 0
+  pub sequence : c .sequence ≡ k % 65536
+  pub room : holds r (c .address) (c .length) ≡ true
+
+-- a right image of a component bears its version
+bears : (m : List ℕ) (id : ℕ) (v : Version) → isRight m ≡ true → imageId m ≡ id → imageVersion m ≡ v → imageIn m id ≡ Bears v
+unfolding imageIn
+bears m id v r i w = rw (r, eq-eqb (imageId m) id i) (ap Bears w)
+
+module _ (d : Device) (parts : List Component) (slot token : ℕ) (c : ContentFields) where
+  -- checks 1 to 5 let it pass
+  pub takes : (k : ℕ) → Fitting c k (partAt parts slot .region) → contentVerdict (held d parts (awaits slot token k)) c ≡ Take slot
+  unfolding contentVerdict firstOf
+  takes zero f = simp (f .shape, f .first, f .room)
+  takes (suc k) f =
+      simp (f .shape, f .first, eqb·suc-zero k, f .sequence, eq-eqb (suc k % 65536) (suc k % 65536) refl, f .room)
+
+  -- its bytes are put into the region
+  pub puts : (k : ℕ) (stage : Stage) (s bytes : List ℕ) → Fitting c k (partAt parts slot .region) → isInside (partAt parts slot .region) (length s) ≡ true
+      → take (c .length) (c .«data») ≡ bytes → length bytes ≡ c .length
+      → takeBlock (held d parts stage) slot c s
+      ≡ within (partAt parts slot .region .base .0) (partAt parts slot .region .len)
+      (λ (l : List ℕ). put (c .address .0) bytes (groundOf k (partAt parts slot .region .len) l)) s
+  unfolding takeBlock
+  puts zero stage s bytes f h e l =
+      let r : Region = partAt parts slot .region in
+      let h′ : isInside r (length (eraseOf r s)) ≡ true = rw (erase-length r s) h in
+      let m : holds r (c .address) (length bytes) ≡ true = rw l (f .room) in
+      rw (f .first, e)
+      (write-inside r (eraseOf r s) (c .address) bytes h′ m ∙ ap (within (r .base .0) (r .len) (put (c .address .0) bytes)) (erase-inside r s h)
+      ∙ within-twice r (λ old. blank (r .len)) s (inside r (length s) h) (blank-length (r .len)) (put (c .address .0) bytes))
+  puts (suc k) stage s bytes f h e l =
+      let r : Region = partAt parts slot .region in
+      let m : holds r (c .address) (length bytes) ≡ true = rw l (f .room) in
+      rw (f .first, eqb·suc-zero k, e) (write-inside r s (c .address) bytes h m)
+
+  -- a block that is not the last: the session waits for the next
+  goes-on : (k : ℕ) (s : List ℕ) → c .sequence ≡ k % 65536 → isLast c ≡ false
+      → onBlock (held d parts (awaits slot token k)) slot c s
+      ≡ answeredWith (replyBytes (record { sequence = c .sequence; status = SUCCESS })) owed.Nothing (held d parts (awaits slot token (suc k)))
+  unfolding onBlock
+  goes-on k s q h =
+      let e : (c .sequence + 1) % 65536 ≡ suc k % 65536 = omega arith in
+      rw (h, e, awaits-token slot token k)
+
+  -- a right image: pending with its version, and idle
+  finishes : (stage : Stage) (s m : List ℕ) (v : Version) → regionBytes (partAt parts slot .region) s ≡ m → isRight m ≡ true
+      → imageId m ≡ partAt parts slot .id → imageVersion m ≡ v → imageVersionFits (partAt parts slot) v ≡ true
+      → finish (held d parts stage) slot s ≡ record { status = SUCCESS; device = idleWith d (set parts slot (withStaged (partAt parts slot) v)) }
+  unfolding finish
+  finishes stage s m v e r i w g = rw (e, bears m (partAt parts slot .id) v r i w, g)
+
+  -- the reply to the last block of a right image
+  ends : (stage : Stage) (s m : List ℕ) (v : Version) → isLast c ≡ true → regionBytes (partAt parts slot .region) s ≡ m → isRight m ≡ true
+      → imageId m ≡ partAt parts slot .id → imageVersion m ≡ v → imageVersionFits (partAt parts slot) v ≡ true
+      → onBlock (held d parts stage) slot c s
+      ≡ answeredWith (replyBytes (record { sequence = c .sequence; status = SUCCESS })) owed.Nothing
+      (idleWith d (set parts slot (withStaged (partAt parts slot) v)))
+  unfolding onBlock
+  ends stage s m v h e r i w g = rw (h, finishes stage s m v e r i w g)
+
+  module _ (s p : List ℕ) (size : length p ≡ 60) (reads : fieldsIn p ≡ c) (k : ℕ) (f : Fitting c k (partAt parts slot .region))
+      (sound : Sound (held d parts (awaits slot token k)) s) where
+    -- the staging buffer afterwards
+    pub block-staging : serveStaging (held d parts (awaits slot token k)) Content s p ≡ takeBlock (held d parts (awaits slot token k)) slot c s
+    unfolding serveStaging contentStaging
+    block-staging = rw (rows-pass 60 (held d parts (awaits slot token k)) s (length p) sound size, reads, takes k f)
+
+    -- the answer is that of a taken block
+    block-taken : serveEntry (held d parts (awaits slot token k)) Content s p
+        ≡ onBlock (held d parts (awaits slot token k)) slot c (takeBlock (held d parts (awaits slot token k)) slot c s)
+    unfolding serveEntry contentEntry
+    block-taken = rw (rows-pass 60 (held d parts (awaits slot token k)) s (length p) sound size, reads, takes k f)
+
+    -- a block that is not the last: status 0, and the session waits for the next
+    pub block-next : isLast c ≡ false
+        → serveEntry (held d parts (awaits slot token k)) Content s p
+        ≡ answeredWith (replyBytes (record { sequence = c .sequence; status = SUCCESS })) owed.Nothing (held d parts (awaits slot token (suc k)))
+    block-next h = block-taken ∙ goes-on k _ (f .sequence) h
+
+    -- the last block of a right image that is not older: status 0, and the component is pending with its version
+    pub block-last : (m : List ℕ) (v : Version) → isLast c ≡ true
+        → regionBytes (partAt parts slot .region) (takeBlock (held d parts (awaits slot token k)) slot c s) ≡ m → isRight m ≡ true
+        → imageId m ≡ partAt parts slot .id → imageVersion m ≡ v → imageVersionFits (partAt parts slot) v ≡ true
+        → serveEntry (held d parts (awaits slot token k)) Content s p
+        ≡ answeredWith (replyBytes (record { sequence = c .sequence; status = SUCCESS })) owed.Nothing
+        (idleWith d (set parts slot (withStaged (partAt parts slot) v)))
+    block-last m v h e r i w g = block-taken ∙ ends _ _ m v h e r i w g

@@ -1,0 +1,146 @@
+-- The values of a record stay those of its type. Assumes nothing.
+use mathlib.Core.Path.{_≡_, refl, sym, ap, _∙_}
+use mathlib.Core.Bool.{Bool, true, false, cond}
+use mathlib.Core.List.{List, map}
+use Prim.Native.Nat.{ℕ, zero, suc, _<_, _^_}
+use native.Mathlib.Omega.{arith}
+use lib.Dec.{eqb}
+use lib.ListN.{length, getD, length-set, length-map, replicate}
+use Rattle.wire.specs.Bytes.{Bytes}
+use Rattle.wire.specs.declared.version.Version.{Version}
+use Rattle.offers.specs.Offer as offers
+use Rattle.contents.specs.Content as contents
+use Rattle.image.specs.Region.{regionBytes}
+use Rattle.image.specs.Judge.{imageVersion, imageId, isRight, imageIn}
+use Rattle.image.specs.declared.judge.Image.the-variants.{Damaged, Foreign, Bears}
+use Rattle.component.specs.Record.{FitsStaged, FitsComponent, effective, listed, withStaged, afterReset, blankComponent}
+use Rattle.component.specs.Lists.{partAt}
+use Rattle.component.specs.Setup.{rowOf, setupVerdict}
+use Rattle.component.specs.declared.record.Component.{Component}
+use Rattle.component.specs.declared.record.Staged.{Staged}
+use Rattle.component.specs.declared.record.Staged.the-variants.{Nothing, Pending}
+use Rattle.component.specs.declared.setup.SetupVerdict.{SetupVerdict}
+use Rattle.device.specs.Entries.{newDevice, setUpBy, setUpOf, Reset, resetParts, resetEntry}
+use Rattle.device.proofs.Passes.{fine}
+use Rattle.device.proofs.setup.Laws.{refused-set-up, made-set-up}
+use Rattle.wire.specs.Version.{FitsVersion}
+use Rattle.component.specs.declared.list.Found.the-variants as found
+use Rattle.device.specs.declared.record.Device.{Device}
+use Rattle.device.specs.declared.record.Owed.{Owed}
+use Rattle.device.specs.declared.record.Stage.{Stage}
+use Rattle.device.specs.declared.record.Stage.the-variants.{Idle, Offered, Receiving}
+use Rattle.device.specs.Record.{FitsStage, FitsOwed, FitsDevice, part, openSlot, blankDevice}
+use Rattle.device.specs.Refusals.{refusesSetup, breaksD1}
+use Rattle.device.specs.Content.{atToken, isFirst, window, takeBlock}
+use Rattle.device.specs.Promises.{SetUpFits, ResetKeepsFits, ServeKeepsFits}
+use Rattle.device.proofs.Chain.{either}
+use Rattle.component.proofs.list.Laws.{find-at}
+use Rattle.component.proofs.setup.Laws.{seen, fine-staging}
+use Rattle.device.proofs.Lists.{reset-seen, each-set, each-front}
+use Rattle.device.proofs.Bytes.{take-bytes, drop-bytes, cleared-bytes, region-bytes, erase-bytes, write-bytes, version-fits}
+use Rattle.device.proofs.Moves.{Move, stays, idles, opens, owes, goes, stages, serve-moves}
+
+-- the record with other components and another session
+fits-with : (d : Device) → FitsDevice d → (parts : List Component) → length parts ≡ 7 → ((k : ℕ) → FitsComponent (partAt parts k))
+    → (s : Stage) → FitsStage s → (o : Owed) → FitsOwed o
+    → FitsDevice (record { platform = d .platform; «staging_len» = d .«staging_len»; count = d .count; parts = parts; stage = s; owed = o })
+fits-with d f parts l e s h o k =
+    record { platform = f .platform; staging = f .staging; count = f .count; slots = l; each = e; stage = h; owed = k }
+
+slot-fits : (s : Stage) (k : ℕ) → FitsStage s → openSlot s ≡ found.At k → k < 256
+slot-fits Idle k f e = let z : _≡_ {A = ℕ} 0 1 = cc in absurd (omega arith)
+slot-fits (Offered o) k f e = let q : o .slot ≡ k = cc in omega arith
+slot-fits (Receiving r) k f e = let q : r .slot ≡ k = cc in omega arith
+
+token-fits : (s : Stage) → FitsStage s → atToken s < 256
+token-fits Idle f = omega arith
+token-fits (Offered o) f = f .1
+token-fits (Receiving r) f = f .1
+
+-- the version that an image bears is the one that it holds
+bears : (m : List ℕ) (id : ℕ) (v : Version) → imageIn m id ≡ Bears v → v ≡ imageVersion m
+unfolding imageIn
+bears m id v e = go (isRight m) (eqb (imageId m) id) e where
+  go : (a b : Bool) → cond a (cond b (Bears (imageVersion m)) Foreign) Damaged ≡ Bears v → v ≡ imageVersion m
+  go true true h = cc
+  go true false h = let z : _≡_ {A = ℕ} 0 1 = cc in absurd (omega arith)
+  go false b h = let z : _≡_ {A = ℕ} 0 1 = cc in absurd (omega arith)
+
+-- the staging buffer holds bytes after a block too
+block-bytes : (d : Device) (k : ℕ) (report s : List ℕ) → Bytes report → Bytes s → Bytes (takeBlock d k (contents.fieldsIn report) s)
+unfolding takeBlock contents.fieldsIn
+block-bytes d k report s h b =
+    write-bytes (window d k) _ (either Bytes (isFirst (contents.fieldsIn report)) _ _ (erase-bytes (window d k) s b) b) _ _
+    (take-bytes (getD report 1 0) _ (cleared-bytes (getD report 1 0) _ (drop-bytes 8 report h)))
+
+-- each of the six moves keeps the values
+move-fits : {d d′ : Device} {staging report : List ℕ} → FitsDevice d → Bytes report → Bytes staging → Move d staging report d′ → FitsDevice d′
+unfolding offers.fieldsIn
+move-fits f h b stays = f
+move-fits {d} f h b idles = fits-with d f (d .parts) (f .slots) (f .each) Idle tt _ tt
+move-fits {d} {report = report} f h b (opens k e q) =
+    let m = find-at _ (d .count) (d .parts) k e .0 in
+    fits-with d f (d .parts) (f .slots) (f .each) _ (omega (arith, f .count), h 3) _ (f .owed)
+move-fits {d} f h b (owes e) = fits-with d f (d .parts) (f .slots) (f .each) _ (f .stage) _ (h 3)
+move-fits {d} f h b (goes k e) =
+    fits-with d f (d .parts) (f .slots) (f .each) _ (slot-fits (d .stage) k (f .stage) e, token-fits (d .stage) (f .stage), omega arith) _ (f .owed)
+move-fits {d} {staging = staging} {report = report} f h b (stages k e v q w) =
+    let c = f .each k in
+    let after = takeBlock d k (contents.fieldsIn report) staging in
+    let r = part d k .region in
+    let n : v .0 < 256 ^ 4 = rw (bears (regionBytes r after) _ v q) (version-fits 0 (regionBytes r after) (region-bytes r after (block-bytes d k report staging h b))) in
+    let g : FitsComponent (withStaged (part d k) v) = record { id = c .id; running = c .running; region = c .region; staged = n } in
+    fits-with d f _ (length-set (d .parts) k _ ∙ f .slots) (each-set FitsComponent (d .parts) k _ blankComponent g (f .each)) Idle tt _ tt
+
+pub serve-keeps-fits : ServeKeepsFits
+serve-keeps-fits d channel staging report f h b = move-fits f h b (serve-moves d staging report channel)
+
+-- a list of one value holds it at every place
+all-same : {A : Type 0} (n i : ℕ) (a : A) → getD (replicate n a) i a ≡ a
+all-same zero i a = refl
+all-same (suc n) zero a = refl
+all-same (suc n) (suc i) a = all-same n i a
+
+-- the values of the blank record
+blank-fits : FitsDevice blankDevice
+blank-fits = record {
+  platform = omega arith;
+  staging = omega arith;
+  count = omega arith;
+  slots = refl;
+  each = λ k. rw (all-same 7 k blankComponent) none-fits;
+  stage = tt;
+  owed = tt;
+} where
+  none-fits : FitsComponent blankComponent
+  none-fits = record { id = omega arith; running = omega arith; region = record { base = omega arith; len = omega arith }; staged = tt }
+
+pub set-up-fits : SetUpFits
+unfolding setUpOf
+set-up-fits platform list count n p k l e = go (refusesSetup verdict) refl where
+  verdict : SetupVerdict
+  verdict = setupVerdict n count (map listed list)
+
+  new : Device
+  new = newDevice platform list count n
+
+  go : (b : Bool) → refusesSetup verdict ≡ b → FitsDevice (setUpBy (rowOf verdict) new .device)
+  go true r = rw (refused-set-up verdict new r) blank-fits
+  go false r =
+      let s = fine-staging n count (map listed list) (fine _ r) in
+      rw (made-set-up verdict new r)
+      (record { platform = p; staging = omega arith; count = k; slots = length-map list listed ∙ l; each = e; stage = tt; owed = tt })
+
+-- a component after a reset has values of its type
+reset-fits : (c : Component) → FitsComponent c → FitsComponent (afterReset c)
+reset-fits c f = record { id = f .id; running = effective-fits (c .staged) (f .staged); region = f .region; staged = tt } where
+  effective-fits : (s : Staged) → FitsStaged s → FitsVersion (effective (c .running) s)
+  effective-fits Nothing h = f .running
+  effective-fits (Pending v) h = h
+
+pub reset-keeps-fits : ResetKeepsFits
+unfolding resetEntry
+reset-keeps-fits d f =
+    let l : length (resetParts (d .count) (d .parts)) ≡ 7 = sym (length-map (resetParts (d .count) (d .parts)) seen) ∙ ap length (reset-seen (d .count) (d .parts)) ∙ length-map (d .parts) seen ∙ f .slots in
+    either (λ (r : Reset). FitsDevice (r .device)) (breaksD1 d) _ _ f
+    (fits-with d f (resetParts (d .count) (d .parts)) l (each-front FitsComponent afterReset blankComponent reset-fits (d .count) (d .parts) (f .each)) Idle tt _ tt)

@@ -1,0 +1,45 @@
+-- `Device::version_reply` meets its contract: D1, or the reply, whose count is at most seven. Assumes nothing.
+use mathlib.Core.Path.{ap}
+use mathlib.Core.List.{List}
+use Prim.Native.Nat.{ℕ}
+use borrow.Author.Tests.{le-leb}
+use Rattle.wire.specs.Rows.{Told}
+use Rattle.versions.specs.Reply.{buildOf}
+use Rattle.device.specs.Entries.{versionEntry}
+use Rattle.device.proofs.Chain.{by}
+use Rattle.device.proofs.Passes.{passes, count-most}
+use borrow.Author.Needs.{needs}
+use Rattle.device.proofs.record.Device.version_reply.Statement.{statement}
+use Rattle.device.proofs.record.Device.version_reply.Tie as tie
+
+breaks-d1-requires : tie.Need-breaks-d1-requires
+breaks-d1-requires c κs = search needs
+
+returns : tie.Need-returns
+unfolding versionEntry
+returns c = rw (by (c .before .breaks-d1 .ensures) (c .if1 .taken))
+
+all-running-requires : tie.Need-all-running-requires
+all-running-requires c κs = search needs
+
+build-version-reply-requires : tie.Need-build-version-reply-requires
+build-version-reply-requires c κs = search needs
+
+returns-2 : tie.Need-returns-2
+unfolding versionEntry buildOf
+returns-2 c =
+    let d = c .before .before .before .before .before .before .args .self in
+    let h = by (c .before .before .before .before .before .breaks-d1 .ensures) (c .before .before .before .before .if1 .left) in
+    let m = count-most d (passes d h) in
+    let e = ap (λ (t : Told (List ℕ)). t .value) (rw (le-leb (d .count) 7 m) at (c .before .build-version-reply .ensures)) in
+    rw (h, e, c .before .before .all-running .ensures)
+
+pub version-reply-spec : {M : Type 1} → statement M
+version-reply-spec =
+    tie.close
+    (tie.spec
+    breaks-d1-requires
+    returns
+    all-running-requires
+    build-version-reply-requires
+    returns-2)

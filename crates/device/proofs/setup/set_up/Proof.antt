@@ -1,0 +1,56 @@
+-- `setup::set_up` meets its contract: the blank record where a row refuses, and the new one where none does. Assumes nothing.
+use mathlib.Core.Path.{sym}
+use native.Mathlib.Omega.{arith}
+use lib.ListN.{length}
+use Rattle.device.specs.Entries.{setUpOf}
+use Rattle.device.proofs.Chain.{by}
+use Rattle.device.proofs.Passes.{fine}
+use Rattle.component.proofs.setup.Laws.{fine-staging}
+use Rattle.device.proofs.setup.Laws.{refused-set-up, made-set-up}
+use borrow.Author.Needs.{needs}
+use Rattle.device.proofs.setup.set_up.Statement.{statement}
+use Rattle.device.proofs.setup.set_up.Tie as tie
+
+components-requires : tie.Need-components-requires
+components-requires c κs = search needs
+
+setup-verdict-requires : tie.Need-setup-verdict-requires
+setup-verdict-requires c κs = search needs
+
+refuses-setup-requires : tie.Need-refuses-setup-requires
+refuses-setup-requires c κs = search needs
+
+blank-requires : tie.Need-blank-requires
+blank-requires c κs = search needs
+
+returns : tie.Need-returns
+unfolding setUpOf
+returns c =
+    let v = c .before .before .before .setup-verdict in
+    rw (← (c .before .before .before .before .components .ensures), ← (v .ensures), c .blank .ensures)
+    (sym (refused-set-up (v .result) _ (by (c .before .before .refuses-setup .ensures) (c .before .if1 .taken))))
+
+cast-t11 : tie.Need-cast-t11
+cast-t11 c =
+    let n = length (c .before .before .before .before .before .args .staging .now) in
+    let h = rw (c .before .before .setup-verdict .ensures) at (by (c .before .refuses-setup .ensures) (c .if1 .left)) in
+    record { fits = omega (arith, fine-staging n _ _ (fine _ h)) }
+
+returns-2 : tie.Need-returns-2
+unfolding setUpOf
+returns-2 c =
+    let v = c .before .before .setup-verdict in
+    rw (← (c .before .before .before .components .ensures), ← (v .ensures))
+    (sym (made-set-up (v .result) _ (by (c .before .refuses-setup .ensures) (c .if1 .left))))
+
+pub set-up-spec : {M : Type 1} → statement M
+set-up-spec =
+    tie.close
+    (tie.spec
+    components-requires
+    setup-verdict-requires
+    refuses-setup-requires
+    blank-requires
+    returns
+    cast-t11
+    returns-2)

@@ -1,0 +1,268 @@
+-- Where the check passes, N1 does not hold and the cursor is right, the inner step is the step, and leaves the cursor right. Assumes nothing.
+use mathlib.Core.Path.{_≡_, refl, sym, ap, ap₂, subst, _∙_}
+use mathlib.Core.Bool.{Bool, true, false, _||_}
+use mathlib.Core.List.{List, [], _∷_, map}
+use Prim.Native.Nat.{ℕ, zero, suc, _+_, _-_, _^_, _<_, _≤_}
+use native.Mathlib.Nat.{not-suc-le-zero, le-of-suc-le-suc}
+use native.Mathlib.Numerals.{add-one}
+use native.Mathlib.Omega.{arith}
+use borrow.Author.Tests.{leb-false, le-leb, eqb-false, ne-eqb}
+use lib.Dec.{leb, ltb, eqb}
+use lib.ListN.{length, getD, drop, replicate, length-map, List·getD-append}
+use lib.Seq.{drop-cons, take-take}
+use Rattle.wire.specs.Bytes.{Bytes}
+use Rattle.wire.proofs.Tests.{neither}
+use Rattle.records.specs.Record.{Block}
+use Rattle.records.specs.Parse.{Parsed, whole, broken, recordsOf, blocksOf}
+use Rattle.records.specs.Walk.{between, nextOf}
+use Rattle.records.specs.declared.Next.{Next}
+use Rattle.records.specs.declared.Next.the-variants as next
+use Rattle.bundle.specs.Layout.{ENTRY, OFFER-LIMIT, countIn, tableEnd, entriesIn, offsetIn, lengthIn, bodyIn}
+use Rattle.bundle.specs.Rows as bundle
+use Rattle.bundle.specs.declared.Entry.{Entry}
+use Rattle.bundle.specs.Contents.{Contents, blankEntry, entryIn, contentsBy, checkOf}
+use Rattle.bundle.proofs.Accepted.{Accepted, accepted}
+use Rattle.host.specs.declared.record.Host.{Host}
+use Rattle.host.specs.declared.record.Turn.{Turn}
+use Rattle.host.specs.declared.record.Place.{Place}
+use Rattle.host.specs.declared.record.HostStage.{HostStage}
+use Rattle.host.specs.declared.record.HostStage.the-variants.{Fresh, Opening, Listing, Offering, Waiting, Sending, Closing, Ended}
+use Rattle.host.specs.declared.record.End.{End}
+use Rattle.host.specs.declared.answer.Action.{Action}
+use Rattle.host.specs.declared.answer.Action.the-variants as action
+use Rattle.host.specs.declared.answer.Move.{Move}
+use Rattle.host.specs.Decide.{BUSY-LIMIT, ends, offerFrom, noted, completes, decideIn, decideOf}
+use Rattle.host.specs.Step.{PACKET-LIMIT, entryAt, blocksAt, recordsAt, turnBreaks, placeBreaks, stageBreaks, recordBreaks, badStage, breaksN1, lastOf, isLast, lastIn, noBlock, blockAt, blockBytes, packetOf, moved, stepOn, stepOf}
+use Rattle.host.specs.Inner.{listedAt, recordsOn, bodyEnd, recordStart, InnerStep, sending, madeBlock, madeOf, innerOf, CursorIn, InnerIsStep}
+use Rattle.host.proofs.Moves.{opening-cases, listing-cases, offering-cases, waiting-cases, closing-cases, sending-cases, offer-cases}
+use Rattle.host.proofs.Walks.{Goes, goes}
+
+-- a member of a list that is mapped
+map-at : {A B : Type 0} (f : A → B) (l : List A) (i : ℕ) (d : B) (e : A) → i < length l → getD (map f l) i d ≡ f (getD l i e)
+map-at f [] i d e h = absurd (not-suc-le-zero h)
+map-at f (x ∷ l) zero d e h = refl
+map-at f (x ∷ l) (suc i) d e h = map-at f l i d e (le-of-suc-le-suc h)
+
+-- a body with a record is whole
+whole-blocks : (p : Parsed) → 1 ≤ length (blocksOf p) → p ≡ whole (blocksOf p)
+whole-blocks (whole rs) h = refl
+whole-blocks broken h = absurd (omega arith)
+
+-- N1 of a stage asks only for the records of the bundle's entries
+module _ (n : ℕ) (f g : ℕ → ℕ) (same : (i : ℕ) → i < n → f i ≡ g i) where
+  place-same : (p : Place) → placeBreaks n f p ≡ placeBreaks n g p
+  place-same p = go (leb n (p .entry)) refl
+    where
+      go : (t : Bool) → leb n (p .entry) ≡ t → (t || leb (f (p .entry)) (p .block)) ≡ (t || leb (g (p .entry)) (p .block))
+      go true e = refl
+      go false e = rw (same (p .entry) (leb-false n (p .entry) e))
+
+  stage-same : (s : HostStage) → stageBreaks n f s ≡ stageBreaks n g s
+  stage-same Fresh = refl
+  stage-same Opening = refl
+  stage-same Listing = refl
+  stage-same (Offering t) = refl
+  stage-same (Waiting t) = refl
+  stage-same (Sending p) = place-same p
+  stage-same Closing = refl
+  stage-same (Ended e) = refl
+
+  last-same : (s : HostStage) → stageBreaks n g s ≡ false → lastOf f s ≡ lastOf g s
+  last-same Fresh h = refl
+  last-same Opening h = refl
+  last-same Listing h = refl
+  last-same (Offering t) h = refl
+  last-same (Waiting t) h = refl
+  last-same (Sending p) h = rw (same (p .entry) (leb-false n (p .entry) (neither (leb n (p .entry)) (leb (g (p .entry)) (p .block)) h .0)))
+  last-same Closing h = refl
+  last-same (Ended e) h = refl
+
+module _ (b : List ℕ) (α : Accepted b) (s : bundle.bundleRow b ≡ bundle.served) where
+  -- the contents of an accepted bundle
+  check-is : checkOf b ≡ contentsBy bundle.served b
+  unfolding checkOf
+  check-is = ap (λ (r : bundle.Row). contentsBy r b) s
+
+  count-is : checkOf b .count ≡ countIn b
+  count-is = ap (λ (c : Contents). c .count) check-is
+
+  listed-is : (i : ℕ) → i < countIn b → listedAt (checkOf b) i ≡ entryIn b (entryAt b i)
+  listed-is i l =
+      let e = α .entries in
+      let m = map (entryIn b) (entriesIn b) in
+      let k : i < length m = rw (length-map) (omega arith) in
+      ap (λ (c : Contents). listedAt c i) check-is ∙ List·getD-append m (replicate (OFFER-LIMIT - countIn b) blankEntry) blankEntry i k
+      ∙ map-at (entryIn b) (entriesIn b) i blankEntry [] (omega arith)
+
+  records-is : (i : ℕ) → i < countIn b → recordsOn (checkOf b) i ≡ recordsAt b i
+  records-is i l = ap (λ (e : Entry). e .records) (listed-is i l)
+
+  -- a body from its start to its end
+  body-end : (p : Place) → p .entry < countIn b → bodyEnd (checkOf b) p ≡ offsetIn (entryAt b (p .entry)) + lengthIn (entryAt b (p .entry))
+  body-end p l = ap (λ (e : Entry). e .offset + e .length) (listed-is (p .entry) l)
+
+  end-inside : (p : Place) → p .entry < countIn b → bodyEnd (checkOf b) p ≤ length b
+  end-inside p l = rw (body-end p l) (α .inside (p .entry) l)
+
+  body-reads : (i : ℕ) → i < countIn b
+      → recordsOf (between b (offsetIn (entryAt b i)) (offsetIn (entryAt b i) + lengthIn (entryAt b i))) ≡ whole (blocksAt b i)
+  unfolding bodyIn
+  body-reads i l =
+      let e : offsetIn (entryAt b i) + lengthIn (entryAt b i) - offsetIn (entryAt b i) ≡ lengthIn (entryAt b i) = omega arith in
+      rw e (whole-blocks (recordsOf (bodyIn b (entryAt b i))) (α .records i l))
+
+  -- the block's record and those after it stand from its start on
+  record Stood (cursor : ℕ) (p : Place) : Type 0 where
+    below : recordStart (checkOf b) cursor p ≤ bodyEnd (checkOf b) p
+    reads : recordsOf (between b (recordStart (checkOf b) cursor p) (bodyEnd (checkOf b) p)) ≡ whole (drop (p .block) (blocksAt b (p .entry)))
+
+  first-stood : (cursor i : ℕ) → i < countIn b → Stood cursor (record { entry = i; block = 0 })
+  first-stood cursor i l = record { below = omega arith; reads = ap (λ (e : Entry). recordsOf (between b (e .offset) (e .offset + e .length))) (listed-is i l) ∙ body-reads i l }
+
+  next-stood : (cursor : ℕ) (p : Place) → CursorIn b (Sending p) cursor → Stood cursor (record { entry = p .entry; block = p .block + 1 })
+  next-stood cursor p h =
+      let e = ne-eqb (p .block + 1) 0 (λ z. omega arith) in
+      record { below = rw e (h .0); reads = rw (e, add-one (p .block)) (h .1) }
+
+  -- an action that the bundle has the bytes for, and the stage that it leaves
+  abbrev Still : HostStage → Type 0
+  Still g = (x : ℕ) → CursorIn b g x
+
+  abbrev Fine : (cursor : ℕ) → Action → HostStage → Type 0
+  Fine cursor action.Nothing g = Still g
+  Fine cursor (action.Information code) g = Still g
+  Fine cursor action.Notify g = Still g
+  Fine cursor (action.Offer e) g = (e < countIn b) × Still g
+  Fine cursor (action.Block p) g = (g ≡ Sending p) × (p .entry < countIn b) × (p .block < recordsAt b (p .entry)) × Stood cursor p
+
+  -- what the action sends is the step's packet, and the cursor is right
+  abbrev Same : (after : Host) → Action → InnerStep → Type 0
+  Same after a i = (i .step ≡ moved b (record { action = a; host = after })) × CursorIn b (after .stage) (i .cursor)
+
+  module _ (cursor : ℕ) (before after : Host) where
+    offer-same : (e : ℕ) → e < countIn b → Still (after .stage) → Same after (action.Offer e) (madeOf b (checkOf b) cursor before after (action.Offer e))
+    unfolding madeOf packetOf
+    offer-same e l still =
+        let t : tableEnd (e + 1) ≤ length b = omega (arith, α .table) in
+        let k : 16 ≤ ENTRY = omega arith in
+        rw (le-leb (tableEnd (e + 1)) (length b) t, α .places e l, take-take 16 ENTRY (drop (tableEnd e) b) k) (refl, still cursor)
+
+    block-by : (p : Place) → p .entry < countIn b → (r : Next)
+        → Goes b (recordStart (checkOf b) cursor p) (bodyEnd (checkOf b) p) (blockAt b p) (drop (suc (p .block)) (blocksAt b (p .entry))) r
+        → (madeBlock b (checkOf b) cursor p before after r .step ≡ moved b (record { action = action.Block p; host = after }))
+        × CursorIn b (Sending p) (madeBlock b (checkOf b) cursor p before after r .cursor)
+    unfolding packetOf
+    block-by p l next.End h = absurd h
+    block-by p l next.Bad h = absurd h
+    block-by p l (next.Record a start size past) h = (
+      ap (λ (x : List ℕ). sending x after past .step)
+          (ap₂ (λ (t : Bool) (x : Block). blockBytes (p .block) t x) (ap (eqb (p .block + 1)) (records-is (p .entry) l)) (h .0)),
+      (h .1, h .2),
+    )
+
+    made-same : (a : Action) → Fine cursor a (after .stage) → Same after a (madeOf b (checkOf b) cursor before after a)
+    unfolding madeOf packetOf
+    made-same action.Nothing f = (refl, f cursor)
+    made-same (action.Information code) f = (refl, f cursor)
+    made-same action.Notify f = (refl, f cursor)
+    made-same (action.Offer e) f = offer-same e (f .0) (f .1)
+    made-same (action.Block p) f =
+        let r = nextOf b (recordStart (checkOf b) cursor p) (bodyEnd (checkOf b) p) in
+        let g = goes b (recordStart (checkOf b) cursor p) (bodyEnd (checkOf b) p) _ _ (f .3 .below) (end-inside p (f .1))
+        (f .3 .reads ∙ ap whole (drop-cons (blocksAt b (p .entry)) (p .block) noBlock (f .2))) in
+        let w = block-by p (f .1) r g in
+        (w .0, subst (λ (g : HostStage). CursorIn b g (madeBlock b (checkOf b) cursor p before after r .cursor)) (sym (f .0)) (w .1))
+
+  -- every move from a record that N1 leaves is such an action
+  module _ (cursor : ℕ) (h : Host) (reply : List ℕ) where
+    abbrev FineMove : Move → Type 0
+    FineMove m = Fine cursor (m .action) (m .host .stage)
+
+    stops : (e : End) → FineMove (ends h e)
+    stops e = λ x. tt
+
+    offers : (e : ℕ) (g : Host) → FineMove (offerFrom (countIn b) e g)
+    offers e g = offer-cases FineMove (countIn b) e g (λ l. (l, λ x. tt)) (λ x. tt)
+
+    turn-inside : (t : Turn) → turnBreaks (countIn b) t ≡ false → t .entry < countIn b
+    turn-inside t w = leb-false (countIn b) (t .entry) (neither (leb (countIn b) (t .entry)) (ltb BUSY-LIMIT (t .busy)) w .0)
+
+    fine-by : (g : HostStage) → h .stage ≡ g → stageBreaks (countIn b) (recordsAt b) g ≡ false → CursorIn b g cursor
+        → FineMove (decideIn g (countIn b) (lastIn b g) h reply)
+    unfolding decideIn
+    fine-by Fresh z w k = λ x. tt
+    fine-by Opening z w k = opening-cases FineMove (countIn b) h reply stops (λ x. tt)
+    fine-by Listing z w k = listing-cases FineMove (countIn b) h reply stops (offers 0 h)
+    fine-by (Offering t) z w k =
+        let l = turn-inside t w in
+        offering-cases FineMove (countIn b) h reply stops t (refl, l, α .records (t .entry) l, first-stood cursor (t .entry) l)
+        (λ status. offers (t .entry + 1) (noted h status)) (λ m x. tt)
+    fine-by (Waiting t) z w k = waiting-cases FineMove (countIn b) h reply stops t (turn-inside t w, λ x. tt)
+    fine-by (Sending p) z w k =
+        let q = neither (leb (countIn b) (p .entry)) (leb (recordsAt b (p .entry)) (p .block)) w in
+        let l = leb-false (countIn b) (p .entry) (q .0) in
+        let m = leb-false (recordsAt b (p .entry)) (p .block) (q .1) in
+        sending-cases FineMove (countIn b) (isLast b p) p h reply (λ u. stops) (λ u v. offers (p .entry + 1) (completes h (p .entry)))
+        (λ u v. (refl, l, omega (arith, m, eqb-false (p .block + 1) (recordsAt b (p .entry)) v), next-stood cursor p k))
+    fine-by Closing z w k = closing-cases FineMove (countIn b) h reply stops (λ u x. tt)
+    fine-by (Ended e) z w k = λ x. subst (λ (g : HostStage). CursorIn b g x) (sym z) tt
+
+    -- so the inner step is the step
+    breaks-is : recordBreaks (checkOf b .count) (recordsOn (checkOf b)) h ≡ breaksN1 b h
+    unfolding breaksN1
+    breaks-is =
+        ap (λ (n : ℕ). recordBreaks n (recordsOn (checkOf b)) h) count-is
+        ∙ ap (λ (t : Bool). t || (ltb (countIn b) (h .passes) || (leb PACKET-LIMIT (h .packets) || leb (2 ^ countIn b) (h .mask))))
+        (stage-same (countIn b) (recordsOn (checkOf b)) (recordsAt b) records-is (h .stage))
+
+    abbrev move : Move
+    move = decideOf (countIn b) (lastIn b (h .stage)) h reply
+
+    inner-moves : breaksN1 b h ≡ false → innerOf b (checkOf b) cursor h reply ≡ madeOf b (checkOf b) cursor h (move .host) (move .action)
+    unfolding innerOf breaksN1
+    inner-moves w =
+        let e = last-same (countIn b) (recordsOn (checkOf b)) (recordsAt b) records-is (h .stage) (neither (stageBreaks (countIn b) (recordsAt b) (h .stage)) _ w .0) in
+        rw (breaks-is, w)
+        (ap (λ (m : Move). madeOf b (checkOf b) cursor h (m .host) (m .action)) (ap₂ (λ (n : ℕ) (l : Bool). decideOf n l h reply) count-is e))
+
+    step-moves : breaksN1 b h ≡ false → stepOf b h reply ≡ moved b move
+    unfolding stepOf stepOn
+    step-moves w = rw (s, w)
+
+    same : breaksN1 b h ≡ false → CursorIn b (h .stage) cursor → Same (move .host) (move .action) (innerOf b (checkOf b) cursor h reply)
+    unfolding breaksN1
+    same w k =
+        rw (inner-moves w)
+        (made-same cursor h (move .host) (move .action) (fine-by (h .stage) refl (neither (stageBreaks (countIn b) (recordsAt b) (h .stage)) _ w .0) k))
+
+-- the inner step is the step
+pub inner-is-step : InnerIsStep
+inner-is-step b h cursor reply bytes s w k =
+    let α = accepted b bytes s in
+    let q = same b α s cursor h reply w k in
+    rw (step-moves b α s cursor h reply w) q
+
+-- and so it is, cursor and all, where N1 holds
+pub inner-same : (b : List ℕ) (h : Host) (cursor : ℕ) (reply : List ℕ) → Bytes b → bundle.bundleRow b ≡ bundle.served
+    → (badStage b (h .stage) ≡ false → CursorIn b (h .stage) cursor) → innerOf b (checkOf b) cursor h reply .step ≡ stepOf b h reply
+unfolding innerOf stepOf stepOn breaksN1
+inner-same b h cursor reply bytes s k = go (breaksN1 b h) refl
+  where
+    go : (t : Bool) → breaksN1 b h ≡ t → innerOf b (checkOf b) cursor h reply .step ≡ stepOf b h reply
+    go true e = rw (breaks-is b (accepted b bytes s) s cursor h reply, s, e)
+    go false e = inner-is-step b h cursor reply bytes s e (k (neither (badStage b (h .stage)) _ e .0)) .0
+
+-- a walk past the block in hand finds the cursor
+pub cursor-found : (b : List ℕ) (p : Place) (start end cursor : ℕ) → Bytes b → bundle.bundleRow b ≡ bundle.served → badStage b (Sending p) ≡ false
+    → start ≡ listedAt (checkOf b) (p .entry) .offset → end ≡ bodyEnd (checkOf b) p
+    → ((rs : List Block) → start ≤ end → end ≤ length b → recordsOf (between b start end) ≡ whole rs → p .block + 1 ≤ length rs
+    → (cursor ≤ end) × (recordsOf (between b cursor end) ≡ whole (drop (p .block + 1) rs)))
+    → CursorIn b (Sending p) cursor
+cursor-found b p start end cursor bytes s w e d f =
+    let α = accepted b bytes s in
+    let q = neither (leb (countIn b) (p .entry)) (leb (recordsAt b (p .entry)) (p .block)) w in
+    let l = leb-false (countIn b) (p .entry) (q .0) in
+    let m = leb-false (recordsAt b (p .entry)) (p .block) (q .1) in
+    let o = first-stood b α s cursor (p .entry) l in
+    let t = rw (e, d) at f in
+    let u = t (blocksAt b (p .entry)) (o .below) (end-inside b α s p l) (o .reads) (omega arith) in (u .0, rw (← add-one (p .block)) (u .1))

@@ -1,0 +1,5 @@
+pub mod Tests
+pub mod Sets
+pub mod Pass
+pub mod Passes
+pub mod Order

@@ -1,0 +1,1 @@
+// Passes over a list of offers, as definitions and theorems: no code.

@@ -1,0 +1,54 @@
+// What the programs print lines with: words, numbers, bytes, versions. Nothing here decides anything.
+use libc::STDOUT_FILENO;
+use wire::version::Version;
+
+pub fn text(s: &[u8]) {
+    io::write_all(STDOUT_FILENO, s);
+}
+
+pub fn decimal(n: u64) {
+    io::print_decimal(STDOUT_FILENO, n);
+}
+
+pub fn hex(n: u64, digits: usize) {
+    io::print_hex(STDOUT_FILENO, n, digits);
+}
+
+pub fn byte(b: u8) {
+    hex(b as u64, 2);
+}
+
+// The bytes, a space between two.
+pub fn bytes(s: &[u8]) {
+    let mut i = 0;
+    while i < s.len() {
+        if 0 < i {
+            text(b" ");
+        }
+        byte(s[i]);
+        i += 1;
+    }
+}
+
+// Major, minor and variant, in decimal.
+pub fn version(v: Version) {
+    decimal(v.major() as u64);
+    text(b".");
+    decimal(v.minor() as u64);
+    text(b".");
+    decimal(v.variant() as u64);
+}
+
+// The first n bytes of a slice, and none where it has not so many.
+pub fn first(s: &[u8], n: usize) -> &[u8] {
+    if n <= s.len() { &s[..n] } else { &s[..0] }
+}
+
+// The n bytes of a slice from place `at`, and none where it has not so many.
+pub fn part(s: &[u8], at: usize, n: usize) -> &[u8] {
+    if at <= s.len() {
+        first(&s[at..], n)
+    } else {
+        first(s, 0)
+    }
+}

@@ -1,0 +1,134 @@
+-- The chain of seven, the mixed case and the need cycle, by computation. Assumes nothing.
+use mathlib.Core.Path.{refl}
+use Prim.Native.Nat.{ℕ, _*_, _-_, _<_}
+use native.Mathlib.Omega.{arith}
+use lib.ListN.{replicate}
+use Rattle.wire.specs.Checks.{firstOf, any, pairs}
+use Rattle.wire.proofs.Tests.{all-bytes}
+use Rattle.crc16.specs.Crc.{bitStep, bitSteps, byteStep, crcFrom, crcOf}
+use Rattle.offers.specs.Offer as offer
+use Rattle.offers.specs.Kind.{kindIn}
+use Rattle.contents.specs.Content as content
+use Rattle.records.specs.Record.{headIn}
+use Rattle.records.specs.Parse.{parse, written}
+use Rattle.image.specs.Region.{within, regionBytes, blank, put, eraseOf, writeOf}
+use Rattle.image.specs.Judge.{imageIn}
+use Rattle.component.specs.Record.{FitsComponent}
+use Rattle.component.specs.declared.record.Staged.the-variants.{Nothing}
+use Rattle.component.specs.Lists.{firstFrom, find}
+use Rattle.component.specs.Setup.{badIds, badRegions, setupVerdict}
+use Rattle.bundle.specs.Layout.{entriesFrom, entriesIn, bodyIn}
+use Rattle.bundle.specs.Rows.{firstEntry, rowB5, repeated, rowB6, gap, rowB7, rowB8, bundleRow}
+use Rattle.bundle.specs.Contents.{joined, tableBytes, bundleBytes}
+use Rattle.device.specs.Record.{FitsDevice}
+use Rattle.device.specs.Record as record-of
+use Rattle.device.specs.Refusals.{breaksD1, refusalOf}
+use Rattle.device.specs.Offer.{rejections, needUnmet, offerVerdict, onOffer, onInformation, offerEntry}
+use Rattle.device.specs.Content.{contentVerdict, takeBlock, finish, onBlock, contentEntry, contentStaging}
+use Rattle.device.specs.Entries.{serveEntry, serveStaging}
+use Rattle.host.specs.Decide.{table, act, hears, hearsBlock, decideIn}
+use Rattle.host.specs.Step.{breaksN1, packetOf, stepOn, stepOf}
+use Rattle.update.specs.Trace.{passesIn}
+use Rattle.update.specs.Run.{deliver, exchange, run, recordsFrom}
+use Rattle.update.specs.Claim.{writes, imageOf}
+use Rattle.update.specs.Demand.{Premise}
+use Rattle.update.proofs.Goodness.{bodies-good}
+use Rattle.update.proofs.Fitting.{blank-fits, all-fit, part-fits}
+use Rattle.wire.specs.Version.{versionOf}
+use Rattle.component.specs.declared.record.Staged.the-variants.{Pending}
+use Rattle.update.specs.Bench.{placed}
+use Rattle.update.specs.Cases.{at100, image16, seven, chain, mixed, tangle, ChainReaches, MixedDevice, MixedStaging, MixedRuns, CycleStops}
+
+-- a component of the cases
+at100-fits : (id : ℕ) → id < 8 → FitsComponent (at100 id)
+at100-fits id h = part-fits id 16777216 (16 * (id - 1)) 16 Nothing (omega arith) (omega arith) (omega arith) (omega arith) tt
+
+seven-fits : FitsDevice seven
+seven-fits = record {
+  platform = omega arith;
+  staging = omega arith;
+  count = omega arith;
+  slots = refl;
+  each =
+      all-fit (seven .parts) (
+        at100-fits 1 (omega arith),
+        (
+          at100-fits 2 (omega arith),
+          (
+            at100-fits 3 (omega arith),
+            (
+              at100-fits 4 (omega arith),
+              (at100-fits 5 (omega arith), (at100-fits 6 (omega arith), (at100-fits 7 (omega arith), tt))),
+            ),
+          ),
+        ),
+      );
+  stage = tt;
+  owed = tt;
+}
+
+mixed-fits : FitsDevice mixed
+mixed-fits = record {
+  platform = omega arith;
+  staging = omega arith;
+  count = omega arith;
+  slots = refl;
+  each =
+      all-fit (mixed .parts) (
+        at100-fits 1 (omega arith),
+        (
+          part-fits 2 16777216 16 16 (Pending (versionOf 1 1 0)) (omega arith) (omega arith) (omega arith) (omega arith) (omega arith),
+          (at100-fits 3 (omega arith), (at100-fits 4 (omega arith), (blank-fits, (blank-fits, (blank-fits, tt))))),
+        ),
+      );
+  stage = (omega arith, omega arith, omega arith);
+  owed = omega arith;
+}
+
+pub cycle-stops : CycleStops
+unfolding firstOf any pairs bitStep bitSteps byteStep crcFrom crcOf joined tableBytes bundleBytes written placed headIn parse entriesFrom entriesIn bodyIn firstEntry rowB5 repeated rowB6 gap rowB7 rowB8 bundleRow offer.fieldsIn kindIn content.fieldsIn content.cleared content.contentBytes within regionBytes blank put eraseOf writeOf imageIn firstFrom find badIds badRegions setupVerdict breaksD1 refusalOf rejections needUnmet offerVerdict onOffer onInformation offerEntry contentVerdict takeBlock finish onBlock contentEntry contentStaging serveEntry serveStaging table act hears hearsBlock decideIn breaksN1 packetOf stepOn stepOf deliver exchange run recordsFrom passesIn writes imageOf image16
+cycle-stops = record { done = refl; passes = refl; packets = refl }
+
+pub chain-reaches : ChainReaches
+unfolding firstOf any pairs bitStep bitSteps byteStep crcFrom crcOf joined tableBytes bundleBytes written placed headIn parse entriesFrom entriesIn bodyIn firstEntry rowB5 repeated rowB6 gap rowB7 rowB8 bundleRow offer.fieldsIn kindIn content.fieldsIn content.cleared content.contentBytes within regionBytes blank put eraseOf writeOf imageIn firstFrom find badIds badRegions setupVerdict breaksD1 refusalOf rejections needUnmet offerVerdict onOffer onInformation offerEntry contentVerdict takeBlock finish onBlock contentEntry contentStaging serveEntry serveStaging table act hears hearsBlock decideIn breaksN1 packetOf stepOn stepOf deliver exchange run recordsFrom passesIn writes imageOf image16
+chain-reaches = record {
+  premise = record {
+    small = omega arith;
+    fits = seven-fits;
+    bytes = all-bytes (replicate 112 0) refl;
+    bundle = all-bytes chain refl;
+    d1 = refl;
+    d2 = refl;
+    accepted = refl;
+    good = bodies-good chain seven refl;
+  };
+  done = refl;
+  passes = refl;
+  packets = refl;
+  figures = (refl, refl);
+}
+
+mixed-premise : Premise tangle 7 mixed (replicate 64 0)
+unfolding firstOf any pairs bitStep bitSteps byteStep crcFrom crcOf joined tableBytes bundleBytes written placed headIn parse entriesFrom entriesIn bodyIn firstEntry rowB5 repeated rowB6 gap rowB7 rowB8 bundleRow offer.fieldsIn kindIn content.fieldsIn content.cleared content.contentBytes within regionBytes blank put eraseOf writeOf imageIn firstFrom find badIds badRegions setupVerdict breaksD1 refusalOf rejections needUnmet offerVerdict onOffer onInformation offerEntry contentVerdict takeBlock finish onBlock contentEntry contentStaging serveEntry serveStaging table act hears hearsBlock decideIn breaksN1 packetOf stepOn stepOf deliver exchange run recordsFrom passesIn writes imageOf image16
+mixed-premise = record {
+  small = omega arith;
+  fits = mixed-fits;
+  bytes = all-bytes (replicate 64 0) refl;
+  bundle = all-bytes tangle refl;
+  d1 = refl;
+  d2 = refl;
+  accepted = refl;
+  good = bodies-good tangle mixed refl;
+}
+
+mixed-device : MixedDevice
+unfolding firstOf any pairs bitStep bitSteps byteStep crcFrom crcOf joined tableBytes bundleBytes written placed headIn parse entriesFrom entriesIn bodyIn firstEntry rowB5 repeated rowB6 gap rowB7 rowB8 bundleRow offer.fieldsIn kindIn content.fieldsIn content.cleared content.contentBytes within regionBytes blank put eraseOf writeOf imageIn firstFrom find badIds badRegions setupVerdict breaksD1 refusalOf rejections needUnmet offerVerdict onOffer onInformation offerEntry contentVerdict takeBlock finish onBlock contentEntry contentStaging serveEntry serveStaging table act hears hearsBlock decideIn breaksN1 packetOf stepOn stepOf deliver exchange run recordsFrom passesIn writes imageOf image16
+mixed-device = refl
+
+mixed-staging : MixedStaging
+unfolding firstOf any pairs bitStep bitSteps byteStep crcFrom crcOf joined tableBytes bundleBytes written placed headIn parse entriesFrom entriesIn bodyIn firstEntry rowB5 repeated rowB6 gap rowB7 rowB8 bundleRow offer.fieldsIn kindIn content.fieldsIn content.cleared content.contentBytes within regionBytes blank put eraseOf writeOf imageIn firstFrom find badIds badRegions setupVerdict breaksD1 refusalOf rejections needUnmet offerVerdict onOffer onInformation offerEntry contentVerdict takeBlock finish onBlock contentEntry contentStaging serveEntry serveStaging table act hears hearsBlock decideIn breaksN1 packetOf stepOn stepOf deliver exchange run recordsFrom passesIn writes imageOf image16
+mixed-staging = refl
+
+pub mixed-runs : MixedRuns
+unfolding firstOf any pairs bitStep bitSteps byteStep crcFrom crcOf joined tableBytes bundleBytes written placed headIn parse entriesFrom entriesIn bodyIn firstEntry rowB5 repeated rowB6 gap rowB7 rowB8 bundleRow offer.fieldsIn kindIn content.fieldsIn content.cleared content.contentBytes within regionBytes blank put eraseOf writeOf imageIn firstFrom find badIds badRegions setupVerdict breaksD1 refusalOf rejections needUnmet offerVerdict onOffer onInformation offerEntry contentVerdict takeBlock finish onBlock contentEntry contentStaging serveEntry serveStaging table act hears hearsBlock decideIn breaksN1 packetOf stepOn stepOf deliver exchange run recordsFrom passesIn writes imageOf image16
+mixed-runs = record { premise = mixed-premise; done = refl; says = refl; device = mixed-device; staging = mixed-staging }

@@ -1,0 +1,105 @@
+-- What the device reads in the offers and blocks of the host. Assumes nothing.
+use Prim.Native.Nat.{ℕ, _+_, _-_, _^_, _≤_, _<_}
+use mathlib.Core.Path.{_≡_, refl, ap}
+use mathlib.Core.Bool.{Bool, true, false, cond}
+use mathlib.Core.List.{List, [], _∷_, _++_}
+use native.Mathlib.Nat.{mod-lt}
+use native.Mathlib.Omega.{arith}
+use borrow.Author.Tests.{ne-eqb, le-leb, le-ltb}
+use lib.Dec.{leb, eqb}
+use lib.ListN.{length, getD, set, take, replicate, length-set}
+use lib.Seq.{take-append-seam}
+use Rattle.wire.specs.Codes.{KIND-INFORMATION, KIND-EXTENDED, FLAG-FIRST-BLOCK, FLAG-LAST-BLOCK}
+use Rattle.offers.specs.Offer.{fieldsIn}
+use Rattle.offers.specs.Kind.{offer, kindIn}
+use Rattle.offers.specs.declared.offer.OfferFields.{OfferFields}
+use Rattle.contents.specs.Content as content
+use Rattle.contents.specs.Content.{cleared}
+use Rattle.contents.specs.declared.content.ContentFields.{ContentFields}
+use Rattle.contents.proofs.content.Laws.{packet-fields}
+use Rattle.image.specs.declared.region.Region.{Region}
+use Rattle.bundle.specs.Layout.{countIn, offerIn}
+use Rattle.bundle.proofs.Accepted.{Accepted}
+use Rattle.device.specs.Content as device
+use Rattle.device.proofs.Blocks.{Fitting}
+use Rattle.host.specs.Decide.{sequenceOf}
+use Rattle.host.specs.Step.{entryAt, isLast, flagsAt, blockAt, blockPacket}
+use Rattle.host.specs.declared.record.Place.{Place}
+use Rattle.update.specs.Claim.{offerAt}
+use Rattle.update.proofs.Packets.{offerPacket, offer-packet, offer-id, flags-sound, flags-last}
+
+-- an offer with another token
+abbrev pub withToken : OfferFields → ℕ → OfferFields
+withToken o token = record {
+  segment = o .segment;
+  «force_immediate_reset» = o .«force_immediate_reset»;
+  «force_ignore_version» = o .«force_ignore_version»;
+  id = o .id;
+  token = token;
+  version = o .version;
+  need = o .need;
+  least = o .least;
+  protocol = o .protocol;
+  platform = o .platform;
+}
+
+-- byte 3 is the token, and nothing else reads it
+token-set : (l : List ℕ) (token : ℕ) → 4 ≤ length l → fieldsIn (set l 3 token) ≡ withToken (fieldsIn l) token
+unfolding fieldsIn
+token-set [] token h = absurd (omega arith)
+token-set (a ∷ []) token h = absurd (omega arith)
+token-set (a ∷ b ∷ []) token h = absurd (omega arith)
+token-set (a ∷ b ∷ c ∷ []) token h = absurd (omega arith)
+token-set (a ∷ b ∷ c ∷ d ∷ l) token h = refl
+
+-- the first flag of a block
+flags-first : (x y : Bool) → leb 128 (cond x FLAG-FIRST-BLOCK 0 + cond y FLAG-LAST-BLOCK 0) ≡ x
+flags-first true true = refl
+flags-first true false = refl
+flags-first false true = refl
+flags-first false false = refl
+
+-- the data that counts is the record's
+pub data-back : (bytes zeros : List ℕ) → take (length bytes) (cleared (length bytes) (bytes ++ zeros)) ≡ bytes
+unfolding cleared
+data-back bytes zeros = rw (take-append-seam bytes zeros) (take-append-seam bytes _)
+
+module _ (b : List ℕ) where
+  -- a block as the device reads it
+  abbrev pub contentOf : Place → ContentFields
+  contentOf p = record {
+    flags = flagsAt b p;
+    length = length (blockAt b p .bytes);
+    sequence = sequenceOf (p .block);
+    address = blockAt b p .address;
+    «data» = cleared (length (blockAt b p .bytes)) (blockAt b p .bytes ++ replicate (52 - length (blockAt b p .bytes)) 0);
+  }
+
+  -- what is read in the packet of a block
+  pub block-reads : (p : Place) → blockAt b p .address .0 < 256 ^ 4 → content.fieldsIn (blockPacket b p) ≡ contentOf p
+  block-reads p h = packet-fields _ (mod-lt (p .block) (omega arith)) h
+
+  -- it fits the session that waits for it, and a region that holds it
+  pub block-fits : (p : Place) (r : Region) → 1 ≤ length (blockAt b p .bytes) → length (blockAt b p .bytes) ≤ 52
+      → blockAt b p .address .0 + length (blockAt b p .bytes) ≤ r .len → Fitting (contentOf p) (p .block) r
+  block-fits p r some few room =
+      record {
+        shape = rw (ne-eqb (length (blockAt b p .bytes)) 0 (omega arith), le-ltb 52 (length (blockAt b p .bytes)) few, flags-sound (eqb (p .block) 0) (isLast b p));
+        first = flags-first (eqb (p .block) 0) (isLast b p);
+        sequence = refl;
+        room = le-leb (blockAt b p .address .0 + length (blockAt b p .bytes)) (r .len) room;
+      }
+
+  -- its last flag
+  pub block-is-last : (p : Place) → device.isLast (contentOf p) ≡ isLast b p
+  block-is-last p = flags-last (eqb (p .block) 0) (isLast b p)
+
+  module _ (α : Accepted b) where
+    -- the offer of an entry, with our token
+    pub offer-reads : (token e : ℕ) → token < 256 → e < countIn b → kindIn (offerPacket b α token e) ≡ offer (withToken (offerAt b e) token)
+    unfolding kindIn
+    offer-reads token e t l =
+        let q = offer-packet b α token e t l in
+        let id : getD (offerPacket b α token e) 2 0 ≤ 0xDF = omega (arith, offer-id b α token e, α .offer e l .high) in
+        rw (ne-eqb (getD (offerPacket b α token e) 2 0) KIND-INFORMATION (omega arith), ne-eqb (getD (offerPacket b α token e) 2 0) KIND-EXTENDED (omega arith))
+        (ap offer (token-set (offerIn (entryAt b e)) token (omega (arith, q .size, length-set (offerIn (entryAt b e)) 3 token))))

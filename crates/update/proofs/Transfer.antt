@@ -1,0 +1,295 @@
+-- The transmission of a body: from its first block on its way to an idle session, with the image in the region and the offered version pending. Assumes
+-- nothing.
+use Prim.Native.Nat.{ℕ, zero, suc, _+_, _^_, _≤_, _<_}
+use mathlib.Core.Path.{_≡_, refl, sym, ap, subst, _∙_}
+use mathlib.Core.Bool.{Bool, true, false}
+use mathlib.Core.List.{List, [], _∷_, _++_, append-assoc}
+use native.Mathlib.Numerals.{add-one}
+use native.Mathlib.Omega.{arith}
+use borrow.Author.Tests.{eq-eqb, ne-eqb, le-leb}
+use lib.Dec.{eqb, eqb·suc-zero}
+use lib.ListN.{length, getD, set, drop}
+use Rattle.wire.specs.Codes.{SUCCESS}
+use Rattle.wire.specs.declared.version.Version.{Version}
+use Rattle.contents.specs.Content.{fieldsIn}
+use Rattle.contents.specs.Reply.{replyBytes}
+use Rattle.records.specs.Record.{Block}
+use Rattle.image.specs.Region.{within, regionBytes, blank, put}
+use Rattle.image.specs.Judge.{isRight, imageId, imageVersion}
+use Rattle.image.specs.declared.region.Region.{Region}
+use Rattle.image.proofs.region.Within.{region-length, blank-length, put-length, within-same, within-length, within-own, within-twice}
+use Rattle.component.specs.Lists.{partAt}
+use Rattle.component.specs.Record.{withStaged}
+use Rattle.component.specs.Versions.{imageVersionFits}
+use Rattle.component.specs.declared.record.Component.{Component}
+use Rattle.bundle.specs.Layout.{countIn}
+use Rattle.bundle.proofs.Accepted.{Accepted, Carried}
+use Rattle.device.specs.Content.{takeBlock}
+use Rattle.device.specs.Entries.{serveStaging}
+use Rattle.device.specs.Record.{idleWith}
+use Rattle.device.specs.Refusals.{breaksD1}
+use Rattle.device.specs.declared.record.Device.{Device}
+use Rattle.device.specs.declared.record.Owed.the-variants as owed
+use Rattle.device.proofs.Calls.{Sound, Answered, answers-block}
+use Rattle.device.proofs.Blocks.{held, awaits, groundOf, Fitting, puts, block-staging, block-next, block-last}
+use Rattle.host.specs.Decide.{sequenceOf, goesOn, decideOf}
+use Rattle.host.specs.Record.{withBit}
+use Rattle.host.specs.Step.{entryAt, blocksAt, isLast, noBlock, blockAt, blockPacket, moved, packetOf}
+use Rattle.host.specs.declared.record.HostStage.the-variants.{Sending}
+use Rattle.host.specs.declared.record.Place.{Place}
+use Rattle.host.specs.declared.answer.Move.{Move}
+use Rattle.host.proofs.Heard.{hears-taken}
+use Rattle.update.specs.Trace.{Exchange}
+use Rattle.update.specs.Run.{System, channelOf, answerTo, flight}
+use Rattle.update.specs.Claim.{writes, imageOf, Inside}
+use Rattle.update.proofs.Leads.{said, Goes, Leads, leads-none, leads-step, turn}
+use Rattle.update.proofs.Packets.{block-length}
+use Rattle.update.proofs.Sent.{contentOf, block-reads, block-fits, block-is-last, data-back}
+use Rattle.update.proofs.Turns.{hostAs, turning, turnPacket, turnStage, turn-sent, turn-host, turn-answered}
+
+-- what a list says of its rest
+drop-length : (l : List Block) (k : ℕ) (x : Block) (xs : List Block) → drop k l ≡ x ∷ xs → length l ≡ k + suc (length xs)
+drop-length [] zero x xs e = omega (arith, ap length e)
+drop-length [] (suc k) x xs e = omega (arith, ap length e)
+drop-length (a ∷ l) zero x xs e = omega (arith, ap length e)
+drop-length (a ∷ l) (suc k) x xs e = omega (arith, drop-length l k x xs e)
+
+-- its first member is the one at that place
+drop-get : (l : List Block) (k : ℕ) (x : Block) (xs : List Block) → drop k l ≡ x ∷ xs → getD l k noBlock ≡ x
+drop-get [] zero x xs e = cc
+drop-get [] (suc k) x xs e = cc
+drop-get (a ∷ l) zero x xs e = cc
+drop-get (a ∷ l) (suc k) x xs e = drop-get l k x xs e
+
+-- the rest starts one place on
+drop-rest : (l : List Block) (k : ℕ) (x : Block) (xs : List Block) → drop k l ≡ x ∷ xs → drop (suc k) l ≡ xs
+drop-rest [] zero x xs e = cc
+drop-rest [] (suc k) x xs e = cc
+drop-rest (a ∷ l) zero x xs e = cc
+drop-rest (a ∷ l) (suc k) x xs e = drop-rest l k x xs e
+
+module _ (b : List ℕ) (α : Accepted b) (t : ℕ) (small : t < 256) (d : Device) (ps : List Component) (slot e : ℕ) (l : e < countIn b) where
+  -- the region of the slot
+  abbrev r : Region
+  r = partAt ps slot .region
+
+  -- block k of the body
+  abbrev pub spot : ℕ → Place
+  spot k = record { entry = e; block = k }
+
+  -- the buffer after block k, if it is x
+  abbrev next : (k : ℕ) → Block → List ℕ → List ℕ
+  next k x s = within (r .base .0) (r .len) (λ (o : List ℕ). put (x .address .0) (x .bytes) (groundOf k (r .len) o)) s
+
+  -- block k is taken
+  abbrev taken : ℕ → List ℕ
+  taken k = replyBytes (record { sequence = sequenceOf k; status = SUCCESS })
+
+  -- j blocks from number k on, each taken
+  unfoldable pub contents : (k j : ℕ) → List Exchange
+  contents k zero = []
+  contents k (suc j) = said (blockPacket b (spot k)) (taken k) ∷ contents (suc k) j
+
+  -- as many exchanges as blocks
+  pub contents-length : (k j : ℕ) → length (contents k j) ≡ j
+  unfolding contents
+  contents-length k zero = refl
+  contents-length k (suc j) = ap suc (contents-length (suc k) j)
+
+  -- what is known of the slot: its region is one of the buffer, and D1 lets the session pass
+  pub record Opens : Type 0 where
+    pub len : partAt ps slot .region .len < 256 ^ 4
+    pub room : partAt ps slot .region .base .0 + partAt ps slot .region .len ≤ d .«staging_len»
+    pub d1 : (k : ℕ) → breaksD1 (held d ps (awaits slot t k)) ≡ false
+
+  module _ (o : Opens) (m q : ℕ) (sk la : Bool) where
+    -- block k is on its way
+    abbrev pub blocking : (k packets : ℕ) → (s : List ℕ) → List Exchange → System
+    blocking k p s trace = flight (blockPacket b (spot k)) (hostAs t (Sending (spot k)) m p q sk la) (held d ps (awaits slot t k)) s trace
+
+    module _ (k : ℕ) (i : k < length (blocksAt b e)) (s : List ℕ) (d2 : length s ≡ d .«staging_len») where
+      -- D1 and D2 let the block pass
+      sound : Sound (held d ps (awaits slot t k)) s
+      sound = record { d1 = o .d1 k; d2 = d2 }
+
+      -- it is 60 bytes long
+      size : length (blockPacket b (spot k)) ≡ 60
+      size = block-length b α (spot k) l i
+
+      -- a block goes to the content entry, and is answered
+      pub block-answered : Answered (answerTo (blockPacket b (spot k)) (held d ps (awaits slot t k)) s)
+      block-answered = rw (eq-60 size) (answers-block (held d ps (awaits slot t k)) s (blockPacket b (spot k)) sound refl size)
+        where
+          eq-60 : length (blockPacket b (spot k)) ≡ 60 → eqb (length (blockPacket b (spot k))) 16 ≡ false
+          eq-60 z = ne-eqb (length (blockPacket b (spot k))) 16 (λ w. omega arith)
+
+      module _ (inside : blockAt b (spot k) .address .0 + length (blockAt b (spot k) .bytes) ≤ r .len) (s′ : List ℕ)
+          (becomes : next k (blockAt b (spot k)) s ≡ s′) where
+        -- its record has 1 to 52 bytes
+        carried : Carried (blockAt b (spot k))
+        carried = α .carries (entryAt b e) .each k noBlock i
+
+        -- it fits the session and the region
+        fits : Fitting (contentOf b (spot k)) k r
+        fits = block-fits b (spot k) r (carried .some) (carried .few) inside
+
+        -- it is read as it was built
+        reads : fieldsIn (blockPacket b (spot k)) ≡ contentOf b (spot k)
+        reads = block-reads b (spot k) (omega (arith, o .len))
+
+        -- its data is put into the region
+        puts-it : takeBlock (held d ps (awaits slot t k)) slot (contentOf b (spot k)) s ≡ s′
+        puts-it =
+            puts d ps slot t (contentOf b (spot k)) k (awaits slot t k) s (blockAt b (spot k) .bytes) fits
+            (le-leb (r .base .0 + r .len) (length s) (omega (arith, o .room))) (data-back (blockAt b (spot k) .bytes) _) refl
+            ∙ becomes
+
+        -- so the buffer is s′ afterwards
+        staging-is : serveStaging (held d ps (awaits slot t k)) (channelOf (blockPacket b (spot k))) s (blockPacket b (spot k)) ≡ s′
+        staging-is =
+            rw (ne-eqb (length (blockPacket b (spot k))) 16 (λ w. omega (arith, size)))
+            (block-staging d ps slot t (contentOf b (spot k)) s (blockPacket b (spot k)) size reads k fits sound ∙ puts-it)
+
+        -- the answer to a block
+        heard-by : (p : ℕ) (x : Bool) → isLast b (spot k) ≡ x
+            → decideOf (countIn b) (isLast b (spot k)) (hostAs t (Sending (spot k)) m p q sk la) (taken k)
+            ≡ goesOn (countIn b) x (spot k) (hostAs t (Sending (spot k)) m p q sk la)
+        heard-by p x z =
+            hears-taken (countIn b) (isLast b (spot k)) (hostAs t (Sending (spot k)) m p q sk la) (spot k)
+            ∙ ap (λ (y : Bool). goesOn (countIn b) y (spot k) (hostAs t (Sending (spot k)) m p q sk la)) z
+
+        -- a block that is not the last
+        x-mid : (p : ℕ) (trace : List Exchange) → isLast b (spot k) ≡ false
+            → Answered (answerTo (blockPacket b (spot (suc k))) (held d ps (awaits slot t (suc k))) s′)
+            → Goes b (blocking k p s trace)
+            (flight (blockPacket b (spot (suc k))) (hostAs t (Sending (spot (suc k))) m (p + 1) q sk la) (held d ps (awaits slot t (suc k))) s′ (trace ++ (said (blockPacket b (spot k)) (taken k) ∷ [])))
+        unfolding packetOf
+        x-mid p trace z f =
+            turn b (blockPacket b (spot k)) (blockPacket b (spot (suc k))) (hostAs t (Sending (spot k)) m p q sk la) (hostAs t (Sending (spot (suc k))) m (p + 1) q sk la)
+            (held d ps (awaits slot t k)) (held d ps (awaits slot t (suc k))) s s′ (taken k) trace
+            (rw (ne-eqb (length (blockPacket b (spot k))) 16 (λ w. omega (arith, size)))
+            (block-next d ps slot t (contentOf b (spot k)) s (blockPacket b (spot k)) size reads k fits sound (block-is-last b (spot k) ∙ z)))
+            staging-is
+            (ap (λ (x : Move). moved b x .sent) (heard-by p false z) ∙ ap (λ (n : ℕ). blockPacket b (spot n) ∷ []) (add-one k))
+            (ap (λ (x : Move). x .host) (heard-by p false z) ∙ ap (λ (n : ℕ). hostAs t (Sending (spot n)) m (p + 1) q sk la) (add-one k))
+            f
+
+        -- the last block of a right image
+        x-last : (p : ℕ) (trace : List Exchange) (img : List ℕ) (v : Version) → isLast b (spot k) ≡ true → regionBytes r s′ ≡ img → isRight img ≡ true
+            → imageId img ≡ partAt ps slot .id → imageVersion img ≡ v → imageVersionFits (partAt ps slot) v ≡ true
+            → Sound (idleWith d (set ps slot (withStaged (partAt ps slot) v))) s′
+            → Goes b (blocking k p s trace)
+            (turning b α t small d (suc e) (withBit m e) (p + 1) q sk true (set ps slot (withStaged (partAt ps slot) v)) s′ (trace ++ (said (blockPacket b (spot k)) (taken k) ∷ [])))
+        x-last p trace img v z w right id version new sound′ =
+            turn b (blockPacket b (spot k)) (turnPacket b α t small (suc e)) (hostAs t (Sending (spot k)) m p q sk la)
+            (hostAs t (turnStage b α t small (suc e)) (withBit m e) (p + 1) q sk true)
+            (held d ps (awaits slot t k)) (idleWith d (set ps slot (withStaged (partAt ps slot) v))) s s′ (taken k) trace
+            (rw (ne-eqb (length (blockPacket b (spot k))) 16 (λ y. omega (arith, size)))
+            (block-last d ps slot t (contentOf b (spot k)) s (blockPacket b (spot k)) size reads k fits sound img v (block-is-last b (spot k) ∙ z) (ap (regionBytes r) puts-it ∙ w) right id version new))
+            staging-is
+            (ap (λ (x : Move). moved b x .sent) (heard-by p true z) ∙ turn-sent b α t small (e + 1) (Sending (spot k)) (withBit m e) p q sk true
+            ∙ ap (λ (n : ℕ). turnPacket b α t small n ∷ []) (add-one e))
+            (ap (λ (x : Move). x .host) (heard-by p true z) ∙ turn-host b α t small (e + 1) (Sending (spot k)) (withBit m e) p q sk true
+            ∙ ap (λ (n : ℕ). hostAs t (turnStage b α t small n) (withBit m e) (p + 1) q sk true) (add-one e))
+            (turn-answered b α t small (suc e) (idleWith d (set ps slot (withStaged (partAt ps slot) v))) s′ sound′)
+
+    -- the region before a block, and after it
+    ground-length : (k : ℕ) (s : List ℕ) → length s ≡ d .«staging_len» → length (groundOf k (r .len) (regionBytes r s)) ≡ r .len
+    ground-length zero s d2 = blank-length (r .len)
+    ground-length (suc k) s d2 = rw (eqb·suc-zero k) (region-length r s (omega (arith, o .room)))
+
+    -- a block leaves the region its length
+    kept : (k : ℕ) (x : Block) (s : List ℕ) → length s ≡ d .«staging_len» → x .address .0 + length (x .bytes) ≤ r .len
+        → length (put (x .address .0) (x .bytes) (groundOf k (r .len) (regionBytes r s))) ≡ r .len
+    kept k x s d2 inside =
+        let g = ground-length k s d2 in
+        put-length (x .address .0) (x .bytes) (groundOf k (r .len) (regionBytes r s)) (omega arith) ∙ g
+
+    -- a right image for the slot, which leaves a device that D1 lets pass
+    pub record Right (img : List ℕ) (v : Version) : Type 0 where
+      pub size : length img ≡ partAt ps slot .region .len
+      pub crc : isRight img ≡ true
+      pub id : imageId img ≡ partAt ps slot .id
+      pub version : imageVersion img ≡ v
+      pub new : imageVersionFits (partAt ps slot) v ≡ true
+      pub d1 : breaksD1 (idleWith d (set ps slot (withStaged (partAt ps slot) v))) ≡ false
+
+    module _ (img : List ℕ) (v : Version) (right : Right img v) where
+      -- the session is over, with the image in the region
+      abbrev done : (packets : ℕ) → (s : List ℕ) → List Exchange → System
+      done p s trace =
+          turning b α t small d (suc e) (withBit m e) p q sk true (set ps slot (withStaged (partAt ps slot) v))
+          (within (r .base .0) (r .len) (λ (old : List ℕ). img) s) trace
+
+      -- the last block
+      last-one : (x : Block) (k p p′ : ℕ) (s : List ℕ) (trace : List Exchange) → drop k (blocksAt b e) ≡ x ∷ [] → x .address .0 + length (x .bytes) ≤ r .len
+          → length s ≡ d .«staging_len» → put (x .address .0) (x .bytes) (groundOf k (r .len) (regionBytes r s)) ≡ img → p + 1 ≡ p′
+          → Leads b (blocking k p s trace) (done p′ s (trace ++ (said (blockPacket b (spot k)) (taken k) ∷ [])))
+      last-one x k p p′ s trace z inside d2 w c =
+          let y = drop-get (blocksAt b e) k x [] z in
+          let n = drop-length (blocksAt b e) k x [] z in
+          let f : List ℕ → List ℕ = λ (old : List ℕ). put (x .address .0) (x .bytes) (groundOf k (r .len) old) in
+          let room : r .base .0 + r .len ≤ length s = omega (arith, o .room) in
+          let s′ : List ℕ = within (r .base .0) (r .len) (λ (old : List ℕ). img) s in
+          subst (λ (i : ℕ). Leads b (blocking k p s trace) (done i s (trace ++ (said (blockPacket b (spot k)) (taken k) ∷ [])))) c
+          (leads-step b
+          (x-last k (omega arith) s d2 (rw y inside) s′ (ap (λ (u : Block). next k u s) y ∙ within-same r f (λ (old : List ℕ). img) s w)
+          p trace img v (eq-eqb (k + 1) (length (blocksAt b e)) (omega arith)) (within-own r (λ (old : List ℕ). img) s room (right .size))
+          (right .crc) (right .id) (right .version) (right .new)
+          (record { d1 = right .d1; d2 = within-length r (λ (old : List ℕ). img) s room (right .size) ∙ d2 }))
+          (leads-none b _))
+
+      -- a block with others after it
+      one-more : (x : Block) (k p p′ j : ℕ) (s : List ℕ) (trace : List Exchange) → suc k < length (blocksAt b e) → getD (blocksAt b e) k noBlock ≡ x
+          → x .address .0 + length (x .bytes) ≤ r .len → length s ≡ d .«staging_len»
+          → Leads b (blocking (suc k) (p + 1) (next k x s) (trace ++ (said (blockPacket b (spot k)) (taken k) ∷ [])))
+          (done p′ (next k x s) ((trace ++ (said (blockPacket b (spot k)) (taken k) ∷ [])) ++ contents (suc k) j))
+          → Leads b (blocking k p s trace) (done p′ s (trace ++ contents k (suc j)))
+      unfolding contents
+      one-more x k p p′ j s trace more y inside d2 rest =
+          let f : List ℕ → List ℕ = λ (old : List ℕ). put (x .address .0) (x .bytes) (groundOf k (r .len) old) in
+          let room : r .base .0 + r .len ≤ length s = omega (arith, o .room) in
+          let now = kept k x s d2 inside in
+          let d2′ : length (next k x s) ≡ d .«staging_len» = within-length r f s room now ∙ d2 in
+          leads-step b
+          (x-mid k (omega arith) s d2 (rw y inside) (next k x s) (ap (λ (u : Block). next k u s) y)
+          p trace (ne-eqb (k + 1) (length (blocksAt b e)) (λ u. omega arith)) (block-answered (suc k) more (next k x s) d2′))
+          (subst (λ (u : List ℕ). Leads b (blocking (suc k) (p + 1) (next k x s) (trace ++ (said (blockPacket b (spot k)) (taken k) ∷ []))) (turning b α t small d (suc e) (withBit m e) p′ q sk true (set ps slot (withStaged (partAt ps slot) v)) u (trace ++ (said (blockPacket b (spot k)) (taken k) ∷ contents (suc k) j))))
+          (within-twice r f s room now (λ (old : List ℕ). img))
+          (subst (λ (u : List Exchange). Leads b (blocking (suc k) (p + 1) (next k x s) (trace ++ (said (blockPacket b (spot k)) (taken k) ∷ []))) (done p′ (next k x s) u))
+          (append-assoc trace (said (blockPacket b (spot k)) (taken k) ∷ []) (contents (suc k) j)) rest))
+
+      -- the region that the next block finds
+      found-next : (x : Block) (xs : List Block) (k : ℕ) (s : List ℕ) → x .address .0 + length (x .bytes) ≤ r .len → length s ≡ d .«staging_len»
+          → writes (put (x .address .0) (x .bytes) (groundOf k (r .len) (regionBytes r s))) xs ≡ img
+          → (length (next k x s) ≡ d .«staging_len») × (writes (groundOf (suc k) (r .len) (regionBytes r (next k x s))) xs ≡ img)
+      found-next x xs k s inside d2 w =
+          let f : List ℕ → List ℕ = λ (old : List ℕ). put (x .address .0) (x .bytes) (groundOf k (r .len) old) in
+          let room : r .base .0 + r .len ≤ length s = omega (arith, o .room) in
+          let now = kept k x s d2 inside in
+          (within-length r f s room now ∙ d2, rw (eqb·suc-zero k, within-own r f s room now) w)
+
+      -- the blocks from number k on
+      transfer : (x : Block) (xs : List Block) (k p p′ : ℕ) (s : List ℕ) (trace : List Exchange) → drop k (blocksAt b e) ≡ x ∷ xs → Inside (r .len) (x ∷ xs)
+          → length s ≡ d .«staging_len» → writes (groundOf k (r .len) (regionBytes r s)) (x ∷ xs) ≡ img → p + suc (length xs) ≡ p′
+          → Leads b (blocking k p s trace) (done p′ s (trace ++ contents k (suc (length xs))))
+      unfolding writes contents
+      transfer x [] k p p′ s trace z inside d2 w c = last-one x k p p′ s trace z (inside .0) d2 w c
+      transfer x (x′ ∷ xs) k p p′ s trace z inside d2 w c =
+          let g = found-next x (x′ ∷ xs) k s (inside .0) d2 w in
+          one-more x k p p′ (suc (length xs)) s trace (omega (arith, drop-length (blocksAt b e) k x (x′ ∷ xs) z)) (drop-get (blocksAt b e) k x (x′ ∷ xs) z) (inside .0) d2
+          (transfer x′ xs (suc k) (p + 1) p′ (next k x s) (trace ++ (said (blockPacket b (spot k)) (taken k) ∷ [])) (drop-rest (blocksAt b e) k x (x′ ∷ xs) z) (inside .1) (g .0) (g .1) (omega arith))
+
+      -- L5: a body, from its first block on its way: the image is in the region, and all else of the buffer is as it was
+      pub transmits : (p p′ : ℕ) (s : List ℕ) (trace : List Exchange) → 1 ≤ length (blocksAt b e) → Inside (partAt ps slot .region .len) (blocksAt b e)
+          → length s ≡ d .«staging_len» → imageOf (partAt ps slot .region .len) (blocksAt b e) ≡ img → p + length (blocksAt b e) ≡ p′
+          → Leads b (blocking 0 p s trace) (done p′ s (trace ++ contents 0 (length (blocksAt b e))))
+      unfolding imageOf
+      transmits p p′ s trace some inside d2 w c = go (blocksAt b e) refl inside w c
+        where
+          go : (xs : List Block) → blocksAt b e ≡ xs → Inside (r .len) xs → writes (blank (r .len)) xs ≡ img → p + length xs ≡ p′
+              → Leads b (blocking 0 p s trace) (done p′ s (trace ++ contents 0 (length (blocksAt b e))))
+          go [] z i u n = absurd (omega (arith, ap length z))
+          go (x ∷ xs) z i u n =
+              subst (λ (j : ℕ). Leads b (blocking 0 p s trace) (done p′ s (trace ++ contents 0 j))) (sym (ap length z))
+              (transfer x xs 0 p p′ s trace z i d2 u n)

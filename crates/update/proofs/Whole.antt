@@ -1,0 +1,238 @@
+-- The whole run: all of demand 3 but the order of the offers. Assumes nothing.
+use Prim.Native.Nat.{ℕ, zero, suc, _+_, _*_, _-_, _≤_, _<_}
+use mathlib.Core.Path.{_≡_, sym, ap, subst, _∙_}
+use mathlib.Core.Logic.{inl, inr}
+use mathlib.Core.Bool.{Bool, true, not, _&&_}
+use mathlib.Core.List.{List, []}
+use native.Mathlib.Nat.{add-comm}
+use native.Mathlib.Decide.{decLt}
+use native.Mathlib.Omega.{arith}
+use lib.Dec.{T, T-not, not-T, eqb, eqb→eq, eqb-refl}
+use lib.ListN.{length, getD, drop, drop-of-length-le}
+use lib.Seq.{drop-cons}
+use Rattle.passes.specs.Sets.{Set, from, some, weight, all}
+use Rattle.passes.specs.Passes as passes
+use Rattle.passes.specs.Passes.{Reached, Monotone, passesOf}
+use Rattle.passes.proofs.Tests.{or-inl, or-inr, or-cases, both, and-l, and-r}
+use Rattle.passes.proofs.Sets.{length-from, some-out, some-in}
+use Rattle.passes.proofs.Passes.{passes-reach, need-monotone}
+use Rattle.bundle.specs.Layout.{countIn, entriesIn}
+use Rattle.bundle.specs.Contents.{blocksIn}
+use Rattle.bundle.proofs.Accepted.{accepted}
+use Rattle.device.specs.Record.{toIdle}
+use Rattle.device.specs.declared.record.Device.{Device}
+use Rattle.host.specs.Record.{hasEnded}
+use Rattle.host.specs.Step as hostStep
+use Rattle.host.specs.Step.{Step, stepOf}
+use Rattle.host.specs.declared.record.HostStage.the-variants.{Ended}
+use Rattle.host.specs.declared.record.End.the-variants.{Done}
+use Rattle.update.specs.Trace.{passesIn}
+use Rattle.update.specs.Run.{System, run, start, recordsFrom, recordsIn, boundOf, lastOf}
+use Rattle.update.specs.Ends.{Counted}
+use Rattle.update.specs.Claim.{offerAt, isMet, feeds, Closed, Within, Smallest, Leaves, Fills}
+use Rattle.update.specs.Demand.{Premise, stagedIn, Turn}
+use Rattle.update.proofs.Leads.{Fine, steps}
+use Rattle.update.proofs.Landed.{offers, numbered, below-count}
+use Rattle.update.proofs.Filled.{fine-setup}
+use Rattle.update.proofs.Pass.{Given}
+use Rattle.update.proofs.Rounds.{Comes, comes-whole}
+use Rattle.update.proofs.Talks.{run-then, ended-sends, ended-stays, step-is, run-goes, ended-within, run-counts}
+
+-- the records of all bodies, by the numbers of the entries
+records-from : (b : List ℕ) (l : List (List ℕ)) (m k : ℕ) → k + m ≡ length l
+    → recordsFrom b (drop k l) ≡ weight (λ i. length (blocksIn b (getD l i []))) all (from k m)
+unfolding recordsFrom
+records-from b l zero k e = ap (recordsFrom b) (drop-of-length-le l {i = k} (omega arith))
+records-from b l (suc m) k e =
+    ap (recordsFrom b) (drop-cons l k [] (omega arith)) ∙ ap (λ (n : ℕ). length (blocksIn b (getD l k [])) + n) (records-from b l m (suc k) (omega arith))
+
+-- a premise, as the proofs use it
+given : (b : List ℕ) (token : ℕ) (d : Device) (staging : List ℕ) → Premise b token d staging → Given b token d staging
+given b token d staging P =
+    record {
+      small = P .small;
+      accepted = accepted b (P .bundle) (P .accepted);
+      slots = P .fits .slots;
+      fine = fine-setup d (P .d1);
+      d1 = P .d1;
+      d2 = P .d2;
+      len = λ k. P .fits .each k .region .len;
+      good = P .good;
+    }
+
+-- demand 3, but for the order
+pub record Core (b : List ℕ) (token : ℕ) (d : Device) (staging reply : List ℕ) (s : System) : Type 0 where
+  pub done : s .host .stage ≡ Ended Done
+  pub stays : (m : ℕ) → run b m s ≡ s
+  pub served : (m : ℕ) → Turn b (run b m (start token d staging reply))
+  pub passes : passesIn (s .trace) ≤ countIn b
+  pub packets : length (s .trace) ≤ 1 + countIn b * (countIn b + 2) + recordsIn b
+  pub counts : Counted b (s .host) (s .trace)
+  pub smallest : Smallest d b (stagedIn b s)
+  pub device : Leaves d b (stagedIn b s) (s .device)
+  pub bytes : Fills d b (stagedIn b s) staging (s .staging)
+
+module _ (b : List ℕ) (token : ℕ) (d : Device) (staging reply : List ℕ) (P : Premise b token d staging) where
+  -- the premise
+  abbrev G : Given b token d staging
+  G = given b token d staging P
+
+  -- the offers, as the passes see them
+  abbrev y : passes.Offers
+  y = offers b (G .accepted) d
+
+  -- their numbers
+  abbrev os : List ℕ
+  os = from 0 (countIn b)
+
+  -- a member of X meets the need of offer i
+  abbrev fed : Set → (i j : ℕ) → Bool
+  fed X i j = X j && (not (eqb j i) && feeds (offerAt b j) (offerAt b i))
+
+  -- a need that is met stays met
+  monotone : Monotone y
+  monotone = need-monotone (λ i. isMet (toIdle d) (offerAt b i)) (λ j i. feeds (offerAt b j) (offerAt b i)) os (y .eligible) (y .records)
+
+  -- what the passes come to
+  reached : Reached y os
+  reached = passes-reach y os monotone
+
+  -- what the run comes to
+  c : Comes b token d staging G (start token d staging reply) (passesOf y os)
+  c = comes-whole b token d staging G reply
+
+  -- the run comes to the system in which the passes end
+  ends : run b (c .leads .turns) (start token d staging reply) ≡ c .last
+  ends = run-goes b token d staging reply (P .bundle) (P .accepted) (P .small) (c .leads .turns) ∙ c .leads .comes
+
+  -- there the host has ended
+  over : hasEnded (c .last .host .stage) ≡ true
+  over = ap hasEnded (c .done)
+
+  -- and is still there at the bound
+  last-is : lastOf b token d staging reply ≡ c .last
+  last-is =
+      sym (ended-stays b n (at-bound) (ended-within b token d staging reply (P .bundle) (P .accepted) (P .small)))
+      ∙ sym (run-then b (boundOf b) n (start token d staging reply))
+      ∙ ap (λ (k : ℕ). run b k (start token d staging reply)) (add-comm (boundOf b) n)
+      ∙ run-then b n (boundOf b) (start token d staging reply) ∙ ap (run b (boundOf b)) ends ∙ ended-stays b (boundOf b) (c .last) over
+    where
+      n : ℕ
+      n = c .leads .turns
+
+      at-bound : System
+      at-bound = run b (boundOf b) (start token d staging reply)
+
+  -- every turn is served, with exactly one reply to what is sent
+  turn-is : (m : ℕ) → Turn b (run b m (start token d staging reply))
+  turn-is m =
+      record {
+        host = ap (λ (x : Step). x .row) is;
+        device = λ p z. fine (decLt m (c .leads .turns)) p (ap (λ (x : Step). x .sent) (sym is) ∙ z);
+      }
+    where
+      is : stepOf b (run b m (start token d staging reply) .host) (run b m (start token d staging reply) .reply)
+          ≡ steps b (run b m (start token d staging reply) .host) (run b m (start token d staging reply) .reply)
+      is = step-is b token d staging reply (P .bundle) (P .accepted) (P .small) m
+
+      fine : Dec (m < c .leads .turns) → Fine b (run b m (start token d staging reply))
+      fine (yes l) = subst (Fine b) (sym (run-goes b token d staging reply (P .bundle) (P .accepted) (P .small) m)) (c .leads .fine m l)
+      fine (no l) =
+          let k = m - c .leads .turns in
+          let e : c .leads .turns + k ≡ m = omega arith in
+          let at : run b m (start token d staging reply) ≡ c .last
+          = ap (λ (i : ℕ). run b i (start token d staging reply)) (sym e) ∙ run-then b (c .leads .turns) k (start token d staging reply)
+          ∙ ap (run b k) ends ∙ ended-stays b k (c .last) over in
+          subst (Fine b) (sym at) (λ p z. let x = ended-sends b (c .last) over in let w : _≡_ {A = ℕ} 0 1 = cc in absurd (omega arith))
+
+  -- its counts are those of the list
+  counted : Counted b (c .last .host) (c .last .trace)
+  counted =
+      subst (λ (x : System). Counted b (x .host) (x .trace)) ends
+      (run-counts b token d staging reply (P .bundle) (P .accepted) (P .small) (c .leads .turns) (subst (λ (x : System). hasEnded (x .host .stage) ≡ true) (sym ends) over))
+
+  -- what the passes reached is what the list shows
+  is-staged : (i : ℕ) → i < countIn b → stagedIn b (c .last) i ≡ passesOf y os .set i
+  is-staged i l = sym (counted .bits i l) ∙ c .landed .bits i
+
+  -- a member by the list is one by the passes
+  to-set : (i : ℕ) → i < countIn b → T (stagedIn b (c .last) i) → T (passesOf y os .set i)
+  to-set i l t = subst T (is-staged i l) t
+
+  -- and the other way round
+  from-set : (i : ℕ) → i < countIn b → T (passesOf y os .set i) → T (stagedIn b (c .last) i)
+  from-set i l t = subst T (sym (is-staged i l)) t
+
+  -- it is the smallest closed set
+  smallest : Smallest d b (stagedIn b (c .last))
+  smallest = record { closed = closed; least = least }
+    where
+      closed : Closed d b (stagedIn b (c .last))
+      closed i l e (inl m) =
+          from-set i l (reached .closed i (numbered b i l) e (or-inl (isMet (toIdle d) (offerAt b i)) (some os (fed (passesOf y os .set) i)) m))
+      closed i l e (inr f) =
+          from-set i l (reached .closed i (numbered b i l) e
+          (or-inr (isMet (toIdle d) (offerAt b i)) (some os (fed (passesOf y os .set) i))
+          (some-in os (fed (passesOf y os .set) i) (f .by) (numbered b (f .by) (f .listed))
+          (both (passesOf y os .set (f .by)) _ (to-set (f .by) (f .listed) (f .member))
+          (both (not (eqb (f .by) i)) _ (not-T (eqb (f .by) i) (λ z. f .other (eqb→eq (f .by) i z))) (f .meets))))))
+
+      least : (Y : Set) → Closed d b Y → Within b (stagedIn b (c .last)) Y
+      least Y cl i l t = reached .least Y inside i (to-set i l t)
+        where
+          inside : passes.Closed y os Y
+          inside j m e n =
+              or-cases (isMet (toIdle d) (offerAt b j)) (some os (fed Y j))
+              (λ z. cl j (below-count b j m) e (inl z))
+              (λ z. let x = some-out os (fed Y j) z in
+              let w = and-r (Y (x .j)) (not (eqb (x .j) j) && feeds (offerAt b (x .j)) (offerAt b j)) (x .has) in
+              cl j (below-count b j m) e (inr (record {
+                by = x .j;
+                listed = below-count b (x .j) (x .listed);
+                other = λ q. T-not (eqb (x .j) j) (and-l (not (eqb (x .j) j)) (feeds (offerAt b (x .j)) (offerAt b j)) w) (subst (λ (k : ℕ). T (eqb (x .j) k)) q (eqb-refl (x .j)));
+                member = and-l (Y (x .j)) _ (x .has);
+                meets = and-r (not (eqb (x .j) j)) (feeds (offerAt b (x .j)) (offerAt b j)) w;
+              }))) n
+
+  -- it decides the device
+  leaves : Leaves d b (stagedIn b (c .last)) (c .last .device)
+  leaves =
+      record {
+        same = c .device;
+        slots = c .landed .parts .slots;
+        members = λ i k l t f. c .landed .parts .members i k l (to-set i l t) f;
+        others = λ k h. c .landed .parts .others k (λ i l t. h i l (from-set i l t));
+      }
+
+  -- it decides the staging buffer
+  fills : Fills d b (stagedIn b (c .last)) staging (c .last .staging)
+  fills =
+      record {
+        long = c .landed .bytes .long;
+        images = λ i k l t f. c .landed .bytes .images i k l (to-set i l t) f;
+        rest = λ j u. c .landed .bytes .rest j (λ i k l t. u i k l (from-set i l t));
+      }
+
+  -- the passes are few
+  few : passesIn (c .last .trace) ≤ countIn b
+  few = omega (arith, counted .passes, c .passes, reached .few, length-from 0 (countIn b))
+
+  -- the packets are few
+  bounded : length (c .last .trace) ≤ 1 + countIn b * (countIn b + 2) + recordsIn b
+  bounded = omega (arith, c .count, rw (length-from 0 (countIn b)) at (reached .bound), records-from b (entriesIn b) (countIn b) 0 (omega (arith, G .accepted .entries)))
+
+  -- all of it, of the run until the host ends
+  pub core : Core b token d staging reply (lastOf b token d staging reply)
+  core =
+      subst (Core b token d staging reply) (sym last-is)
+      (record {
+        done = c .done;
+        stays = λ m. ended-stays b m (c .last) over;
+        served = turn-is;
+        passes = few;
+        packets = bounded;
+        counts = counted;
+        smallest = smallest;
+        device = leaves;
+        bytes = fills;
+      })

@@ -1,0 +1,118 @@
+-- Two more runs that meet demand 3's premise: a chain of seven needs, which reaches both bounds, and one with an open session that owes a READY, a
+-- component pending at the start, a need cycle and an offer for a component that the device has not.
+use Prim.Native.Nat.{ℕ, _+_, _*_, _-_}
+use mathlib.Core.Path.{_≡_}
+use mathlib.Core.Bool.{Bool, true, false}
+use mathlib.Core.List.{List, [], _∷_, _++_, map}
+use lib.ListN.{length, take, drop, replicate}
+use Rattle.wire.specs.Codes.{OFFER-SKIP, OFFER-ACCEPT, OFFER-REJECT, REJECT-INV-COMPONENT, REJECT-SWAP-PENDING, SUCCESS}
+use Rattle.wire.specs.Version.{versionBytes, versionOf}
+use Rattle.wire.specs.declared.version.Version.{Version}
+use Rattle.component.specs.Record.{isPending, withStaged, blankComponent}
+use Rattle.component.specs.declared.record.Component.{Component}
+use Rattle.component.specs.declared.record.Staged.the-variants as staged
+use Rattle.bundle.specs.Layout.{countIn}
+use Rattle.bundle.specs.Contents.{Part, bundleBytes}
+use Rattle.device.specs.declared.record.Device.{Device}
+use Rattle.device.specs.declared.record.Stage.the-variants.{Idle, Receiving}
+use Rattle.device.specs.declared.record.Owed.the-variants as owed
+use Rattle.host.specs.declared.record.HostStage.the-variants.{Ended}
+use Rattle.host.specs.declared.record.End.the-variants.{Done}
+use Rattle.update.specs.Trace.{passesIn}
+use Rattle.update.specs.Run.{System, recordsIn, lastOf}
+use Rattle.update.specs.Demand.{Premise}
+use Rattle.update.specs.Bench.{placed, withCrc, Said, code, offered, block, said}
+
+-- components with regions of 16 bytes, one after the other, all at 1.0.0
+abbrev pub at100 : (id : ℕ) → Component
+at100 id = record { id = id; running = versionOf 1 0 0; region = record { base = record { 0 = 16 * (id - 1) }; len = 16 }; staged = staged.Nothing }
+
+-- the image of a component at 1.1.0, in two records of 8 bytes
+unfoldable pub image16 : (id : ℕ) → List ℕ
+image16 id = withCrc (versionBytes (versionOf 1 1 0) ++ id ∷ placed 5 9)
+
+-- an offer of 1.1.0 that needs a component at 1.1, or none (0), with that image
+abbrev pub partOf : (id need : ℕ) → (least : List ℕ) → Part
+partOf id need least = record {
+  offer = 0 ∷ 0 ∷ id ∷ 0 ∷ 0x00 ∷ 0x01 ∷ 0x00 ∷ 0x01 ∷ need ∷ least ++ 2 ∷ 0 ∷ 0x42 ∷ 0x00 ∷ [];
+  blocks =
+      record { address = record { 0 = 0 }; bytes = take 8 (image16 id) }
+      ∷ record { address = record { 0 = 8 }; bytes = drop 8 (image16 id) }
+      ∷ [];
+}
+
+abbrev pub needing : (id need : ℕ) → Part
+needing id need = partOf id need (0x01 ∷ 0x00 ∷ 0x01 ∷ [])
+
+abbrev pub alone : (id : ℕ) → Part
+alone id = partOf id 0 (replicate 3 0)
+
+-- the chain: seven components, each offer but the last needing the one after it
+abbrev pub seven : Device
+seven = record {
+  platform = 0x0042;
+  «staging_len» = 112;
+  count = 7;
+  parts = at100 1 ∷ at100 2 ∷ at100 3 ∷ at100 4 ∷ at100 5 ∷ at100 6 ∷ at100 7 ∷ [];
+  stage = Idle;
+  owed = owed.Nothing;
+}
+
+abbrev pub chain : List ℕ
+chain = bundleBytes (needing 1 2 ∷ needing 2 3 ∷ needing 3 4 ∷ needing 4 5 ∷ needing 5 6 ∷ needing 6 7 ∷ alone 7 ∷ [])
+
+-- a run from a device and a staging buffer of zeros, with token 7
+abbrev pub comes : List ℕ → Device → System
+comes b d = lastOf b 7 d (replicate (d .«staging_len») 0) []
+
+-- it is done after 7 passes and 1 + n(n + 2) + r = 78 packets: both bounds are reached
+pub record ChainReaches : Type 0 where
+  pub premise : Premise chain 7 seven (replicate 112 0)
+  pub done : comes chain seven .host .stage ≡ Ended Done
+  pub passes : passesIn (comes chain seven .trace) ≡ countIn chain
+  pub packets : length (comes chain seven .trace) ≡ 1 + countIn chain * (countIn chain + 2) + recordsIn chain
+  pub figures : (countIn chain ≡ 7) × (length (comes chain seven .trace) ≡ 78)
+
+-- the mixed case: component 1 is receiving and owes a READY, component 2 is pending; 1 and 3 need each other's new version; 9 is not there
+abbrev pub mixed : Device
+mixed = record {
+  platform = 0x0042;
+  «staging_len» = 64;
+  count = 4;
+  parts = at100 1 ∷ withStaged (at100 2) (versionOf 1 1 0) ∷ at100 3 ∷ at100 4 ∷ replicate 3 blankComponent;
+  stage = Receiving (record { slot = 0; token = 3; next = 5 });
+  owed = owed.Token 9;
+}
+
+abbrev pub tangle : List ℕ
+tangle = bundleBytes (needing 1 3 ∷ needing 3 1 ∷ alone 9 ∷ alone 2 ∷ alone 4 ∷ [])
+
+-- only component 4 lands
+abbrev pub MixedDevice : Type 0
+MixedDevice = map (λ c. isPending (c .staged)) (comes tangle mixed .device .parts) ≡ false ∷ true ∷ false ∷ true ∷ replicate 3 false
+
+abbrev pub MixedStaging : Type 0
+MixedStaging = comes tangle mixed .staging ≡ replicate 48 0 ++ image16 4
+
+-- the cycle is skipped twice, the absent and the pending component are rejected twice
+pub record MixedRuns : Type 0 where
+  pub premise : Premise tangle 7 mixed (replicate 64 0)
+  pub done : comes tangle mixed .host .stage ≡ Ended Done
+  pub says : map said (comes tangle mixed .trace)
+      ≡ code 0
+      ∷ code 1 ∷ offered 1 OFFER-SKIP 0 ∷ offered 3 OFFER-SKIP 0 ∷ offered 9 OFFER-REJECT REJECT-INV-COMPONENT
+      ∷ offered 2 OFFER-REJECT REJECT-SWAP-PENDING ∷ offered 4 OFFER-ACCEPT 0 ∷ block SUCCESS ∷ block SUCCESS ∷ code 2
+      ∷ code 1 ∷ offered 1 OFFER-SKIP 0 ∷ offered 3 OFFER-SKIP 0 ∷ offered 9 OFFER-REJECT REJECT-INV-COMPONENT
+      ∷ offered 2 OFFER-REJECT REJECT-SWAP-PENDING ∷ offered 4 OFFER-REJECT REJECT-SWAP-PENDING ∷ code 2
+      ∷ []
+  pub device : MixedDevice
+  pub staging : MixedStaging
+
+-- a need cycle alone: both offers are skipped, one pass, five packets, nothing staged
+abbrev pub cycle : List ℕ
+cycle = bundleBytes (needing 1 2 ∷ needing 2 1 ∷ [])
+
+pub record CycleStops : Type 0 where
+  pub done : comes cycle seven .host .stage ≡ Ended Done
+  pub passes : passesIn (comes cycle seven .trace) ≡ 1
+  pub packets : length (comes cycle seven .trace) ≡ 5

@@ -1,0 +1,1427 @@
+#!/usr/bin/env python3
+"""Writes the frames (FRAMES.md) of the device's cases to standard output.
+
+Each case starts with a '#' line that names it and its row in document 01.
+The bench device: platform 0x0042; id 1 at 0x01000200, region 0-63; id 2 at
+0x01000100, region 64-127; staging of 128 bytes.
+"""
+import struct
+import sys
+
+OUT = bytearray()
+
+FIRST, LAST = 0x80, 0x40
+V1 = 0x01000200          # running version of component 1
+V2 = 0x01000100          # running version of component 2
+NEW1 = 0x01000300        # what E2 offers component 1
+NEW2 = 0x01000200        # a newer version for component 2
+TOKEN = 0xA5
+NOTHING = (0, 0, 0, 0)   # an unused slot
+
+
+# ----------------------------------------------------------------- frames
+
+def frame(kind, payload=b''):
+    assert len(payload) <= 255, (kind, len(payload))
+    OUT.append(ord(kind))
+    OUT.append(len(payload))
+    OUT.extend(payload)
+
+
+def case(text):
+    frame('#', ('# ' + text).encode('ascii'))
+
+
+def note(text):
+    frame('#', ('## ' + text).encode('ascii'))
+
+
+def setup(components, lent=128, platform=0x0042, count=None):
+    """components: (id, running version, base, length)."""
+    count = len(components) if count is None else count
+    slots = list(components) + [NOTHING] * (7 - len(components))
+    payload = struct.pack('<HIB', platform, lent, count)
+    for slot in slots[:7]:
+        payload += struct.pack('<BIII', *slot)
+    frame('S', payload)
+
+
+BENCH = [(1, V1, 0, 64), (2, V2, 64, 64)]
+
+
+def bench():
+    setup(BENCH)
+
+
+def version_reply():
+    frame('V')
+
+
+def reset():
+    frame('R')
+
+
+def show():
+    frame('D')
+
+
+def lend(number):
+    frame('L', struct.pack('<I', number))
+
+
+def staging(offset, count):
+    frame('B', struct.pack('<IB', offset, count))
+
+
+def fill(value):
+    frame('F', bytes([value]))
+
+
+IDLE = (0, 0, 0, 0)
+
+
+def offered(slot, token=TOKEN):
+    return (1, slot, token, 0)
+
+
+def receiving(slot, token=TOKEN, next_one=1):
+    return (2, slot, token, next_one)
+
+
+def record(components, stage=IDLE, owed=None, staged=None, lent=128,
+           platform=0x0042, count=None, lends=True):
+    """components as in setup; staged: {slot: version}. The staging buffer
+    is lent at the record's length, unless the case has its own."""
+    if lends:
+        lend(lent)
+    count = len(components) if count is None else count
+    staged = staged or {}
+    payload = struct.pack('<HIB', platform, lent, count)
+    payload += struct.pack('<BBBH', *stage)
+    payload += bytes([0, 0]) if owed is None else bytes([1, owed])
+    slots = list(components) + [NOTHING] * (7 - len(components))
+    for number, slot in enumerate(slots[:7]):
+        payload += struct.pack('<BIII', *slot)
+        if number in staged:
+            payload += struct.pack('<BI', 1, staged[number])
+        else:
+            payload += struct.pack('<BI', 0, 0)
+    frame('K', payload)
+
+
+def offer_bytes(component, version, token=TOKEN, segment=0, flags=0, need=(0, 0),
+                protocol=2, byte13=0, platform=0x0042):
+    return (bytes([segment, flags, component, token]) + struct.pack('<I', version)
+            + bytes([need[0]]) + struct.pack('<I', need[1])[:3]
+            + bytes([protocol, byte13]) + struct.pack('<H', platform))
+
+
+def offer(component, version, **fields):
+    frame('O', offer_bytes(component, version, **fields))
+
+
+def information(code, token=0x11, rest=0):
+    frame('O', bytes([code, rest, 0xFF, token]) + bytes([rest]) * 12)
+
+
+def extended(code, token=0x22, rest=0):
+    frame('O', bytes([code, rest, 0xFE, token]) + bytes([rest]) * 12)
+
+
+def notify(token):
+    extended(1, token)
+
+
+def content_bytes(flags, sequence, address, data=b'', length=None, pad=0):
+    length = len(data) if length is None else length
+    data = bytes(data[:52])
+    return (struct.pack('<BBHI', flags, length, sequence, address)
+            + data + bytes([pad]) * (52 - len(data)))
+
+
+def content(flags, sequence, address, data=b'', length=None, pad=0):
+    frame('C', content_bytes(flags, sequence, address, data, length, pad))
+
+
+def block(flags, sequence, address, length):
+    """A block whose data is 1, 2, 3 .."""
+    data = bytes((i + 1) % 256 for i in range(min(length, 52)))
+    content(flags, sequence, address, data, length)
+
+
+# ----------------------------------------------------------------- images
+
+def crc(data, start=0):
+    value = start
+    for byte in data:
+        value ^= byte << 8
+        for _ in range(8):
+            value = (value << 1) ^ (0x1021 if value & 0x8000 else 0)
+            value &= 0xFFFF
+    return value
+
+
+assert crc(b'123456789') == 0x31C3
+assert crc(b'123456789', 0xFFFF) == 0x29B1
+
+
+def image(component, version, length=64):
+    body = bytearray((37 * i + 11) % 256 for i in range(length - 2))
+    body[0:4] = struct.pack('<I', version)
+    body[4] = component
+    return bytes(body) + struct.pack('>H', crc(body))
+
+
+def damaged(whole, at=20):
+    out = bytearray(whole)
+    out[at] ^= 0x01
+    return bytes(out)
+
+
+def send(whole, sequence=0):
+    """An image as records of at most 52 bytes."""
+    places = list(range(0, len(whole), 52))
+    for number, at in enumerate(places):
+        flags = (FIRST if number == 0 else 0) | (LAST if at == places[-1] else 0)
+        content(flags, (sequence + number) % 65536, at, whole[at:at + 52])
+
+
+def offered_for_1(token=TOKEN):
+    bench()
+    offer(1, NEW1, token=token)
+
+
+def receiving_for_1(sequence=0):
+    """Component 1 has taken one block of four bytes at 0."""
+    offered_for_1()
+    block(FIRST, sequence, 0, 4)
+
+
+# ---------------------------------------------------------- the beginning
+
+case('D1: the blank record at the start: every entry refuses')
+show()
+version_reply()
+offer(1, NEW1)
+information(0)
+notify(0x31)
+content(FIRST, 7, 0, b'\x01')
+reset()
+show()
+staging(0, 16)
+
+# -------------------------------------------------------- bench examples
+
+case('E1: version reply of the bench device')
+bench()
+show()
+version_reply()
+
+case('E2: offer for component 1 at 1.3.0: ACCEPT')
+bench()
+frame('O', bytes.fromhex('000001A5000300010000000002004200'))
+show()
+
+case('E3: the same at the running version: REJECT 0')
+bench()
+frame('O', bytes.fromhex('000001A5000200010000000002004200'))
+show()
+
+case('E4: byte 12 = 01: REJECT 0xE0, also when the version is old')
+bench()
+frame('O', bytes.fromhex('000001A5000300010000000001004200'))
+frame('O', bytes.fromhex('000001A5000200010000000001004200'))
+show()
+
+case('E5: need 02 02 00 01: SKIP')
+bench()
+frame('O', bytes.fromhex('000001A5000300010202000102004200'))
+show()
+
+case('E6: need 02 01 00 01: ACCEPT')
+bench()
+frame('O', bytes.fromhex('000001A5000300010201000102004200'))
+show()
+
+case('E7: content when idle, sequence 0x1234: 0x0A')
+bench()
+content(FIRST, 0x1234, 0, b'\x01\x02')
+show()
+
+case('E8: offered for component 1, first, length 52 at address 12: status 0')
+offered_for_1()
+block(FIRST, 0, 12, 52)
+show()
+staging(0, 128)
+
+case('E8: the same at address 13: 0x09')
+offered_for_1()
+block(FIRST, 0, 13, 52)
+show()
+
+case('E9: first, length 1 at 0xFFFFFFFF: 0x09')
+offered_for_1()
+block(FIRST, 0, 0xFFFFFFFF, 1)
+show()
+
+case('E10: first, length 53: 0x0B')
+offered_for_1()
+block(FIRST, 0, 0, 53)
+show()
+
+# ------------------------------------------------------------ set-up: S1
+
+case('S1: staging of 65,536 bytes is served')
+setup(BENCH, lent=65536)
+show()
+case('S1: staging of 65,537 bytes')
+setup(BENCH, lent=65537)
+show()
+case('S1: staging of 65,600 bytes')
+setup(BENCH, lent=65600)
+case('S1 before S2, S3 and S4: all four faults at once')
+setup([(0, V1, 70000, 1)] * 7, lent=65537, count=0)
+case('S1 before S4: staging too long and a region too short')
+setup([(1, V1, 0, 7)], lent=65537)
+
+# ------------------------------------------------------------ set-up: S2
+
+case('S2: count 0')
+setup(BENCH, count=0)
+show()
+case('S2: count 1 is served, the second slot is not looked at')
+setup(BENCH, count=1)
+show()
+version_reply()
+case('S2: count 7 is served')
+SEVEN = [(10 + i, 0x02000000 + i, 8 * i, 8) for i in range(7)]
+setup(SEVEN, lent=56)
+show()
+version_reply()
+case('S2: count 8')
+setup(SEVEN, lent=56, count=8)
+show()
+case('S2: count 255')
+setup(SEVEN, lent=56, count=255)
+case('S2 before S3 and S4: count 8 with bad ids and regions')
+setup([(0, V1, 70000, 1)] * 7, count=8)
+case('S2 before S3 and S4: count 0 with bad ids and regions')
+setup([(0, V1, 70000, 1)] * 7, count=0)
+case('S2 before S4: count 0 over an empty staging buffer')
+setup([], lent=0, count=0)
+
+# ------------------------------------------------------------ set-up: S3
+
+for component, words in [(0, 'id 0'), (1, 'id 1 is served'), (0xDF, 'id 0xDF is served'),
+                         (0xE0, 'id 0xE0'), (0xFD, 'id 0xFD'), (0xFE, 'id 0xFE'),
+                         (0xFF, 'id 0xFF')]:
+    case('S3: %s' % words)
+    setup([(component, V1, 0, 64)])
+    show()
+case('S3: the id outside is in the last slot')
+setup(SEVEN[:6] + [(0xE0, 0, 48, 8)], lent=56)
+case('S3: id repeated in slots 0 and 1')
+setup([(1, V1, 0, 64), (1, V2, 64, 64)])
+show()
+case('S3: id repeated in slots 0 and 6')
+setup(SEVEN[:6] + [(10, 0, 48, 8)], lent=56)
+case('S3: id repeated in slots 5 and 6')
+setup(SEVEN[:6] + [(15, 0, 48, 8)], lent=56)
+case('S3: id 0 twice')
+setup([(0, V1, 0, 64), (0, V2, 64, 64)])
+case('S3: a repeated or bad id at the count is not looked at')
+setup([(1, V1, 0, 64), (2, V2, 64, 64), (1, 0, 0, 1), (0xFF, 0, 0xFFFFFFFF, 0xFFFFFFFF)],
+      count=2)
+show()
+case('S3 before S4: the short region in slot 0, the bad id in slot 1')
+setup([(1, V1, 0, 7), (0xE0, V2, 64, 64)])
+case('S3 before S4: the repeated id overlaps too')
+setup([(1, V1, 0, 64), (1, V2, 0, 64)])
+
+# ------------------------------------------------------------ set-up: S4
+
+case('S4: region of 7 bytes')
+setup([(1, V1, 0, 7)])
+case('S4: region of 8 bytes is served')
+setup([(1, V1, 0, 8)])
+show()
+case('S4: region of 0 bytes')
+setup([(1, V1, 0, 0)])
+case('S4: the short region in the last slot')
+setup(SEVEN[:6] + [(16, 0, 48, 7)], lent=56)
+case('S4: region to the buffer\'s last byte is served')
+setup([(1, V1, 120, 8)])
+show()
+case('S4: region one byte past the buffer')
+setup([(1, V1, 121, 8)])
+show()
+case('S4: region one byte longer than the buffer')
+setup([(1, V1, 0, 129)])
+case('S4: region that starts where the buffer ends')
+setup([(1, V1, 128, 8)])
+case('S4: buffer of 8 bytes, region of 8: served')
+setup([(1, V1, 0, 8)], lent=8)
+case('S4: buffer of 7 bytes, region of 8')
+setup([(1, V1, 0, 8)], lent=7)
+case('S4: no buffer at all')
+setup([(1, V1, 0, 8)], lent=0)
+case('S4: base + length wraps to 0 in 32 bits')
+setup([(1, V1, 0xFFFFFFF8, 8)])
+case('S4: base + length wraps to 64 in 32 bits')
+setup([(1, V1, 0xFFFFFFC0, 128)])
+case('S4: length wraps: base 64, length 0xFFFFFFC0')
+setup([(1, V1, 64, 0xFFFFFFC0)])
+case('S4: base 0xFFFFFFFF and length 0xFFFFFFFF')
+setup([(1, V1, 0xFFFFFFFF, 0xFFFFFFFF)])
+case('S4: the whole of 65,536 bytes is one region: served')
+setup([(1, V1, 0, 65536)], lent=65536)
+show()
+case('S4: 65,536 bytes, a region of 65,537')
+setup([(1, V1, 0, 65537)], lent=65536)
+case('S4: regions that touch are served')
+setup([(1, V1, 0, 64), (2, V2, 64, 64)])
+case('S4: regions that overlap by one byte')
+setup([(1, V1, 0, 64), (2, V2, 63, 64)])
+show()
+case('S4: the later slot lies lower and touches: served')
+setup([(1, V1, 64, 64), (2, V2, 0, 64)])
+show()
+case('S4: the later slot lies lower and overlaps by one byte')
+setup([(1, V1, 64, 64), (2, V2, 0, 65)])
+case('S4: the same region twice')
+setup([(1, V1, 8, 16), (2, V2, 8, 16)])
+case('S4: one region inside another')
+setup([(1, V1, 0, 128), (2, V2, 40, 8)])
+case('S4: one region around another')
+setup([(1, V1, 40, 8), (2, V2, 0, 128)])
+case('S4: slots 0 and 6 overlap')
+setup(SEVEN[:6] + [(16, 0, 7, 8)], lent=56)
+case('S4: slots 5 and 6 overlap')
+setup(SEVEN[:6] + [(16, 0, 47, 8)], lent=56)
+case('S4: a bad region at the count is not looked at')
+setup([(1, V1, 0, 64), (2, V2, 0, 64)], count=1)
+show()
+
+case('S: set-up leaves the staging bytes, served or refused')
+fill(0xA5)
+bench()
+staging(0, 130)
+setup([(1, V1, 0, 64), (2, V2, 63, 64)])
+staging(0, 130)
+
+case('S: set-up starts idle, owes nothing, nothing staged, whatever stood before')
+record(BENCH, receiving(0, next_one=9), owed=0x77, staged={1: NEW2})
+show()
+bench()
+show()
+
+case('S: a refused set-up hands back the blank record, which every entry refuses with D1')
+bench()
+offer(1, NEW1)
+setup(BENCH, count=8)
+show()
+version_reply()
+offer(1, NEW1)
+content(FIRST, 1, 0, b'\x01')
+reset()
+show()
+
+case('S: platform 0 and versions 0 and 0xFFFFFFFF are served')
+setup([(1, 0, 0, 64), (2, 0xFFFFFFFF, 64, 64)], platform=0)
+show()
+version_reply()
+
+# --------------------------------------------------------------------- D1
+
+
+def every_entry():
+    """What each entry answers for the record that stands."""
+    version_reply()
+    content(FIRST, 5, 0, b'\x01\x02\x03')
+    show()
+    notify(0x33)
+    offer(1, NEW1)
+    information(3)
+    extended(2)
+    show()
+    information(0)
+    reset()
+    show()
+    staging(0, 8)
+    staging(60, 8)
+
+
+def d1(words, *args, **fields):
+    case('D1: %s' % words)
+    fill(0xA5)
+    record(*args, **fields)
+    every_entry()
+
+
+d1('none of it: the idle bench record is served', BENCH)
+d1('state breaks S1: staging 65,537 bytes', BENCH, lent=65537)
+case('D1: staging 65,536 bytes is served')
+record(BENCH, lent=65536)
+every_entry()
+case('D1: state breaks S1, and D2 too: staging 0xFFFFFFFF')
+lend(128)
+record(BENCH, lent=0xFFFFFFFF, lends=False)
+every_entry()
+d1('state breaks S2: count 0', BENCH, count=0)
+d1('state breaks S2: count 8', SEVEN, lent=56, count=8)
+d1('state breaks S2: count 255', SEVEN, lent=56, count=255)
+d1('state breaks S3: id 0', [(1, V1, 0, 64), (0, V2, 64, 64)])
+d1('state breaks S3: id 0xE0', [(1, V1, 0, 64), (0xE0, V2, 64, 64)])
+d1('id 0xDF is served', [(1, V1, 0, 64), (0xDF, V2, 64, 64)])
+d1('state breaks S3: id repeated', [(1, V1, 0, 64), (1, V2, 64, 64)])
+d1('state breaks S4: region of 7 bytes', [(1, V1, 0, 64), (2, V2, 64, 7)])
+d1('region of 8 bytes is served', [(1, V1, 0, 64), (2, V2, 64, 8)])
+d1('state breaks S4: region one past the buffer', [(1, V1, 0, 64), (2, V2, 65, 64)])
+d1('state breaks S4: base + length wraps in 32 bits', [(1, V1, 0, 64), (2, V2, 0xFFFFFFF8, 8)])
+d1('state breaks S4: regions overlap by one byte', [(1, V1, 0, 65), (2, V2, 64, 64)])
+d1('offered on the last slot is served', BENCH, offered(1))
+d1('opens on an unlisted component: offered on slot 2 of 2', BENCH, offered(2))
+d1('opens on an unlisted component: offered on slot 255', BENCH, offered(255))
+d1('opens on an unlisted component: receiving on slot 2 of 2', BENCH, receiving(2))
+d1('opens on an unlisted component: receiving on slot 7', SEVEN, receiving(7), lent=56)
+d1('opens on an unlisted component: slot 2 of 2 holds a sound third one',
+   [(1, V1, 0, 64), (2, V2, 64, 64), (3, V2, 8, 8)], offered(2), count=2)
+d1('receiving on slot 6 of 7 is served', SEVEN, receiving(6), lent=56)
+d1('opens on a pending component: offered', BENCH, offered(0), staged={0: NEW1})
+d1('opens on a pending component: receiving', BENCH, receiving(1), staged={1: NEW2})
+d1('offered on one while another is pending is served', BENCH, offered(0), staged={1: NEW2})
+d1('owes while idle', BENCH, IDLE, owed=0x44)
+d1('owes token 0 while idle', BENCH, IDLE, owed=0)
+d1('owes while offered is served', BENCH, offered(0), owed=0x44)
+d1('owes while receiving is served', BENCH, receiving(0), owed=0x44)
+d1('staged version one below running', BENCH, staged={0: V1 - 1})
+d1('staged version equal to running is served', BENCH, staged={0: V1})
+d1('staged version one above running is served', BENCH, staged={0: V1 + 1})
+d1('staged version below running in the last slot', BENCH, staged={1: 0})
+d1('staged 0x7FFFFFFF, running 0x80000000: below, as unsigned numbers',
+   [(1, 0x80000000, 0, 64)], staged={0: 0x7FFFFFFF})
+d1('staged 0x80000000, running 0x7FFFFFFF is served',
+   [(1, 0x7FFFFFFF, 0, 64)], staged={0: 0x80000000})
+d1('faults at and past the count are not looked at',
+   [(1, V1, 0, 64), (2, V2, 64, 64), (1, 5, 0, 1), (0xFF, 9, 0xFFFFFFFF, 0xFFFFFFFF)],
+   staged={2: 1, 3: 2}, count=2)
+case('D1: the slot of an idle record is ignored')
+record(BENCH, (0, 200, 0x99, 77))
+every_entry()
+
+case('D1 before D2 and D3: a bad state, a wrong lent length, a short report')
+lend(127)
+record(BENCH, owed=0x44, lends=False)
+frame('O', b'\x00' * 15)
+frame('C', b'\x00' * 59)
+show()
+
+# --------------------------------------------------------------------- D2
+
+for number in [127, 129, 0, 65600, 128]:
+    case('D2: set up with 128 bytes, lent %d' % number)
+    fill(0xA5)
+    bench()
+    offer(1, NEW1)
+    lend(number)
+    offer(1, NEW1)
+    information(0)
+    notify(0x33)
+    block(FIRST, 0, 0, 4)
+    show()
+    staging(0, 8)
+    version_reply()
+    reset()
+    show()
+
+case('D2 before D3: a wrong lent length and a short report')
+bench()
+lend(127)
+frame('O', b'\x00' * 15)
+frame('C', b'\x00' * 59)
+
+# --------------------------------------------------------------------- D3
+
+case('D3: offer reports of 0, 1, 15, 16, 17, 60 and 255 bytes')
+LONG_OFFER = offer_bytes(1, NEW1) + b'\x00' * 239
+for number in [0, 1, 15, 17, 60, 255, 16]:
+    bench()
+    frame('O', LONG_OFFER[:number])
+    show()
+
+case('D3: content reports of 0, 1, 16, 59, 60, 61 and 255 bytes')
+LONG_CONTENT = content_bytes(FIRST, 3, 0, b'\x01\x02\x03\x04') + b'\x00' * 195
+for number in [0, 1, 16, 59, 61, 255, 60]:
+    fill(0xA5)
+    offered_for_1()
+    frame('C', LONG_CONTENT[:number])
+    show()
+    staging(0, 8)
+
+case('D3: a cut code 0 and a cut notify do nothing')
+offered_for_1()
+frame('O', bytes([0, 0, 0xFF, 0x11]))
+frame('O', bytes([1, 0, 0xFE, 0x22]) + b'\x00' * 11)
+frame('O', bytes([0, 0, 0xFF, 0x11]) + b'\x00' * 13)
+show()
+
+# ----------------------------------------------------------------- offers
+
+case('offer 1: session offered: BUSY, for the same and for the other component')
+offered_for_1()
+offer(1, NEW1, token=0x01)
+offer(2, NEW2, token=0x02)
+show()
+
+case('offer 1: session receiving: BUSY')
+receiving_for_1()
+offer(1, NEW1, token=0x01)
+offer(2, NEW2, token=0x02)
+show()
+
+case('offer 1 before 2 to 8: BUSY whatever else is wrong')
+offered_for_1()
+offer(1, NEW1, protocol=1)
+offer(9, NEW1)
+offer(1, NEW1, platform=0x0041)
+offer(1, NEW1, segment=1)
+offer(1, V1)
+offer(1, NEW1, need=(9, 1))
+offer(0, 0, token=0, segment=9, flags=0xFF, need=(9, 9), protocol=0, byte13=9, platform=9)
+show()
+
+for number in [0, 1, 2, 3, 4, 15]:
+    case('offer 2: protocol %d' % number)
+    bench()
+    offer(1, NEW1, protocol=number)
+    show()
+case('offer 2: only the low four bits count: byte 12 = 0x12, then 0xF2')
+bench()
+offer(1, NEW1, protocol=0x12)
+show()
+bench()
+offer(1, NEW1, protocol=0xF2)
+show()
+case('offer 2: byte 12 = 0x21 and 0x20: REJECT 0xE0')
+bench()
+offer(1, NEW1, protocol=0x21)
+offer(1, NEW1, protocol=0x20)
+show()
+case('offer 2 before 3 to 8')
+bench()
+offer(9, NEW1, protocol=1)
+offer(1, NEW1, protocol=1, platform=0x0041)
+offer(1, NEW1, protocol=1, segment=1)
+offer(1, V1, protocol=1)
+offer(1, NEW1, protocol=1, need=(9, 1))
+record(BENCH, staged={0: NEW1})
+offer(1, NEW1, protocol=1)
+show()
+
+for component in [0, 1, 2, 3, 0xDF, 0xE0, 0xE1, 0xFC, 0xFD]:
+    case('offer 3: id 0x%02X on a device with 1 and 2' % component)
+    bench()
+    offer(component, 0xFFFFFFFF)
+    show()
+case('offer 3: the id at the count is not on the device')
+setup(BENCH, count=1)
+offer(2, NEW2)
+show()
+case('offer 3: id 0xDF on the device: ACCEPT')
+setup([(0xDF, V1, 0, 64)])
+offer(0xDF, NEW1)
+show()
+case('offer 3 before 5 to 8: REJECT 1')
+bench()
+offer(9, NEW1, segment=1)
+offer(9, 0)
+offer(9, NEW1, need=(9, 1))
+
+for platform in [0x0041, 0x0042, 0x0043, 0x0142, 0x4200, 0x0000]:
+    case('offer 4: platform 0x%04X' % platform)
+    bench()
+    offer(1, NEW1, platform=platform)
+    show()
+case('offer 4 before 5 to 8: REJECT 1')
+bench()
+offer(1, NEW1, platform=0x0041, segment=1)
+offer(1, V1, platform=0x0041)
+offer(1, NEW1, platform=0x0041, need=(9, 1))
+record(BENCH, staged={0: NEW1})
+offer(1, NEW1, platform=0x0041)
+
+case('offer 5: segment 1 and 255: REJECT 0xE1; 0: ACCEPT')
+bench()
+offer(1, NEW1, segment=1)
+offer(1, NEW1, segment=255)
+show()
+offer(1, NEW1, segment=0)
+show()
+case('offer 5 before 6 to 8')
+bench()
+offer(1, V1, segment=1)
+offer(1, NEW1, segment=1, need=(9, 1))
+record(BENCH, staged={0: NEW1})
+offer(1, NEW1, segment=1)
+
+case('offer 6: component pending: REJECT 2, whatever the version; the other is ACCEPT')
+record(BENCH, staged={0: NEW1})
+offer(1, NEW1)
+offer(1, NEW1 - 1)
+offer(1, NEW1 + 1)
+offer(1, 0xFFFFFFFF)
+show()
+offer(2, NEW2)
+show()
+case('offer 6 before 7 and 8')
+record(BENCH, staged={0: NEW1})
+offer(1, V1)
+offer(1, 0)
+offer(1, NEW1, need=(9, 1))
+case('offer 6: pending at the running version is pending')
+record(BENCH, staged={0: V1})
+offer(1, NEW1)
+
+for version, words in [(V1 - 1, 'one below running'), (V1, 'running'),
+                       (V1 + 1, 'one above running'), (0, '0'),
+                       (0x01000000, 'the same major, minor 0'),
+                       (0x010000FF, 'a great variant, a smaller minor'),
+                       (0x00FFFFFF, 'a smaller major, all else great'),
+                       (0x02000000, 'a greater major, all else 0'),
+                       (0x80000000, '0x80000000'), (0xFFFFFFFF, '0xFFFFFFFF')]:
+    case('offer 7: version %s' % words)
+    bench()
+    offer(1, version)
+    show()
+case('offer 7: nothing is greater than 0xFFFFFFFF')
+setup([(1, 0xFFFFFFFF, 0, 64)])
+offer(1, 0xFFFFFFFF)
+offer(1, 0xFFFFFFFE)
+offer(1, 0)
+case('offer 7: 1 is greater than 0')
+setup([(1, 0, 0, 64)])
+offer(1, 0)
+offer(1, 1)
+show()
+case('offer 7: as unsigned numbers, 0x80000000 over 0x7FFFFFFF and not the other way')
+setup([(1, 0x7FFFFFFF, 0, 64), (2, 0x80000000, 64, 64)])
+offer(2, 0x7FFFFFFF)
+offer(1, 0x80000000)
+show()
+case('offer 7 before 8: old version and unmet need: REJECT 0')
+bench()
+offer(1, V1, need=(9, 1))
+offer(1, V1, need=(2, 0x010002))
+
+for least, words in [(0x010000, 'one below'), (0x010001, 'met exactly'),
+                     (0x010002, 'one above'), (0, '0'), (0xFFFFFF, '0xFFFFFF')]:
+    case('offer 8: need of component 2 at 0x010001: %s' % words)
+    bench()
+    offer(1, NEW1, need=(2, least))
+    show()
+case('offer 8: the variant is divided away: 0x010001FF meets 0x010001, not 0x010002')
+setup([(1, V1, 0, 64), (2, 0x010001FF, 64, 64)])
+offer(1, NEW1, need=(2, 0x010002))
+offer(1, NEW1, need=(2, 0x010001))
+show()
+case('offer 8: 0xFFFFFFFF meets 0xFFFFFF')
+setup([(1, V1, 0, 64), (2, 0xFFFFFFFF, 64, 64)])
+offer(1, NEW1, need=(2, 0xFFFFFF))
+show()
+case('offer 8: needed component absent, even at least version 0: SKIP')
+bench()
+offer(1, NEW1, need=(3, 0))
+offer(1, NEW1, need=(3, 1))
+offer(1, NEW1, need=(0xE0, 0))
+offer(1, NEW1, need=(0xFE, 0))
+offer(1, NEW1, need=(0xFF, 0))
+show()
+case('offer 8: the needed component at the count is absent')
+setup(BENCH, count=1)
+offer(1, NEW1, need=(2, 0))
+show()
+case('offer 8: byte 8 = 0: no need, whatever bytes 9-11 hold')
+bench()
+offer(1, NEW1, need=(0, 0xFFFFFF))
+show()
+case('offer 8: a component that needs itself: met by what runs, not by what is offered')
+bench()
+offer(1, NEW1, need=(1, 0x010003))
+offer(1, NEW1, need=(1, 0x010002))
+show()
+case('offer 8: a pending component meets a need by its staged version')
+record(BENCH, staged={1: NEW2})
+offer(1, NEW1, need=(2, 0x010003))
+offer(1, NEW1, need=(2, 0x010002))
+show()
+case('offer 8: the staged version comes from the image (equal to running here)')
+record(BENCH, staged={1: V2})
+offer(1, NEW1, need=(2, 0x010002))
+offer(1, NEW1, need=(2, 0x010001))
+show()
+
+case('offer 9: component 2 is accepted in slot 1, token 0')
+bench()
+offer(2, NEW2, token=0)
+show()
+case('offer 9: the seventh of seven, token 0xFF')
+setup(SEVEN, lent=56)
+offer(16, 0x02000007, token=0xFF)
+show()
+case('offer 9: staging bytes stay at an offer')
+fill(0xA5)
+offered_for_1()
+staging(0, 130)
+
+for flags in [0x40, 0x80, 0xC0]:
+    case('offer: I and V are ignored: byte 1 = 0x%02X: old is REJECT 0, new is ACCEPT' % flags)
+    bench()
+    offer(1, V1, flags=flags)
+    offer(1, 0, flags=flags)
+    offer(1, NEW1, flags=flags)
+    show()
+case('offer: I is ignored: the image is pending, not running')
+bench()
+offer(1, NEW1, flags=0xC0)
+send(image(1, NEW1))
+show()
+case('offer: reserved bits are ignored: byte 1 = 0x3F, byte 13 = 0xFF, byte 12 = 0xA2')
+bench()
+offer(1, NEW1, flags=0x3F, byte13=0xFF, protocol=0xA2)
+show()
+
+# ------------------------------------------------------------ information
+
+STAGES = [('idle', IDLE, None), ('offered', offered(0), None),
+          ('offered, owing', offered(0), 0x44),
+          ('receiving', receiving(1, next_one=9), None),
+          ('receiving, owing', receiving(1, next_one=9), 0x44)]
+
+for code in [0, 1, 2, 3, 0xFF]:
+    for words, stage, owed in STAGES:
+        case('information: code %d while %s' % (code, words))
+        record(BENCH, stage, owed=owed)
+        information(code, token=0x5A)
+        show()
+case('information: code 0 keeps pending components and staging bytes')
+fill(0xA5)
+record(BENCH, receiving(1), owed=0x44, staged={0: NEW1})
+information(0)
+show()
+staging(0, 130)
+case('information: the other bytes are ignored')
+for code in [0, 1, 2, 3]:
+    record(BENCH, offered(0), owed=0x44)
+    information(code, token=0x5A, rest=0xFF)
+    show()
+case('information: content after code 0 is 0x0A, an offer after it is judged anew')
+receiving_for_1()
+information(0)
+block(0, 1, 4, 4)
+offer(2, NEW2)
+show()
+
+# --------------------------------------------------------------- extended
+
+for code in [0, 1, 2, 0xFF]:
+    for words, stage, owed in STAGES:
+        case('extended: code %d while %s' % (code, words))
+        record(BENCH, stage, owed=owed)
+        extended(code, token=0x5B)
+        show()
+case('extended: the other bytes are ignored')
+record(BENCH, offered(0))
+extended(1, token=0x5B, rest=0xFF)
+show()
+case('notify: idle READY, open no reply and owed, a second BUSY with its own token')
+bench()
+notify(0x01)
+show()
+offer(1, NEW1)
+notify(0x02)
+show()
+notify(0x03)
+show()
+notify(0x02)
+show()
+
+# ---------------------------------------------------------------- content
+
+case('content 1: idle: 0x0A, whatever else is wrong')
+fill(0xA5)
+bench()
+block(FIRST, 0, 0, 4)
+block(FIRST | LAST, 0xFFFF, 0, 52)
+block(FIRST, 1, 0, 0)
+block(FIRST, 2, 0, 53)
+block(0x01, 3, 0, 4)
+block(0, 4, 0, 4)
+block(FIRST, 5, 0xFFFFFFFF, 4)
+show()
+staging(0, 130)
+
+for length in [0, 1, 52, 53, 255]:
+    case('content 2: offered, length %d' % length)
+    fill(0xA5)
+    offered_for_1()
+    block(FIRST, 3, 0, length)
+    show()
+    staging(0, 66)
+for length in [0, 1, 52, 53, 255]:
+    case('content 2: receiving, length %d' % length)
+    fill(0xA5)
+    receiving_for_1()
+    block(0, 1, 4, length)
+    show()
+    staging(0, 66)
+for flags in [0x81, 0xA0, 0xBF, 0x90, 0x88, 0xFF, 0xC1]:
+    case('content 2: offered, flags 0x%02X' % flags)
+    fill(0xA5)
+    offered_for_1()
+    block(flags, 3, 0, 4)
+    show()
+    staging(0, 8)
+for flags in [0x01, 0x02, 0x04, 0x08, 0x10, 0x20, 0x3F, 0x41]:
+    case('content 2: receiving, flags 0x%02X' % flags)
+    receiving_for_1()
+    block(flags, 1, 4, 4)
+    show()
+    staging(0, 8)
+case('content 2 before 5: length 0 or 53 and an address past the region')
+offered_for_1()
+block(FIRST, 0, 0xFFFFFFFF, 0)
+block(FIRST, 0, 64, 53)
+block(FIRST | 1, 0, 64, 1)
+show()
+
+case('content 3: offered without first: flags 0 and last')
+fill(0xA5)
+offered_for_1()
+block(0, 0, 0, 4)
+block(LAST, 0, 0, 4)
+show()
+staging(0, 8)
+case('content 3: receiving with first: first, and first and last')
+fill(0xA5)
+receiving_for_1()
+block(FIRST, 1, 8, 4)
+block(FIRST | LAST, 1, 8, 4)
+block(FIRST, 0, 0, 4)
+show()
+staging(0, 66)
+case('content 3 before 5: 0x0B with an address past the region')
+offered_for_1()
+block(0, 0, 64, 1)
+show()
+receiving_for_1()
+block(FIRST, 1, 64, 1)
+show()
+
+case('content 4: receiving, the expected sequence is 1: 0, 2, 0x0100 and 65535 are 0x0B, 1 is taken')
+fill(0xA5)
+receiving_for_1()
+for sequence in [0, 2, 0x0100, 0xFFFF]:
+    block(0, sequence, 8, 4)
+show()
+staging(0, 16)
+block(0, 1, 8, 4)
+show()
+staging(0, 16)
+case('content 4: a taken block may not come twice')
+receiving_for_1()
+block(0, 1, 4, 4)
+block(0, 1, 4, 4)
+block(0, 2, 8, 4)
+show()
+case('content 4: a wrong sequence on the last block: the session stays open')
+receiving_for_1()
+block(LAST, 2, 4, 4)
+show()
+for sequence in [0, 1, 0x1234, 65534, 65535]:
+    case('content 4: a first block may carry any sequence: %d' % sequence)
+    receiving_for_1(sequence)
+    show()
+    block(0, (sequence + 1) % 65536, 4, 4)
+    show()
+case('content 4: 65,535 is followed by 0, not by 65,535 or 1')
+receiving_for_1(65535)
+block(0, 65535, 4, 4)
+block(0, 1, 4, 4)
+show()
+block(0, 0, 4, 4)
+show()
+case('content 4: receiving with 65,535 expected: 65,535 then 0')
+record(BENCH, receiving(0, next_one=65535))
+block(0, 0, 4, 4)
+block(0, 65535, 4, 4)
+show()
+block(0, 0, 8, 4)
+show()
+case('content 4 before 5: wrong sequence and an address past the region: 0x0B')
+receiving_for_1()
+block(0, 2, 64, 1)
+show()
+
+for address, length in [(63, 1), (64, 1), (62, 2), (63, 2), (12, 52), (13, 52), (64, 52),
+                        (0xFFFFFFFF, 1), (0xFFFFFFFF, 52), (0xFFFFFFCC, 52), (0xFFFFFFC1, 52),
+                        (0x80000000, 4), (0x00010000, 4), (0x00000100, 4)]:
+    case('content 5: offered, region of 64, address 0x%X, length %d' % (address, length))
+    fill(0xA5)
+    offered_for_1()
+    block(FIRST, 0, address, length)
+    show()
+    staging(0, 130)
+for address, length in [(63, 1), (64, 1), (12, 52), (13, 52), (0xFFFFFFFF, 1)]:
+    case('content 5: receiving, region of 64, address 0x%X, length %d' % (address, length))
+    fill(0xA5)
+    receiving_for_1()
+    block(0, 1, address, length)
+    show()
+    staging(0, 130)
+case('content 5: the last byte of the last region, and one past it')
+fill(0xA5)
+bench()
+offer(2, NEW2)
+block(FIRST, 0, 63, 1)
+block(0, 1, 64, 1)
+block(0, 1, 63, 2)
+show()
+staging(56, 80)
+case('content 5: component 2 by staging offsets instead of region addresses: 0x09')
+bench()
+offer(2, NEW2)
+block(FIRST, 0, 64, 4)
+show()
+case('content 5: after 0x09 on a first block the same block in range is taken')
+fill(0xA5)
+offered_for_1()
+block(FIRST, 0, 13, 52)
+staging(0, 66)
+block(FIRST, 0, 12, 52)
+show()
+staging(0, 66)
+case('content 5: a region of 65,536 bytes: the last 52 bytes, and one further')
+fill(0xA5)
+setup([(1, V1, 0, 65536)], lent=65536)
+offer(1, NEW1)
+block(FIRST, 0, 65485, 52)
+staging(65472, 96)
+block(FIRST, 0, 65484, 52)
+show()
+staging(65472, 96)
+staging(0, 8)
+case('content 5: a region at the end of 65,536 bytes')
+fill(0xA5)
+setup([(1, V1, 65472, 64)], lent=65536)
+offer(1, NEW1)
+block(FIRST, 0, 60, 5)
+block(FIRST, 0, 60, 4)
+staging(65464, 104)
+case('content 5: a region of 8 bytes')
+fill(0xA5)
+setup([(1, V1, 8, 8)], lent=24)
+offer(1, NEW1)
+block(FIRST, 0, 0, 9)
+block(FIRST, 0, 8, 1)
+block(FIRST, 0, 0, 8)
+show()
+staging(0, 26)
+
+case('content 6: a first block erases the whole region and nothing else')
+fill(0xA5)
+setup([(1, V1, 16, 64), (2, V2, 96, 24)])
+offer(1, NEW1)
+block(FIRST, 0, 30, 2)
+show()
+staging(0, 130)
+case('content 6: the same for the second component')
+fill(0x5A)
+setup([(1, V1, 16, 64), (2, V2, 96, 24)])
+offer(2, NEW2)
+block(FIRST, 0, 23, 1)
+staging(0, 130)
+case('content 6: a later block erases nothing and may write over')
+fill(0xA5)
+receiving_for_1()
+content(0, 1, 2, b'\xE1\xE2\xE3\xE4')
+content(0, 2, 40, b'\xE5')
+show()
+staging(0, 66)
+case('content 6: data past the length is not written')
+fill(0xA5)
+offered_for_1()
+content(FIRST, 0, 4, b'\x77', pad=0x55)
+show()
+staging(0, 66)
+content(0, 1, 10, b'\x78\x79', pad=0x55)
+show()
+staging(0, 66)
+case('content 6: data past the length at the region\'s end is not written')
+fill(0xA5)
+offered_for_1()
+content(FIRST, 0, 63, b'\x77', pad=0x55)
+staging(0, 130)
+case('content 6: a second session for the same component erases anew')
+fill(0xA5)
+receiving_for_1()
+information(0)
+staging(0, 66)
+offer(1, NEW1)
+block(FIRST, 9, 60, 1)
+show()
+staging(0, 66)
+case('content 6: blocks may come in any order of addresses')
+fill(0xA5)
+bench()
+offer(1, NEW1)
+WHOLE = image(1, NEW1)
+content(FIRST, 0, 52, WHOLE[52:])
+content(LAST, 1, 0, WHOLE[:52])
+show()
+staging(0, 66)
+
+# ---------------------------------------------------------------- images
+
+
+def judged(words, whole, component=1, version=NEW1):
+    case('image: %s' % words)
+    fill(0xA5)
+    bench()
+    offer(component, version)
+    send(whole)
+    show()
+    staging(0, 130)
+
+
+def with_crc(body):
+    return bytes(body) + struct.pack('>H', crc(body))
+
+
+GOOD1 = image(1, NEW1)
+GOOD2 = image(2, NEW2)
+judged('good, component 1', GOOD1)
+judged('good, component 2', GOOD2, 2, NEW2)
+judged('wrong CRC: one bit of the middle: 0x05', damaged(GOOD1))
+judged('wrong CRC: one bit of byte 0: 0x05', damaged(GOOD1, 0))
+judged('wrong CRC: the last byte before it: 0x05', damaged(GOOD1, 61))
+judged('wrong CRC: its high byte: 0x05', damaged(GOOD1, 62))
+judged('wrong CRC: its low byte: 0x05', damaged(GOOD1, 63))
+judged('wrong CRC: low byte first: 0x05', GOOD1[:62] + GOOD1[:61:-1])
+judged('wrong CRC: started at 0xFFFF: 0x05',
+       GOOD1[:62] + struct.pack('>H', crc(GOOD1[:62], 0xFFFF)))
+judged('wrong id 0: 0x04', image(0, NEW1))
+judged('wrong id 2: 0x04', image(2, NEW1))
+judged('wrong id 0x81: 0x04', image(0x81, NEW1))
+judged('version one below running: 0x07', image(1, V1 - 1))
+judged('version equal to running: 0', image(1, V1))
+judged('version one above running: 0', image(1, V1 + 1))
+judged('version above the offered one: 0, pending with the image\'s', image(1, 0xFFFFFFFF))
+judged('version 0: 0x07', image(1, 0))
+judged('version 0x80000000: 0, as unsigned numbers', image(1, 0x80000000))
+judged('order: wrong CRC, wrong id and old version: 0x05', damaged(image(2, 0)))
+judged('order: wrong CRC and wrong id: 0x05', damaged(image(2, NEW1)))
+judged('order: wrong CRC and old version: 0x05', damaged(image(1, 0)))
+judged('order: wrong id and old version: 0x04', image(2, 0))
+
+case('image: in one block, first and last, in a region of 8 bytes')
+fill(0xA5)
+setup([(1, V1, 8, 8)], lent=24)
+offer(1, NEW1)
+send(image(1, NEW1, 8), sequence=0x4321)
+show()
+staging(0, 26)
+case('image: in one block, bad, in a region of 8 bytes')
+fill(0xA5)
+setup([(1, V1, 8, 8)], lent=24)
+offer(1, NEW1)
+send(damaged(image(1, NEW1, 8), 5))
+show()
+staging(0, 26)
+case('image: in one block of 52 bytes')
+setup([(1, V1, 8, 52)], lent=64)
+offer(1, NEW1)
+send(image(1, NEW1, 52))
+show()
+case('image: three blocks, sequences 65534, 65535, 0')
+fill(0xA5)
+setup([(1, V1, 0, 128)])
+offer(1, NEW1)
+send(image(1, NEW1, 128), sequence=65534)
+show()
+staging(0, 130)
+case('image: of 9 bytes, the region of odd length')
+setup([(1, V1, 3, 9)], lent=24)
+offer(1, NEW1)
+send(image(1, NEW1, 9))
+show()
+case('image: the whole region is judged: a part not sent counts as 0xFF')
+fill(0x00)
+bench()
+offer(1, NEW1)
+GAP = bytearray(GOOD1[:62])
+GAP[40:52] = b'\xFF' * 12
+GAP = with_crc(GAP)
+content(FIRST, 0, 0, GAP[:40])
+content(LAST, 1, 52, GAP[52:])
+show()
+staging(0, 66)
+case('image: the good image minus twelve bytes: 0x05')
+bench()
+offer(1, NEW1)
+content(FIRST, 0, 0, GOOD1[:40])
+content(LAST, 1, 52, GOOD1[52:])
+show()
+case('image: a first and last block alone over an older good image: erased, 0x05')
+bench()
+offer(1, NEW1)
+send(GOOD1)
+reset()
+offer(1, NEW1 + 256)
+content(FIRST | LAST, 0, 0, GOOD1[:4])
+show()
+staging(0, 66)
+case('image: all bytes 0xFF: the CRC decides')
+bench()
+offer(1, NEW1)
+content(FIRST | LAST, 0, 0, b'\xFF')
+show()
+case('image: after a failure idle, not pending, bytes stay; the offer is taken again')
+fill(0xA5)
+bench()
+offer(1, NEW1)
+send(damaged(GOOD1))
+show()
+staging(0, 66)
+block(LAST, 2, 0, 4)
+offer(1, NEW1)
+send(GOOD1)
+show()
+staging(0, 66)
+case('image: after success idle: content is 0x0A, the offer REJECT 2, bytes stay')
+fill(0xA5)
+bench()
+offer(1, NEW1)
+send(GOOD1)
+content(0, 2, 0, b'\x00')
+content(FIRST, 0, 0, b'\x00')
+offer(1, NEW1 + 1)
+show()
+staging(0, 66)
+version_reply()
+
+# ------------------------------------------------------------ READY owed
+
+case('owed READY: a first block: not yet')
+offered_for_1()
+notify(0x71)
+content(FIRST, 0, 0, GOOD1[:52])
+show()
+case('owed READY: a middle block: not yet')
+receiving_for_1()
+notify(0x72)
+block(0, 1, 4, 4)
+show()
+case('owed READY: the last good block: it follows the reply')
+offered_for_1()
+notify(0x73)
+send(GOOD1)
+show()
+notify(0x74)
+case('owed READY: the last bad block: it follows the reply')
+offered_for_1()
+content(FIRST, 0, 0, GOOD1[:52])
+notify(0x75)
+content(LAST, 1, 52, GOOD1[51:63])
+show()
+case('owed READY: a last block with a wrong id: it follows the reply')
+offered_for_1()
+notify(0x76)
+send(GOOD2)
+show()
+case('owed READY: a first and last block: it follows the reply')
+setup([(1, V1, 8, 8)], lent=24)
+offer(1, NEW1)
+notify(0x00)
+send(image(1, NEW1, 8))
+show()
+case('owed READY: answers by content checks 2 to 5 do not bring it')
+offered_for_1()
+notify(0x77)
+block(FIRST, 0, 0, 0)
+block(LAST, 0, 0, 4)
+block(FIRST | LAST, 0, 64, 1)
+show()
+case('owed READY: refusals D2 and D3 do not bring it')
+offered_for_1()
+notify(0x77)
+lend(127)
+block(FIRST, 0, 0, 4)
+lend(128)
+frame('C', b'\x00' * 16)
+show()
+case('owed READY: code 0 drops it without a reply of its own')
+offered_for_1()
+notify(0x78)
+information(0)
+show()
+offer(1, NEW1)
+send(GOOD1)
+case('owed READY: codes 1 and 2 leave it')
+offered_for_1()
+notify(0x79)
+information(1)
+information(2)
+information(3)
+show()
+case('owed READY: reset drops it')
+offered_for_1()
+notify(0x7A)
+reset()
+show()
+offer(1, NEW1)
+send(GOOD1)
+show()
+case('owed READY: a second notify is BUSY, the first token is the one that comes')
+offered_for_1()
+notify(0x7B)
+notify(0x7C)
+offer(2, NEW2, token=0x7D)
+send(GOOD1)
+show()
+
+# ------------------------------------------------------------------ reset
+
+case('reset: idle, nothing pending: nothing changes')
+fill(0xA5)
+bench()
+reset()
+show()
+version_reply()
+staging(0, 130)
+case('reset: one component pending')
+fill(0xA5)
+bench()
+offer(1, NEW1)
+send(GOOD1)
+version_reply()
+reset()
+show()
+version_reply()
+staging(0, 130)
+offer(1, NEW1)
+offer(1, NEW1 + 1)
+show()
+case('reset: both pending')
+bench()
+offer(1, NEW1)
+send(GOOD1)
+offer(2, NEW2)
+send(GOOD2)
+show()
+reset()
+show()
+version_reply()
+case('reset: pending at the running version')
+record(BENCH, staged={0: V1})
+reset()
+show()
+case('reset: while offered')
+offered_for_1()
+reset()
+show()
+case('reset: while receiving, another pending, owing')
+fill(0xA5)
+record(BENCH, receiving(1, next_one=3), owed=0x44, staged={0: 0x01000500})
+reset()
+show()
+staging(0, 130)
+block(0, 3, 0, 4)
+case('reset: does not look at the lent length')
+bench()
+lend(5)
+reset()
+version_reply()
+show()
+case('reset: slots at and past the count stay unseen')
+record([(1, V1, 0, 64), (2, V2, 64, 64)], staged={0: NEW1, 1: NEW2}, count=1)
+reset()
+show()
+version_reply()
+
+case('version reply: running versions, not staged ones; any stage; nothing changes')
+record(BENCH, receiving(0, next_one=3), owed=0x44, staged={1: NEW2})
+version_reply()
+show()
+case('version reply: platform 0xABCD, low byte first')
+setup([(0xDF, 0x12345678, 0, 64)], platform=0xABCD)
+version_reply()
+
+# ------------------------------------------------------------- whole tales
+
+case('need: component 1 needs component 2\'s new version: SKIP, then ACCEPT once it is pending')
+bench()
+offer(1, NEW1, need=(2, 0x010002))
+offer(2, NEW2)
+send(GOOD2)
+show()
+offer(1, NEW1, need=(2, 0x010002))
+send(GOOD1)
+show()
+offer(2, NEW2)
+reset()
+show()
+version_reply()
+case('need: the staged version meets it, as it comes from the image and not from the offer')
+bench()
+offer(2, NEW2)
+send(image(2, 0x01000500))
+offer(1, NEW1, need=(2, 0x010006))
+offer(1, NEW1, need=(2, 0x010005))
+show()
+
+case('last year\'s fault: component 2\'s good image under an accepted offer for component 1: 0x04')
+fill(0xA5)
+bench()
+offer(1, NEW1)
+send(GOOD2)
+show()
+staging(0, 130)
+reset()
+show()
+version_reply()
+note('and a later correct image is taken')
+offer(1, NEW1)
+send(GOOD1)
+show()
+staging(0, 130)
+offer(2, NEW2)
+send(GOOD2)
+show()
+staging(0, 130)
+reset()
+show()
+version_reply()
+
+case('last year\'s fault the other way: component 1\'s good image for component 2: 0x04')
+fill(0xA5)
+bench()
+offer(2, NEW2)
+send(image(1, 0x01000300))
+show()
+staging(0, 130)
+
+case('seven components, each with an image of 64 bytes, one after another')
+fill(0xA5)
+LARGE = [(20 + i, 0x03000000 + 256 * i, 64 * (6 - i), 64) for i in range(7)]
+setup(LARGE, lent=448, platform=0x1234)
+for i in range(7):
+    offer(20 + i, 0x03000001 + 256 * i, token=i, platform=0x1234)
+    send(image(20 + i, 0x03000001 + 256 * i), sequence=1000 * i)
+show()
+staging(0, 224)
+staging(224, 226)
+reset()
+show()
+version_reply()
+
+sys.stdout.buffer.write(OUT)

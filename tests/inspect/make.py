@@ -1,0 +1,238 @@
+#!/usr/bin/env python3
+"""Bundles and what `inspect` must print of each, from document 01's layout alone.
+
+make.py DIR    writes DIR/NAME.bundle and DIR/NAME.expected for every case
+make.py e12    writes the bundle of E12, in E13's first order, to standard output
+"""
+import os
+import sys
+
+LIMIT = 65536  # bytes in a bundle, and in the program's buffer
+
+
+# Numbers and checksums
+
+def little(value, size):
+    return value.to_bytes(size, "little")
+
+
+def version(major, minor, variant):
+    return variant + (minor << 8) + (major << 24)
+
+
+def crc(data):
+    """CRC-16/XMODEM: polynomial 0x1021, start 0, no reflection, no final change."""
+    value = 0
+    for byte in data:
+        value ^= byte << 8
+        for _ in range(8):
+            value = (value << 1 ^ 0x1021 if value & 0x8000 else value << 1) & 0xFFFF
+    return value
+
+
+assert crc(b"123456789") == 0x31C3
+
+
+# The parts of a bundle
+
+def image(component, number, size=64):
+    """Version, component, free bytes that depend on their place, CRC with the high byte first."""
+    data = bytearray((37 * i + 11) % 256 for i in range(size))
+    data[0:4] = little(number, 4)
+    data[4] = component
+    data[size - 2:] = crc(data[:size - 2]).to_bytes(2, "big")
+    assert data[size - 2] != data[size - 1], "a CRC that reads the same both ways shows nothing"
+    return bytes(data)
+
+
+def record(address, data):
+    return little(address, 4) + bytes([len(data)]) + data
+
+
+def body(data, size=52):
+    return b"".join(record(i, data[i:i + size]) for i in range(0, len(data), size))
+
+
+def offer(component, number, need=0, least=0, platform=0x0042):
+    return (bytes([0, 0, component, 0]) + little(number, 4) + bytes([need]) + little(least, 3)
+            + bytes([2, 0]) + little(platform, 2))
+
+
+def bundle(parts):
+    """The head, an entry of 24 bytes for each (offer, body), and the bodies in order."""
+    at = 8 + 24 * len(parts)
+    head = bytes([len(parts), 1]) + bytes(6)
+    table = b""
+    for packet, blocks in parts:
+        table += packet + little(at, 4) + little(len(blocks), 4)
+        at += len(blocks)
+    return head + table + b"".join(blocks for _, blocks in parts)
+
+
+V130 = version(1, 3, 0)
+V120 = version(1, 2, 0)
+E12 = bundle([(offer(1, V130, need=2, least=V120 >> 8), body(image(1, V130))), (offer(2, V120), body(image(2, V120)))])
+assert len(E12) == 204 and E12[8 + 8:8 + 12] == bytes([2, 2, 0, 1])
+
+
+# Cases: a bundle, and the lines that are printed of it
+
+cases = {}
+
+
+def case(name, data, *lines):
+    assert name not in cases, name
+    cases[name] = (bytes(data), "".join(line + "\n" for line in lines))
+
+
+def refused(name, data, row, entry):
+    case(name, data, f"refused B{row} {entry}")
+
+
+def edited(data, *edits):
+    """The bundle with bytes put at places."""
+    out = bytearray(data)
+    for place, new in edits:
+        new = bytes([new]) if isinstance(new, int) else new
+        out[place:place + len(new)] = new
+    return bytes(out)
+
+
+def entry(i):
+    """Where entry i of the table stands, from 1."""
+    return 8 + 24 * (i - 1)
+
+
+def offset_of(i):
+    return entry(i) + 16
+
+
+def length_of(i):
+    return entry(i) + 20
+
+
+def simple(count, first=1, size=1):
+    """`count` offers of version 0.0.i, one record of `size` bytes each."""
+    return [(offer(first + i, version(0, 0, first + i)), record(0, bytes([first + i]) * size)) for i in range(count)]
+
+
+def simple_lines(count, first=1):
+    return [f"offers {count}"] + [f"{first + i} 0.0.{first + i} records 1" for i in range(count)]
+
+
+# accepted
+case("e12", E12, "offers 2", "1 1.3.0 records 2", "2 1.2.0 records 2")
+case("e12-other-order", bundle([(offer(2, V120), body(image(2, V120))), (offer(1, V130), body(image(1, V130)))]),
+     "offers 2", "2 1.2.0 records 2", "1 1.3.0 records 2")
+case("one-offer", bundle(simple(1)), *simple_lines(1))
+case("seven-offers", bundle(simple(7)), *simple_lines(7))
+case("ids-at-the-borders", bundle(simple(1) + simple(1, 0xDF)), "offers 2", "1 0.0.1 records 1", "223 0.0.223 records 1")
+case("largest-version", bundle([(offer(9, 0xFFFFFFFF), record(0, b"x"))]), "offers 1", "9 255.65535.255 records 1")
+case("records-of-1-and-52", bundle([(offer(3, 1), record(0, b"x") + record(0xFFFFFFFF, bytes(52)) + record(7, b"y"))]),
+     "offers 1", "3 0.0.1 records 3")
+case("platform-and-need-are-free", bundle([(offer(3, 1, need=0xFE, least=0xFFFFFF, platform=0xFFFF), record(0, b"x"))]),
+     "offers 1", "3 0.0.1 records 1")
+
+
+# the largest bundle: one body of 65,504 bytes, with as many records as a bundle can have
+full = bundle([(offer(5, V130), record(0, b"z") * 10916 + record(0, b"end"))])
+assert len(full) == LIMIT
+case("65536-bytes", full, "offers 1", "5 1.3.0 records 10917")
+refused("65536-bytes-last-record-cut", edited(full, (LIMIT - 4, 4)), 8, 1)
+refused("65536-bytes-last-record-short", edited(full, (LIMIT - 4, 2)), 8, 1)
+refused("65536-bytes-wrong-offset", edited(full, (offset_of(1), 33)), 7, 1)
+refused("65536-zeros", bytes(LIMIT), 2, 0)
+
+# B1
+refused("empty", b"", 1, 0)
+refused("one-byte", b"\x01", 1, 0)
+refused("seven-bytes", E12[:7], 1, 0)
+refused("65537-bytes", full + b"\x00", 1, 0)
+refused("65537-zeros", bytes(LIMIT + 1), 1, 0)
+refused("200000-bytes", E12 * 981, 1, 0)
+refused("eight-bytes-without-a-table", E12[:8], 4, 0)
+
+# B2
+refused("byte-1-zero", edited(E12, (1, 0)), 2, 0)
+refused("byte-1-two", edited(E12, (1, 2)), 2, 0)
+for place in range(2, 8):
+    refused(f"byte-{place}-not-zero", edited(E12, (place, 1 << (place - 1))), 2, 0)
+
+# B3
+refused("no-offers", edited(E12, (0, 0)), 3, 0)
+refused("eight-offers", bundle(simple(8)), 3, 0)
+refused("255-offers", edited(E12, (0, 255)), 3, 0)
+
+# B4
+refused("a-byte-short-of-the-table", E12[:55], 4, 0)
+refused("seven-offers-a-byte-short", bundle(simple(7))[:8 + 24 * 7 - 1], 4, 0)
+refused("the-table-alone", E12[:56], 7, 2)
+
+# B5, each clause at the first and at a later entry
+clauses = {"byte-0": (0, 1), "byte-1": (1, 0x40), "byte-3": (3, 0xA5), "byte-13": (13, 0x80), "byte-12-one": (12, 1), "byte-12-0x12": (12, 0x12),
+           "id-0": (2, 0), "id-0xe0": (2, 0xE0), "id-0xff": (2, 0xFF)}
+for name, (place, value) in clauses.items():
+    for i in (1, 2):
+        refused(f"{name}-at-{i}", edited(E12, (entry(i) + place, value)), 5, i)
+    refused(f"{name}-at-7", edited(bundle(simple(7)), (entry(7) + place, value)), 5, 7)
+
+# B6
+refused("id-repeated-at-2", edited(E12, (entry(2) + 2, 1)), 6, 2)
+refused("ids-1-2-1-2", bundle(simple(2) + simple(2)), 6, 3)
+refused("id-repeated-at-7", edited(bundle(simple(7)), (entry(7) + 2, 3)), 6, 7)
+
+# B7
+refused("offset-one-less-at-1", edited(E12, (offset_of(1), 55)), 7, 1)
+refused("offset-one-more-at-1", edited(E12, (offset_of(1), 57)), 7, 1)
+refused("offset-one-more-at-2", edited(E12, (offset_of(2), 131)), 7, 2)
+refused("offset-zero-at-2", edited(E12, (offset_of(2), 0)), 7, 2)
+refused("offset-far-at-1", edited(E12, (offset_of(1), little(0x80000038, 4))), 7, 1)
+refused("length-one-less-at-1", edited(E12, (length_of(1), 73)), 7, 2)
+refused("length-one-more-at-2", edited(E12, (length_of(2), 75)), 7, 2)
+refused("length-one-less-at-2", edited(E12, (length_of(2), 73)), 7, 2)
+refused("a-byte-after-the-last-body", E12 + b"\x00", 7, 2)
+refused("a-byte-short-of-the-last-body", E12[:-1], 7, 2)
+refused("length-past-the-end-and-chained", edited(E12, (length_of(1), little(1000, 4)), (offset_of(2), little(1056, 4))), 7, 2)
+refused("length-far-at-1", edited(bundle(simple(1)), (length_of(1), little(0xFFFFFFFF, 4))), 7, 1)
+refused("ends-that-wrap-in-32-bits", edited(E12, (length_of(1), little(0xFFFFFFFF, 4)), (offset_of(2), little(55, 4)), (length_of(2), little(149, 4))), 7, 2)
+
+# B8, each clause at the first and at a later entry
+good = record(0, b"x")
+bad_bodies = {"empty-body": b"", "cut-in-the-head": good + bytes(4), "head-alone": good + record(0, b"12")[:5], "cut-in-the-data": good + record(0, b"12")[:6],
+              "length-0": good + record(0, b""), "length-0-alone": record(0, b""), "length-53": record(0, bytes(53)), "length-255": record(0, bytes(255))}
+for name, blocks in bad_bodies.items():
+    for i in (1, 2, 7):
+        parts = simple(max(i, 2))
+        parts[i - 1] = (parts[i - 1][0], blocks)
+        refused(f"{name}-at-{i}", bundle(parts), 8, i)
+
+# borders: several faults, and the row and entry that come first
+refused("b1-before-b2", edited(E12, (1, 0))[:7], 1, 0)
+refused("b2-before-b3", edited(E12, (1, 0), (0, 0)), 2, 0)
+refused("b3-before-b4", edited(E12, (0, 9))[:56], 3, 0)
+refused("b4-before-b5", edited(E12, (entry(1), 1))[:55], 4, 0)
+refused("b5-at-2-before-b7-and-b8-at-1", edited(E12, (entry(2) + 12, 3), (offset_of(1), 0), (56 + 4, 0)), 5, 2)
+refused("b5-at-7-before-b6-at-2", edited(bundle(simple(7)), (entry(2) + 2, 1), (entry(7) + 13, 1)), 5, 7)
+refused("b6-at-2-before-b7-at-1", edited(E12, (entry(2) + 2, 1), (offset_of(1), 0)), 6, 2)
+refused("b6-at-3-before-b8-at-1", edited(bundle(simple(3)), (entry(3) + 2, 2), (80 + 4, 0)), 6, 3)
+refused("b7-at-2-before-b8-at-1", edited(E12, (offset_of(2), 0), (56 + 4, 0)), 7, 2)
+refused("b7-at-the-end-before-b8-at-1", edited(E12, (56 + 4, 0)) + b"\x00", 7, 2)
+refused("b8-at-1-and-2", edited(E12, (56 + 4, 0), (130 + 4, 0)), 8, 1)
+refused("two-clauses-of-b5-in-two-entries", edited(E12, (entry(2), 1), (entry(1) + 2, 0)), 5, 1)
+
+
+def main():
+    if len(sys.argv) != 2:
+        sys.exit(__doc__)
+    if sys.argv[1] == "e12":
+        sys.stdout.buffer.write(E12)
+        return
+    os.makedirs(sys.argv[1], exist_ok=True)
+    for name, (data, text) in cases.items():
+        with open(os.path.join(sys.argv[1], name + ".bundle"), "wb") as out:
+            out.write(data)
+        with open(os.path.join(sys.argv[1], name + ".expected"), "w") as out:
+            out.write(text)
+
+
+main()

@@ -1,0 +1,174 @@
+#!/usr/bin/env python3
+"""Tries tools/rust_crate on forms that few rooms have: two small rooms, beside a program and what it prints with, made into a crate that rustc
+compiles without a warning; then each thing that the script does not know, which it must name with its file and line. Status 1 where one goes
+otherwise."""
+import os
+import shutil
+import subprocess
+import sys
+import tempfile
+
+SCRIPT = os.path.join(os.path.dirname(os.path.abspath(__file__)), '..', '..', 'tools', 'rust_crate')
+
+CRATES = '# rooms\nlow:\nhigh: low\n\n# programs, and what they print with\nshow: io\ntool: show high low io\n'
+LOW = '''// The low room: [brackets] and <signs> in words, `a[0]` as code.
+ghost use mathlib.Core.Path.{_≡_};
+ghost use lib.ListN.{length,
+    take};
+pub mod part; // part.rt: a module
+
+// A pair.
+#[repr(C)]
+pub struct Pair {
+    // The left one.
+    pub left: u16,
+    pub right: u16,
+}
+
+// A lent number.
+pub struct Lent<'a>(pub &'a mut u8);
+
+// What was found.
+pub enum Found {
+    // Nothing.
+    Nothing,
+    At { place: usize },
+}
+'''
+PART = '''// A module whose name the high room has too.
+use crate::Found;
+use crate::Pair;
+use std::num::wrapping_sub_u8;
+
+// For C.
+#[no_mangle]
+pub extern "C" fn next(a: u16) -> u16
+    ensures wraps { λ x'. ⌜ x' ≡ (record { value = a } .value + 1) % 2 ^ 16 ⌝ }
+    // about the clause below
+    ensures { λ r. ⌜ T {r} ⌝ }
+{
+    std::num::wrapping_add_u16(a, 1)
+}
+
+pub(crate) fn before(a: u8) -> u8
+    ghost { ℕ }
+    requires { λ g. ⌜ a ≡ g ⌝ }
+{
+    wrapping_sub_u8(a, b'\\x01')
+}
+
+impl Pair {
+    // The left one, whatever b is.
+    pub fn left_of(self, b: u8) -> u16
+        ensures { λ r. ⌜ r ≡ leftOf self b ⌝ }
+    {
+        self.left
+    }
+}
+
+pub fn first(p: Pair, xs: [u8; 2]) -> Found {
+    let words = b"{ requires }";
+    // Not documentation.
+    if before(xs[0]) == words[0] && p.left < 3 {
+        return Found::At { place: xs.len() };
+    }
+    Found::Nothing
+}
+'''
+HIGH = '''use low::Pair;
+use low::part as below;
+
+mod part;
+
+pub fn both(p: Pair) -> u16 {
+    let left = low::part::next(p.left);
+    part::kept(left) + below::next(p.right)
+}
+'''
+KEPT = '''// A private module may ask something of its callers.
+pub fn kept(a: u16) -> u16
+    requires { ⌜ a ≤ 7 ⌝ }
+{
+    a
+}
+'''
+ROOMS = {
+    'crates.txt': CRATES,
+    'crates/low/src/lib.rt': LOW,
+    'crates/low/src/part.rt': PART,
+    'crates/high/src/lib.rt': HIGH,
+    'crates/high/src/part.rt': KEPT,
+    'crates/show/src/lib.rt': 'pub fn line(s: &[u8]) {\n    io::write_all(1, s);\n}\n',
+    'crates/tool/src/main.rt': 'fn main() {\n    show::line(b"x");\n}\n',
+}
+
+# What must stand in the made crate.
+MADE = {
+    'src/lib.rs': ['pub mod low;\npub mod high;\n'],
+    'src/low/mod.rs': ['//! The low room: \\[brackets\\] and \\<signs\\> in words, `a[0]` as code.\npub mod part; // part.rt: a module\n',
+                       '/// A pair.\n#[repr(C)]\n#[derive(Clone, Copy, Debug, PartialEq, Eq)]\npub struct Pair {\n    /// The left one.\n',
+                       '#[derive(Debug, PartialEq, Eq)]\npub struct Lent', '    /// Nothing.\n    Nothing,\n'],
+    'src/low/part.rs': ['use crate::low::Pair;\n\n/// For C.\npub fn next(a: u16) -> u16 {\n    u16::wrapping_add(a, 1)\n}\n',
+                        'pub(in crate::low) fn before(a: u8) -> u8 {\n    u8::wrapping_sub(a, b', '    // Not documentation.\n',
+                        '    /// The left one, whatever b is.\n    #[allow(unused_variables)] // only the contract names b\n    pub fn left_of(self, b'],
+    'src/high/mod.rs': ['use crate::low::Pair;\nuse crate::low::part as below;\n', '= crate::low::part::next(p.left);\n    part::kept(left) + below::next('],
+}
+
+# A text of KEPT, what it becomes, and what the script must say then.
+UNKNOWN = [
+    ('{\n    a', '{\n    io::a', 'crates/high/src/part.rt:5: `io::`'),
+    ('{\n    a', '{\n    crc::a', 'crates/high/src/part.rt:5: `crc::`'),
+    ('{\n    a', '{\n    std::mem::a', 'crates/high/src/part.rt:5: `std::mem`'),
+    ('{\n    a', '{\n    std::num::truncating_f64_to_u64(a)', 'crates/high/src/part.rt:5: `std::num::truncating_f64_to_u64`'),
+    ('{\n    a', '{\n    a ≡ 1', "crates/high/src/part.rt:5: a character that is not known outside a contract: '≡'"),
+    ('pub fn', 'use io::print;\npub fn', 'crates/high/src/part.rt:2: `use io`'),
+    ('pub fn', '#[cold]\npub fn', 'crates/high/src/part.rt:2: an attribute'),
+    ('pub fn', 'extern "C" {}\npub fn', 'crates/high/src/part.rt:2: a function of C'),
+    ('pub fn', 'ghost let x = 1;\npub fn', 'crates/high/src/part.rt:2: `ghost`'),
+    ('≤ 7 ⌝ }', '≤ 7 ⌝', 'crates/high/src/part.rt:3: a clause whose brace is not closed'),
+    ('a: u16', 'a: f32', 'crates/high/src/part.rt:2: a float'),
+]
+
+
+def run(files, top):
+    """What the script says of these files, and its status; the crate goes to top/out."""
+    shutil.rmtree(top, ignore_errors=True)
+    for part, text in files.items():
+        os.makedirs(os.path.dirname(os.path.join(top, part)), exist_ok=True)
+        open(os.path.join(top, part), 'w', encoding='utf-8').write(text)
+    os.makedirs(os.path.join(top, 'tools'))
+    shutil.copy(SCRIPT, os.path.join(top, 'tools'))
+    done = subprocess.run([sys.executable, 'tools/rust_crate', 'out'], cwd=top, capture_output=True, text=True)
+    return done.stdout + done.stderr, done.returncode
+
+
+def main():
+    with tempfile.TemporaryDirectory() as place:
+        top = os.path.join(place, 'top')
+        told, status = run(ROOMS, top)
+        if status != 0:
+            print(f'forms: no crate is made: {told}')
+            return 1
+        for part, texts in MADE.items():
+            made = open(os.path.join(top, 'out', part), encoding='utf-8').read()
+            for text in texts:
+                if text not in made:
+                    print(f'forms: {part} is without\n{text}\nand says\n{made}')
+                    return 1
+        built = subprocess.run(['cargo', 'build', '--offline', '--quiet'], cwd=os.path.join(top, 'out'),
+                               env=dict(os.environ, RUSTFLAGS='-D warnings', CARGO_TARGET_DIR=os.path.join(top, 'build')))
+        if built.returncode != 0:
+            print('forms: the crate does not build')
+            return 1
+        opened = ('crates/high/src/lib.rt', 'mod part;', 'pub mod part;', 'crates/high/src/part.rt:3: a `requires` on a public function')
+        for path, old, new, expected in [('crates/high/src/part.rt', *case) for case in UNKNOWN] + [opened]:
+            told, status = run({**ROOMS, path: ROOMS[path].replace(old, new)}, top)
+            if status != 1 or not told.startswith(f'tools/rust_crate: {expected}') or os.path.exists(os.path.join(top, 'out')):
+                print(f'forms: expected {expected}\nand came {told}')
+                return 1
+    print(f'forms: a crate of {len(MADE)} files as expected, {len(UNKNOWN) + 1} unknown things named')
+    return 0
+
+
+if __name__ == '__main__':
+    sys.exit(main())

@@ -1,0 +1,181 @@
+//! The CRC, a region of the staging buffer, the image in it, a component's versions, and set-up: document 01, "The device", rows S1 to S4, and the
+//! addresses of E8 and E9. Written from that document.
+use cfu_updater::component::record::{Component, Listed};
+use cfu_updater::component::rule::VersionVerdict;
+use cfu_updater::component::setup::{setup_verdict, SetupVerdict};
+use cfu_updater::crc16::crc16;
+use cfu_updater::image::judge::{examine, Image};
+use cfu_updater::image::region::{Region, StagingOffset};
+use cfu_updater::wire::address::RegionAddress;
+use cfu_updater::wire::version::Version;
+
+fn region(base: u32, len: u32) -> Region {
+    Region {
+        base: StagingOffset(base),
+        len,
+    }
+}
+
+/// An image of `size` bytes: version, id, filling, and the CRC of all before it, high byte first.
+fn image(size: usize, version: Version, id: u8) -> Vec<u8> {
+    let mut m: Vec<u8> = (0..size - 2).map(|i| i as u8).collect();
+    m[..4].copy_from_slice(&version.bytes());
+    m[4] = id;
+    let crc = crc16(&m);
+    m.extend(crc.to_be_bytes());
+    m
+}
+
+#[test]
+fn the_crc_gives_its_check_value() {
+    assert_eq!(crc16(b"123456789"), 0x31C3);
+    assert_eq!(crc16(b""), 0);
+    assert_eq!(crc16(&[0; 64]), 0);
+    // The polynomial itself, from a single bit.
+    assert_eq!(crc16(&[1]), 0x1021);
+    // Bytes with their own CRC behind them have the CRC 0.
+    assert_eq!(crc16(b"123456789\x31\xC3"), 0);
+}
+
+#[test]
+fn e8_and_e9_addresses_in_a_region_of_64() {
+    for r in [region(0, 64), region(64, 64)] {
+        assert!(r.holds(RegionAddress(12), 52));
+        assert!(!r.holds(RegionAddress(13), 52));
+        assert!(!r.holds(RegionAddress(0xFFFFFFFF), 1));
+        assert!(r.holds(RegionAddress(63), 1));
+        assert!(!r.holds(RegionAddress(64), 1));
+    }
+}
+
+#[test]
+fn erase_and_write_change_their_own_bytes_only() {
+    let mut staging = [0x11; 128];
+    region(64, 64).erase(&mut staging);
+    assert!(staging[..64].iter().all(|b| *b == 0x11));
+    assert!(staging[64..].iter().all(|b| *b == 0xFF));
+    region(64, 64).write(RegionAddress(12), &mut staging, &[0x22; 52]);
+    assert!(staging[64..76].iter().all(|b| *b == 0xFF));
+    assert!(staging[76..].iter().all(|b| *b == 0x22));
+    assert!(staging[..64].iter().all(|b| *b == 0x11));
+    let before = staging;
+    region(64, 64).write(RegionAddress(13), &mut staging, &[0x33; 52]);
+    region(0, 64).write(RegionAddress(0xFFFFFFFF), &mut staging, &[0x33]);
+    assert_eq!(staging, before);
+}
+
+#[test]
+fn an_image_is_judged_by_crc_then_id_then_its_version() {
+    let v = Version::new(1, 3, 0);
+    for size in [8, 64, 500] {
+        let m = image(size, v, 1);
+        assert_eq!(examine(&m, 1), Image::Bears(v), "{size} bytes");
+        assert_eq!(examine(&m, 2), Image::Foreign, "{size} bytes");
+        for i in 0..size {
+            let mut damaged = m.clone();
+            damaged[i] ^= 0x10;
+            assert_eq!(examine(&damaged, 1), Image::Damaged, "{size} bytes, byte {i}");
+            assert_eq!(examine(&damaged, 2), Image::Damaged, "{size} bytes, byte {i}");
+        }
+    }
+}
+
+#[test]
+fn an_image_is_read_from_its_region() {
+    let v = Version::new(1, 2, 7);
+    let mut staging = [0; 128];
+    staging[64..].copy_from_slice(&image(64, v, 2));
+    assert_eq!(region(64, 64).image(&staging, 2), Image::Bears(v));
+    assert_eq!(region(64, 63).image(&staging, 2), Image::Damaged);
+}
+
+/// Set-up of components with these ids and regions, over a buffer of n bytes.
+fn set_up(n: usize, count: u8, some: &[(u8, u32, u32)]) -> SetupVerdict {
+    let listed = |(id, base, len)| {
+        Component::listed(Listed {
+            id,
+            running: Version::new(1, 0, 0),
+            region: region(base, len),
+        })
+    };
+    let mut parts = [listed((0, 0, 0)); 7];
+    for (part, told) in parts.iter_mut().zip(some) {
+        *part = listed(*told);
+    }
+    setup_verdict(n, count, parts)
+}
+
+#[test]
+fn set_up_rows_s1_to_s4() {
+    let bench = [(1, 0, 64), (2, 64, 64)];
+    assert_eq!(set_up(128, 2, &bench), SetupVerdict::Fine);
+    assert_eq!(set_up(65536, 2, &bench), SetupVerdict::Fine);
+    // S1 comes first, over a count, ids and regions that are wrong too.
+    assert_eq!(set_up(65537, 2, &bench), SetupVerdict::S1);
+    assert_eq!(set_up(65537, 0, &[]), SetupVerdict::S1);
+    for count in [0, 8, 255] {
+        assert_eq!(set_up(128, count, &bench), SetupVerdict::S2, "count {count}");
+    }
+    for id in [0, 0xE0, 0xFD, 0xFF] {
+        assert_eq!(set_up(128, 2, &[(1, 0, 64), (id, 64, 64)]), SetupVerdict::S3, "id {id}");
+    }
+    assert_eq!(set_up(128, 2, &[(1, 0, 64), (0xDF, 64, 64)]), SetupVerdict::Fine);
+    assert_eq!(set_up(128, 2, &[(1, 0, 64), (1, 64, 64)]), SetupVerdict::S3);
+    // S3 over the whole list before S4.
+    assert_eq!(set_up(128, 2, &[(1, 0, 7), (0, 64, 64)]), SetupVerdict::S3);
+    let regions = [(64, 7), (64, 65), (63, 64), (0, 64), (32, 8), (0xFFFFFFFF, 64), (0xFFFFFFC0, 64), (64, 0xFFFFFFFF)];
+    for (base, len) in regions {
+        assert_eq!(set_up(128, 2, &[(1, 0, 64), (2, base, len)]), SetupVerdict::S4, "region {base} {len}");
+    }
+    // Regions may touch, in either order, and seven of the shortest are allowed.
+    assert_eq!(set_up(128, 2, &[(1, 64, 64), (2, 0, 64)]), SetupVerdict::Fine);
+    let seven: Vec<_> = (1..=7).map(|id| (id, 8 * u32::from(id), 8)).collect();
+    assert_eq!(set_up(64, 7, &seven), SetupVerdict::Fine);
+    assert_eq!(set_up(63, 7, &seven), SetupVerdict::S4);
+    // Only the first `count` components are the device's.
+    assert_eq!(set_up(128, 1, &[(1, 0, 64), (1, 0, 64)]), SetupVerdict::Fine);
+}
+
+#[test]
+fn a_staged_version_is_effective_until_a_reset_makes_it_running() {
+    let (old, new) = (Version::new(1, 2, 0), Version::new(1, 3, 0));
+    let c = Component::listed(Listed {
+        id: 1,
+        running: old,
+        region: region(0, 64),
+    });
+    assert!(!c.is_pending());
+    assert_eq!(c.effective(), old);
+    let staged = c.with_staged(new);
+    assert!(staged.is_pending());
+    assert_eq!((staged.effective(), staged.running), (new, old));
+    let reset = staged.after_reset();
+    assert!(!reset.is_pending());
+    assert_eq!((reset.effective(), reset.running), (new, new));
+}
+
+/// Offer check 7 asks for a greater version than the running one; image judgement and D1 refuse only a lower one. All as 32-bit numbers.
+#[test]
+fn versions_against_the_running_one() {
+    let c = Component::listed(Listed {
+        id: 1,
+        running: Version::new(1, 2, 7),
+        region: region(0, 64),
+    });
+    let lower = [Version::new(1, 2, 6), Version::new(1, 1, 255), Version::new(0, 65535, 255)];
+    let greater = [Version::new(1, 2, 8), Version::new(1, 3, 0), Version::new(2, 0, 0), Version::new(255, 65535, 255)];
+    for v in lower {
+        assert_eq!(c.offer_version(v), VersionVerdict::Old);
+        assert!(!c.image_version_fits(v));
+        assert!(!c.with_staged(v).keeps_staged());
+    }
+    for v in greater {
+        assert_eq!(c.offer_version(v), VersionVerdict::Fits);
+        assert!(c.image_version_fits(v));
+        assert!(c.with_staged(v).keeps_staged());
+    }
+    assert_eq!(c.offer_version(c.running), VersionVerdict::Old);
+    assert!(c.image_version_fits(c.running));
+    assert!(c.with_staged(c.running).keeps_staged());
+    assert!(c.keeps_staged());
+}

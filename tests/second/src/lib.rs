@@ -1,0 +1,16 @@
+//! A second implementation of the updater, written from document 01 alone.
+//! It is made to be read next to that document: the modules follow its
+//! headings, the functions its rows, and each names the row it stands for.
+#![forbid(unsafe_code)]
+
+pub mod bundle;
+pub mod crc;
+pub mod device;
+pub mod host;
+pub mod packets;
+pub mod refusal;
+pub mod run;
+pub mod version;
+
+#[cfg(test)]
+mod examples;

@@ -1,9 +1,6 @@
 // Runs a script of frames from standard input, at most 65,536 bytes of it: every kind of packet, built and read, and the CRC.
 // A line for each case says what was asked and what came, or the refusal with its zeroed packet or fields. Bytes, ids, tokens, codes and
 // addresses are hexadecimal; counts, lengths, protocols and the parts of a version are decimal.
-mod names; // names.rt: the words of a line
-mod print; // print.rt: what a line is made of
-mod payload; // payload.rt: the parts of a payload
 mod version_frames; // version_frames.rt: the version reply
 mod offer_frames; // offer_frames.rt: the offer channel
 mod content_frames; // content_frames.rt: the content channel

@@ -3,12 +3,11 @@
 ghost use Prim.Native.Nat.{_≤_, _<_};
 ghost use lib.ListN.{length};
 use crate::content_frames;
-use crate::names;
 use crate::offer_frames;
-use crate::payload::byte;
-use crate::print;
 use crate::version_frames;
-use libc::STDOUT_FILENO;
+use show::line;
+use show::names;
+use show::payload::byte;
 use wire::verdict::Verdict;
 
 // How many bytes a payload of this kind has, where a packet is built; n otherwise.
@@ -41,39 +40,40 @@ fn case(kind: u8, p: &[u8]) {
         b'S' => content_frames::build_reply(p),
         b's' => content_frames::read_reply(p),
         b'x' => {
-            print::bytes(p);
-            print::gives(Verdict::Served);
-            print::hex(names::SPACE, crc16::crc16(p) as u32, 4);
+            line::bytes(p);
+            line::gives(Verdict::Served);
+            line::hex16(names::SPACE, crc16::crc16(p));
         }
-        _ => print::name(names::BAD_FRAME),
+        _ => line::word(names::BAD_FRAME),
     }
 }
 
-fn show(kind: u8, p: &[u8]) {
+// A text is its own answer; what any other frame gives ends the line.
+fn answer(kind: u8, p: &[u8]) {
     if kind == b'#' {
-        io::write_all(STDOUT_FILENO, p);
+        show::text(p);
         return;
     }
     let n = p.len();
     if n == payload(kind, n) {
         case(kind, p);
     } else {
-        print::name(names::BAD_FRAME);
+        line::word(names::BAD_FRAME);
     }
-    print::name(names::END);
+    line::word(names::END);
 }
 
-// Shows the frame at the start of s and gives its length; a cut frame takes the rest.
+// Answers the frame at the start of s and gives its length; a cut frame takes the rest.
 fn frame(s: &[u8]) -> usize
     requires { ⌜ 0 < length (now s) ⌝ }
     ensures { λ r. ⌜ (0 < r) × (r ≤ length (now (s .entry))) ⌝ }
 {
     let n = s.len();
-    let end = 2 + byte(s, 1) as usize;
+    let end = 2 + byte(s, 1, 0) as usize;
     if n < end {
         return n;
     }
-    show(byte(s, 0), &s[2..end]);
+    answer(byte(s, 0, 0), &s[2..end]);
     end
 }
 

@@ -1,11 +1,11 @@
--- `print::part` is safe and ends. Assumes nothing.
+-- `line::part` is safe and ends. Assumes nothing.
 use Prim.Native.Nat.{_≤_, _-_}
 use borrow.Author.Needs.{needs}
 use native.Mathlib.Omega.{arith}
 use lib.ListN.{length}
 use mathlib.Core.Logic.{⊎-elim}
-use Rattle.packets_run.proofs.print.part.Statement.{statement}
-use Rattle.packets_run.proofs.print.part.Tie as tie
+use Rattle.show.proofs.line.part.Statement.{statement}
+use Rattle.show.proofs.line.part.Tie as tie
 
 abbrev Inv-loop : tie.InvT-loop
 Inv-loop s k bars₀ i₀ bars i = (i ≤ length s) × (bars ≤ i)
@@ -22,20 +22,20 @@ shared-slice-read-if1 c = search needs
 add-bars : tie.Need-add-bars Inv-loop μ-loop
 add-bars c = search needs
 
-add-write-all : tie.Need-add-write-all Inv-loop μ-loop
-add-write-all c = search needs
+add-text : tie.Need-add-text Inv-loop μ-loop
+add-text c = search needs
 
-sub-write-all : tie.Need-sub-write-all Inv-loop μ-loop
-sub-write-all c = search needs
+sub-text : tie.Need-sub-text Inv-loop μ-loop
+sub-text c = search needs
 
-part-write-all-start : tie.Need-part-write-all-start Inv-loop μ-loop
-part-write-all-start c = search needs
+part-text-start : tie.Need-part-text-start Inv-loop μ-loop
+part-text-start c = search needs
 
-part-write-all-end : tie.Need-part-write-all-end Inv-loop μ-loop
-part-write-all-end c = search needs
+part-text-end : tie.Need-part-text-end Inv-loop μ-loop
+part-text-end c = search needs
 
-write-all-requires : tie.Need-write-all-requires Inv-loop μ-loop
-write-all-requires c κs = search needs
+text-requires : tie.Need-text-requires Inv-loop μ-loop
+text-requires c κs = search needs
 
 add-i : tie.Need-add-i Inv-loop μ-loop
 add-i c = search needs
@@ -59,11 +59,11 @@ part-spec =
     loop-holds
     shared-slice-read-if1
     add-bars
-    add-write-all
-    sub-write-all
-    part-write-all-start
-    part-write-all-end
-    write-all-requires
+    add-text
+    sub-text
+    part-text-start
+    part-text-end
+    text-requires
     add-i
     loop-less
     loop-again

@@ -1,6 +1,5 @@
-// What a line is made of: words, numbers under their names, bytes, and the row of a verdict.
+// What a line is made of: words by number, numbers behind a word, bytes, and the row of a verdict.
 use crate::names;
-use libc::STDOUT_FILENO;
 use wire::verdict::Verdict;
 use wire::version::Version;
 
@@ -12,17 +11,17 @@ fn part(s: &[u8], k: usize) {
         if s[i] == b'/' {
             bars += 1;
         } else if bars == k {
-            io::write_all(STDOUT_FILENO, &s[i..i + 1]);
+            crate::text(&s[i..i + 1]);
         }
         i += 1;
     }
 }
 
 // A word of names.rt: they stand here in the order of their numbers.
-pub fn name(k: usize) {
+pub fn word(k: usize) {
     part(
         b" / ->/ refused P1,/ refused P2,/ refused P1/ bad frame/\n\
-        / count / protocol / | id / version /./ platform \
+        / count / protocol / | id / version / platform \
         / segment / I / V / id / token / need / least / offer/ information/ extended/ code / reason / status \
         / flags / length / sequence / address / data/",
         k,
@@ -30,49 +29,56 @@ pub fn name(k: usize) {
 }
 
 pub fn decimal8(k: usize, x: u8) {
-    name(k);
-    io::print_decimal(STDOUT_FILENO, x as u64);
+    word(k);
+    crate::decimal(x as u64);
 }
 
 pub fn hex8(k: usize, x: u8) {
-    name(k);
-    io::print_hex(STDOUT_FILENO, x as u64, 2);
+    word(k);
+    crate::byte(x);
 }
 
-pub fn hex(k: usize, x: u32, digits: usize) {
-    name(k);
-    io::print_hex(STDOUT_FILENO, x as u64, digits);
+pub fn hex16(k: usize, x: u16) {
+    word(k);
+    crate::hex(x as u64, 4);
 }
 
-// Major, minor and variant.
-pub fn version(v: Version) {
-    decimal8(names::VERSION, v.major());
-    name(names::POINT);
-    io::print_decimal(STDOUT_FILENO, v.minor() as u64);
-    decimal8(names::POINT, v.variant());
+// A number of 24 or 32 bits.
+pub fn hex32(k: usize, x: u32, digits: usize) {
+    word(k);
+    crate::hex(x as u64, digits);
+}
+
+pub fn version(k: usize, v: Version) {
+    word(k);
+    crate::version(v);
 }
 
 // Each byte behind a space.
-pub fn bytes(p: &[u8]) {
-    let mut i = 0;
-    while i < p.len() {
-        hex8(names::SPACE, p[i]);
-        i += 1;
+pub fn bytes(s: &[u8]) {
+    if 0 < s.len() {
+        word(names::SPACE);
+        crate::bytes(s);
     }
 }
 
 // What stands between what was asked and what came, with the refusal where there is one.
 pub fn gives(v: Verdict) {
-    name(names::GIVES);
+    word(names::GIVES);
     match v {
         Verdict::Served => {}
-        Verdict::P1 => name(names::REFUSED_P1),
-        Verdict::P2 => name(names::REFUSED_P2),
+        Verdict::P1 => word(names::REFUSED_P1),
+        Verdict::P2 => word(names::REFUSED_P2),
     }
 }
 
-// The packet that is built.
+// What was built.
 pub fn built(v: Verdict, p: &[u8]) {
     gives(v);
     bytes(p);
+}
+
+// A packet of 16 bytes that is always built.
+pub fn packet(p: [u8; 16]) {
+    built(Verdict::Served, &p);
 }

@@ -1,4 +1,4 @@
-// Numbers and records in the payload of a frame.
+// Records in the payload of a frame.
 use component::record::Component;
 use component::record::Listed;
 use component::record::Staged;
@@ -9,41 +9,11 @@ use device::record::Receiving;
 use device::record::Stage;
 use image::region::Region;
 use image::region::StagingOffset;
-use wire::version::Version;
-use wire::words;
-
-// Byte k of a part of the payload that starts at `at`; past its end stands 0.
-pub fn byte(p: &[u8], at: u8, k: u8) -> u8 {
-    let i = at as usize + k as usize;
-    if i < p.len() { p[i] } else { 0 }
-}
-
-pub fn word16(p: &[u8], at: u8, k: u8) -> u16 {
-    words::word16(byte(p, at, k), byte(p, at, plus(k, 1)))
-}
-
-pub fn word32(p: &[u8], at: u8, k: u8) -> u32 {
-    words::word32(
-        byte(p, at, k),
-        byte(p, at, plus(k, 1)),
-        byte(p, at, plus(k, 2)),
-        byte(p, at, plus(k, 3)),
-    )
-}
-
-// A place further on, as far as a payload goes.
-fn plus(k: u8, n: u8) -> u8 {
-    if n <= 255 - k { k + n } else { 255 }
-}
-
-fn version(p: &[u8], at: u8, k: u8) -> Version {
-    Version::read(
-        byte(p, at, k),
-        byte(p, at, plus(k, 1)),
-        byte(p, at, plus(k, 2)),
-        byte(p, at, plus(k, 3)),
-    )
-}
+use show::payload::byte;
+use show::payload::plus;
+use show::payload::version;
+use show::payload::word16;
+use show::payload::word32;
 
 fn region(p: &[u8], at: u8, k: u8) -> Region {
     let base = word32(p, at, k);

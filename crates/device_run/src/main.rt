@@ -2,9 +2,10 @@
 use device::record::Device;
 use device::setup::set_up;
 use libc::STDIN_FILENO;
+use show::payload;
 use show::text;
 
-mod frame; // frame.rt: numbers and records in a frame
+mod frame; // frame.rt: records in a frame
 mod tell; // tell.rt: what is printed
 
 // What a script runs against, beside the buffer: the record, and how many bytes of the buffer are lent.
@@ -24,12 +25,12 @@ fn bad_frame(b: Bench) -> Bench {
 }
 
 fn run_set_up(p: &[u8], buffer: &[u8]) -> Bench {
-    let lent = lendable(frame::word32(p, 2, 0));
+    let lent = lendable(payload::word32(p, 2, 0));
     let list = frame::list(p);
     let a = set_up(
-        frame::word16(p, 0, 0),
+        payload::word16(p, 0, 0),
         list,
-        frame::byte(p, 6, 0),
+        payload::byte(p, 6, 0),
         show::first(buffer, lent),
     );
     let verdict = a.verdict;
@@ -100,7 +101,7 @@ fn run_content(b: Bench, p: &[u8], buffer: &mut [u8]) -> Bench {
 }
 
 fn run_lend(b: Bench, p: &[u8]) -> Bench {
-    let n = frame::word32(p, 0, 0);
+    let n = payload::word32(p, 0, 0);
     let device = b.device;
     text(b"lent ");
     show::decimal(n as u64);
@@ -127,11 +128,11 @@ fn run_show(b: Bench) -> Bench {
 }
 
 fn run_bytes(b: Bench, p: &[u8], buffer: &[u8]) -> Bench {
-    let at = frame::word32(p, 0, 0);
+    let at = payload::word32(p, 0, 0);
     text(b"staging from ");
     show::decimal(at as u64);
     text(b": ");
-    show::bytes(show::part(buffer, at as usize, frame::byte(p, 4, 0) as usize));
+    show::bytes(show::part(buffer, at as usize, payload::byte(p, 4, 0) as usize));
     text(b"\n");
     b
 }
@@ -192,7 +193,7 @@ fn run_frame(b: Bench, kind: u8, p: &[u8], buffer: &mut [u8]) -> Bench {
         return run_content(b, p, buffer);
     }
     if (kind == b'F') & (p.len() == 1) {
-        run_fill(buffer, frame::byte(p, 0, 0));
+        run_fill(buffer, payload::byte(p, 0, 0));
         return b;
     }
     run_still(b, kind, p, buffer)

@@ -1,20 +1,15 @@
-// Every kind of packet, built and read, and the CRC: a line for each case, with what was asked and what came.
-// Bytes, ids, tokens, codes and addresses are hexadecimal; counts, lengths, protocols and the parts of a version are decimal.
-mod print; // print.rt: what a line is made of
-mod version_cases; // version_cases.rt: the version reply
-mod offer_cases; // offer_cases.rt: offers
-mod signal_cases; // signal_cases.rt: information and extended
-mod offer_reply_cases; // offer_reply_cases.rt: the offer reply
-mod content_cases; // content_cases.rt: content
-mod content_reply_cases; // content_reply_cases.rt: the content reply
-mod crc_cases; // crc_cases.rt: the CRC
+// Runs a script of frames from standard input, at most 65,536 bytes of it: every kind of packet, built and read, and the CRC.
+// A line for each case says what was asked and what came, or the refusal with its zeroed packet or fields. Bytes, ids, tokens, codes and
+// addresses are hexadecimal; counts, lengths, protocols and the parts of a version are decimal.
+mod version_frames; // version_frames.rt: the version reply
+mod offer_frames; // offer_frames.rt: the offer channel
+mod content_frames; // content_frames.rt: the content channel
+mod script; // script.rt: the frames, one after the other
+
+use libc::STDIN_FILENO;
 
 fn main() {
-    version_cases::run();
-    offer_cases::run();
-    signal_cases::run();
-    offer_reply_cases::run();
-    content_cases::run();
-    content_reply_cases::run();
-    crc_cases::run();
+    let mut bytes = [0u8; 65536];
+    let n = io::read_full(STDIN_FILENO, &mut bytes);
+    script::run(&bytes[..n]);
 }

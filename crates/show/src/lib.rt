@@ -1,4 +1,8 @@
-// What the programs print lines with: words, numbers, bytes, versions. Nothing here decides anything.
+// What the programs read frames and print lines with: words, numbers, bytes, versions. Nothing here decides anything.
+pub mod names; // names.rt: the words of a line, by number
+pub mod line; // line.rt: words and numbers behind them
+pub mod payload; // payload.rt: numbers in the payload of a frame
+
 use libc::STDOUT_FILENO;
 use wire::version::Version;
 

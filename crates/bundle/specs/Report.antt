@@ -1,17 +1,12 @@
--- What a program tells of a check (document 01, E14): the row's number, or an entry's numbers; and the check of an input that may be longer than its buffer.
+-- What a program tells of a check (document 01, E14), beside the row's number: an entry's numbers, and the check of an input that may be longer than its buffer.
 use Prim.Native.Nat.{ℕ}
 use mathlib.Core.Bool.{Bool, cond}
 use mathlib.Core.List.{List}
 use Rattle.wire.specs.Version.{majorOf, minorOf, variantOf}
 use Rattle.bundle.specs.declared.Entry.{Entry}
 use Rattle.bundle.specs.declared.report.Line.{Line}
-use Rattle.bundle.specs.Rows.{Row, served, B}
+use Rattle.bundle.specs.Rows.{B}
 use Rattle.bundle.specs.Contents.{Contents, contentsBy, checkOf}
-
--- the number of a row, 0 where none refuses
-abbrev pub rowNumber : Row → ℕ
-rowNumber served = 0
-rowNumber (B number entry) = number
 
 -- the numbers of an entry's line: id, the three parts of the version, how many records
 abbrev pub lineOf : Entry → Line

@@ -1,8 +1,8 @@
 // What a program tells of a check (document 01, E14).
 ghost use mathlib.Core.Path.{_≡_};
 ghost use Rattle.bundle.specs.Contents.{toldChecked};
-ghost use Rattle.bundle.specs.Rows.{rowOf};
-ghost use Rattle.bundle.specs.Report.{rowNumber, lineOf, inputOf};
+ghost use Rattle.bundle.specs.Rows.{numberOf};
+ghost use Rattle.bundle.specs.Report.{lineOf, inputOf};
 use crate::BundleVerdict;
 use crate::Checked;
 use crate::Entry;
@@ -30,7 +30,7 @@ pub fn check_input(buffer: &[u8], more: bool) -> Checked
 
 // The number of the row that refuses, 0 for none.
 pub fn row_number(verdict: BundleVerdict) -> u8
-    ensures { λ r. ⌜ r ≡ rowNumber (rowOf verdict 0) ⌝ }
+    ensures { λ r. ⌜ r ≡ numberOf verdict ⌝ }
 {
     match verdict {
         BundleVerdict::Fine => 0,

@@ -1,12 +1,12 @@
 // Runs a script of frames (tests/device/README.md) against the device end, and prints a line for each frame.
 use device::record::Device;
 use device::setup::set_up;
-use libc::STDIN_FILENO;
+use script::buffer::fill;
+use script::buffer::read_first;
+use script::frame;
+use script::tell;
 use show::payload;
 use show::text;
-
-mod frame; // frame.rt: records in a frame
-mod tell; // tell.rt: what is printed
 
 // What a script runs against, beside the buffer: the record, and how many bytes of the buffer are lent.
 pub struct Bench {
@@ -167,15 +167,6 @@ fn run_still(b: Bench, kind: u8, p: &[u8], buffer: &[u8]) -> Bench {
     bad_frame(b)
 }
 
-// Every byte of the buffer becomes this value.
-fn fill(buffer: &mut [u8], value: u8) {
-    let mut i = 0;
-    while i < buffer.len() {
-        buffer[i] = value;
-        i += 1;
-    }
-}
-
 fn run_fill(buffer: &mut [u8], value: u8) {
     fill(buffer, value);
     text(b"filled ");
@@ -205,19 +196,6 @@ struct Ran {
     more: bool,
 }
 
-// The payload of a frame; false where the input ends before it does.
-fn read_payload(payload: &mut [u8], n: u8) -> bool {
-    let k = n as usize;
-    if k <= payload.len() {
-        return io::read_full(STDIN_FILENO, &mut payload[..k]) == k;
-    }
-    false
-}
-
-fn read_head(head: &mut [u8]) -> bool {
-    io::read_full(STDIN_FILENO, head) == 2
-}
-
 fn wide(n: u8) -> usize {
     n as usize
 }
@@ -225,9 +203,9 @@ fn wide(n: u8) -> usize {
 // The next frame of the input.
 fn run_next(b: Bench, buffer: &mut [u8]) -> Ran {
     let mut head = [0u8; 2];
-    if read_head(&mut head) {
+    if read_first(&mut head, 2) {
         let mut payload = [0u8; 255];
-        if read_payload(&mut payload, head[1]) {
+        if read_first(&mut payload, wide(head[1])) {
             let bench = run_frame(b, head[0], show::first(&payload, wide(head[1])), buffer);
             return Ran { bench, more: true };
         }

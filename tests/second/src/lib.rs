@@ -10,6 +10,7 @@ pub mod host;
 pub mod packets;
 pub mod refusal;
 pub mod run;
+pub mod script;
 pub mod version;
 
 #[cfg(test)]

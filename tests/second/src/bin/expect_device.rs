@@ -4,10 +4,8 @@
 
 use std::io::{Read, Write};
 
-use second::device::{
-    set_up, Answer, Component, Device, Listed, Offered, Receiving, Region, Stage, StagingOffset,
-};
-use second::version::Version;
+use second::device::{set_up, Answer, Device, Listed};
+use second::script::{hex, read_listed, read_record, record_line, Numbers};
 
 const BUFFER: usize = 65_600;
 
@@ -39,31 +37,6 @@ fn next_frame(rest: &[u8]) -> Option<(u8, &[u8], &[u8])> {
     }
     let end = 2 + rest[1] as usize;
     Some((rest[0], &rest[2..end], &rest[end..]))
-}
-
-/// A reader of little-endian numbers.
-struct Numbers<'a> {
-    rest: &'a [u8],
-}
-
-impl Numbers<'_> {
-    fn one(&mut self) -> u8 {
-        self.number(1) as u8
-    }
-    fn two(&mut self) -> u16 {
-        self.number(2) as u16
-    }
-    fn four(&mut self) -> u32 {
-        self.number(4)
-    }
-    fn number(&mut self, bytes: usize) -> u32 {
-        let mut value = 0u32;
-        for at in (0..bytes).rev() {
-            value = value * 256 + self.rest[at] as u32;
-        }
-        self.rest = &self.rest[bytes..];
-        value
-    }
 }
 
 impl Bench {
@@ -158,48 +131,6 @@ impl Bench {
     }
 }
 
-fn read_listed(numbers: &mut Numbers) -> Listed {
-    Listed {
-        id: numbers.one(),
-        running: Version(numbers.four()),
-        region: Region { base: StagingOffset(numbers.four()), length: numbers.four() },
-    }
-}
-
-/// The payload of K, as it stands.
-fn read_record(payload: &[u8]) -> Device {
-    let mut numbers = Numbers { rest: payload };
-    let platform = numbers.two();
-    let staging = numbers.four();
-    let count = numbers.one();
-    let kind = numbers.one();
-    let (slot, token, next) = (numbers.one(), numbers.one(), numbers.two());
-    let stage = match kind {
-        1 => Stage::Offered(Offered { slot, token }),
-        2 => Stage::Receiving(Receiving { slot, token, next }),
-        _ => Stage::Idle,
-    };
-    let (owes, owed_token) = (numbers.one(), numbers.one());
-    let owed = if owes == 1 { Some(owed_token) } else { None };
-    let mut components = [Component::default(); 7];
-    for component in components.iter_mut() {
-        let listed = read_listed(&mut numbers);
-        let (pending, version) = (numbers.one(), Version(numbers.four()));
-        *component = Component {
-            id: listed.id,
-            running: listed.running,
-            region: listed.region,
-            staged: if pending == 1 { Some(version) } else { None },
-        };
-    }
-    Device { platform, staging, count, components, stage, owed }
-}
-
-fn hex(bytes: &[u8]) -> String {
-    let digits: Vec<String> = bytes.iter().map(|byte| format!("{byte:02x}")).collect();
-    digits.join(" ")
-}
-
 fn answer_text(answer: &Answer) -> String {
     match answer {
         Answer::Refused(row, bytes) => format!("refused {row}, {}", hex(bytes)),
@@ -209,47 +140,4 @@ fn answer_text(answer: &Answer) -> String {
             format!("reply {}, then {}", hex(bytes), hex(ready))
         }
     }
-}
-
-fn record_line(device: &Device) -> String {
-    let mut line = format!(
-        "record: platform {:04x}, staging {}, {}, {}",
-        device.platform,
-        device.staging,
-        stage_text(device.stage),
-        owed_text(device.owed)
-    );
-    for component in device.listed() {
-        line += &format!("; {}", component_text(component));
-    }
-    line
-}
-
-fn stage_text(stage: Stage) -> String {
-    match stage {
-        Stage::Idle => "idle".to_string(),
-        Stage::Offered(open) => format!("offered slot {} token {:02x}", open.slot, open.token),
-        Stage::Receiving(open) => format!(
-            "receiving slot {} token {:02x} next {}",
-            open.slot, open.token, open.next
-        ),
-    }
-}
-
-fn owed_text(owed: Option<u8>) -> String {
-    match owed {
-        None => "owes nothing".to_string(),
-        Some(token) => format!("owes token {token:02x}"),
-    }
-}
-
-fn component_text(component: &Component) -> String {
-    let mut text = format!(
-        "{} at {} in {}+{}",
-        component.id, component.running, component.region.base.0, component.region.length
-    );
-    if let Some(staged) = component.staged {
-        text += &format!(", pending {staged}");
-    }
-    text
 }

@@ -1,11 +1,11 @@
--- `fill` is safe, ends and keeps the length. Assumes nothing.
+-- `buffer::fill` is safe, ends and keeps the length. Assumes nothing.
 use mathlib.Core.Path.{_≡_, refl}
 use Prim.Native.Nat.{_≤_, _-_}
 use native.Mathlib.Omega.{arith}
 use borrow.Author.Needs.{needs}
 use lib.ListN.{length, length-set}
-use Rattle.device_run.proofs.fill.Statement.{statement}
-use Rattle.device_run.proofs.fill.Tie as tie
+use Rattle.script.proofs.buffer.fill.Statement.{statement}
+use Rattle.script.proofs.buffer.fill.Tie as tie
 
 abbrev Inv-loop : tie.InvT-loop
 Inv-loop buffer₀ value i₀ buffer i = (length buffer ≡ length buffer₀) × (i ≤ length buffer₀)

@@ -1,9 +1,9 @@
--- `read_payload` is safe. Assumes nothing.
+-- `buffer::read_first` is safe. Assumes nothing.
 use native.Mathlib.Omega.{arith}
 use lib.ListN.{length-take}
 use borrow.Author.Needs.{needs}
-use Rattle.device_run.proofs.read_payload.Statement.{statement}
-use Rattle.device_run.proofs.read_payload.Tie as tie
+use Rattle.script.proofs.buffer.read_first.Statement.{statement}
+use Rattle.script.proofs.buffer.read_first.Tie as tie
 
 slice-relend-prefix-read-full : tie.Need-slice-relend-prefix-read-full
 slice-relend-prefix-read-full c = search needs
@@ -23,8 +23,8 @@ returns c = search needs
 returns-2 : tie.Need-returns-2
 returns-2 c = search needs
 
-pub read-payload-spec : {M : Type 1} → statement M
-read-payload-spec =
+pub read-first-spec : {M : Type 1} → statement M
+read-first-spec =
     tie.close
     (tie.spec
     slice-relend-prefix-read-full

@@ -1,0 +1,4 @@
+// What the scripts of the programs hold, and what is printed of a device.
+pub mod frame; // frame.rt: numbers and records in a frame
+pub mod tell; // tell.rt: what is printed of an answer and of a record
+pub mod buffer; // buffer.rt: a buffer that is filled or read

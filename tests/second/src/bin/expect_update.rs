@@ -1,0 +1,116 @@
+//! Runs a script of whole runs (tests/update/README.md) from standard input
+//! and prints what each comes to.
+#![forbid(unsafe_code)]
+
+use std::fmt::Write as _;
+use std::io::{Read, Write as _};
+
+use second::bundle::{check, Fault};
+use second::device::{Answer, Device};
+use second::host::{End, Host, Packet};
+use second::refusal::Refusal;
+use second::run::run;
+use second::script::{hex, read_record, record_line};
+
+fn main() -> std::io::Result<()> {
+    let mut script = Vec::new();
+    std::io::stdin().read_to_end(&mut script)?;
+    let mut out = Vec::new();
+    let mut rest = &script[..];
+    while let Some((kind, payload, after)) = next_frame(rest) {
+        if kind == b'#' {
+            out.extend(payload);
+            out.push(b'\n');
+        } else {
+            out.extend(case(payload).as_bytes());
+        }
+        rest = after;
+    }
+    std::io::stdout().write_all(&out)
+}
+
+/// Kind, payload and the rest; nothing at the end or at a cut frame.
+fn next_frame(rest: &[u8]) -> Option<(u8, &[u8], &[u8])> {
+    let length = *rest.get(1)? as usize + 256 * *rest.get(2)? as usize;
+    let end = 3 + length;
+    Some((rest[0], rest.get(3..end)?, &rest[end..]))
+}
+
+/// A run: token, fill byte, the record in 140 bytes, the bundle.
+fn case(payload: &[u8]) -> String {
+    let device = read_record(&payload[2..142]);
+    let bundle = &payload[142..];
+    let mut staging = vec![payload[1]; device.staging as usize];
+    let mut text = format!("{}\n", record_line(&device));
+    match refused(&device, bundle) {
+        Some(row) => {
+            let _ = writeln!(text, "{row}; {}", report(&Host::fresh(payload[0])));
+            let _ = writeln!(text, "{}", record_line(&device));
+        }
+        None => {
+            let left = run(payload[0], bundle, device, &mut staging);
+            for exchange in &left.trace {
+                let _ = writeln!(text, "{}: {}", packet_text(&exchange.packet), answer_text(&exchange.packet, &exchange.answer));
+            }
+            let _ = writeln!(text, "{}", report(&left.host));
+            let _ = writeln!(text, "{}", record_line(&left.device));
+        }
+    }
+    let _ = writeln!(text, "staging {}", hex(&staging));
+    text.push_str("run: the same report, record and bytes\n");
+    text
+}
+
+/// The row that refuses a run before anything is sent: the bundle's, or D1.
+fn refused(device: &Device, bundle: &[u8]) -> Option<String> {
+    if let Err(Fault { row, entry }) = check(bundle) {
+        return Some(format!("refused {row} {entry}"));
+    }
+    match device.version_reply().refused {
+        Some(Refusal::D1) => Some("refused D1".to_string()),
+        _ => None,
+    }
+}
+
+fn packet_text(packet: &Packet) -> String {
+    match packet {
+        Packet::ForOffer(p) => match p[2] {
+            0xFF => format!("information {}", p[0]),
+            0xFE => format!("extended {}", p[0]),
+            id => format!("offer {id}"),
+        },
+        Packet::ForContent(p) => format!("content flags {:02x} sequence {}", p[0], p[2] as u16 + 256 * p[3] as u16),
+    }
+}
+
+fn answer_text(packet: &Packet, answer: &Answer) -> String {
+    let bytes = match answer {
+        Answer::Refused(row, ..) => return format!("refused {row}"),
+        Answer::NoReply => return "no reply".to_string(),
+        Answer::Reply(bytes) | Answer::ReplyThenReady(bytes, _) => bytes,
+    };
+    match packet {
+        Packet::ForContent(_) => format!("status {}", bytes[4]),
+        Packet::ForOffer(_) => match bytes[12] {
+            0 => "SKIP".to_string(),
+            1 => "ACCEPT".to_string(),
+            2 => format!("REJECT {}", bytes[8]),
+            3 => "BUSY".to_string(),
+            4 => "READY".to_string(),
+            _ => "unsupported".to_string(),
+        },
+    }
+}
+
+fn report(host: &Host) -> String {
+    let told = host.report();
+    let end = match told.end {
+        None => "running".to_string(),
+        Some(End::Done) => "done".to_string(),
+        Some(End::H1(status)) => format!("H1 status {status}"),
+        Some(End::H2) => "H2".to_string(),
+        Some(End::H3) => "H3".to_string(),
+        Some(End::H4) => "H4".to_string(),
+    };
+    format!("{end}, packets {}, passes {}, completed {}, mask {:02x}", told.packets, told.passes, told.completed, host.mask)
+}

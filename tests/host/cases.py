@@ -1,0 +1,315 @@
+#!/usr/bin/env python3
+"""Writes the frames (README.md) of the host's cases to standard output.
+
+Each case starts with a '#' line that names it and its row in document 01. The bundle is E12's: two offers, each body records of 52 and 12 bytes.
+"""
+import struct
+import sys
+
+OUT = bytearray()
+TOKEN = 0xA5
+FRESH, OPENING, LISTING, OFFERING, WAITING, SENDING, CLOSING, ENDED = range(8)
+DONE, H1, H2, H3, H4 = range(5)
+SKIP, ACCEPT, REJECT, BUSY, READY = range(5)
+
+
+# ----------------------------------------------------------------- frames
+
+def frame(kind, payload):
+    OUT.extend(struct.pack('<cH', kind.encode(), len(payload)) + payload)
+
+
+def case(text):
+    frame('#', ('# ' + text).encode('ascii'))
+
+
+def over(bundle):
+    frame('B', bundle)
+
+
+def fresh(token=TOKEN):
+    frame('F', bytes([token]))
+
+
+def record(stage, a=0, b=0, mask=0, packets=9, passes=1, skipped=0, landed=0, token=TOKEN):
+    frame('K', struct.pack('<BBIIIIIBB', token, stage, a, b, mask, packets, passes, skipped, landed))
+
+
+def step(reply=b''):
+    frame('R', reply)
+
+
+# ---------------------------------------------------------------- replies
+
+def offer_reply(status, reason=0, token=TOKEN):
+    return bytes([0, 0, 0, token, 0, 0, 0, 0, reason, 0, 0, 0, status, 0, 0, 0])
+
+
+def answer(*statuses):
+    for status in statuses:
+        step(offer_reply(status))
+
+
+def content_reply(sequence, status=0):
+    return struct.pack('<HHB', sequence, 0, status) + bytes(11)
+
+
+def blocks(*sequences):
+    for sequence in sequences:
+        step(content_reply(sequence))
+
+
+# ---------------------------------------------------------------- bundles
+
+def body(*sizes):
+    at, out = 0, b''
+    for size in sizes:
+        out += struct.pack('<IB', at, size) + bytes((37 * i + 11) % 256 for i in range(at, at + size))
+        at += size
+    return out
+
+
+def offer(component, *sizes):
+    return (bytes([0, 0, component, 0, 0, 3, 0, 1]) + bytes([0, 0, 0, 0, 2, 0, 0x42, 0]), body(*sizes))
+
+
+def bundle(*offers):
+    at = 8 + 24 * len(offers)
+    table, bodies = b'', b''
+    for fields, data in offers:
+        table += fields + struct.pack('<II', at + len(bodies), len(data))
+        bodies += data
+    return bytes([len(offers), 1]) + bytes(6) + table + bodies
+
+
+TWO = bundle(offer(1, 52, 12), offer(2, 52, 12))
+SEVEN = bundle(*(offer(k, k) for k in range(1, 8)))
+NONE = bytes([0, 1]) + bytes(6)
+MORE = TWO + bytes(1)
+
+STAGES = [('opening', OPENING), ('listing', LISTING), ('offering', OFFERING), ('waiting', WAITING), ('closing', CLOSING)]
+STATUSES = [('SKIP', SKIP), ('ACCEPT', ACCEPT), ('REJECT', REJECT), ('BUSY', BUSY), ('READY', READY), ('status 5', 5)]
+
+
+# -------------------------------------------------------------- the table
+
+over(TWO)
+for name, stage in STAGES:
+    for word, status in STATUSES:
+        case('the table: %s, %s' % (name, word))
+        record(stage)
+        answer(status)
+for name, stage in STAGES:
+    case('the table: %s, the last status byte: H3' % name)
+    record(stage)
+    answer(0xFF)
+for word, status in STATUSES:
+    case('the table: offering the last offer, after one BUSY, %s' % word)
+    record(OFFERING, 1, 1)
+    answer(status)
+case('the table: waiting for the last offer, READY: the same offer, its BUSY kept')
+record(WAITING, 1, 3)
+answer(READY)
+case('a reply decides by its token and status alone: all its other bytes 0xFF')
+record(LISTING)
+step(b'\xff\xff\xff' + bytes([TOKEN]) + b'\xff' * 8 + bytes([ACCEPT]) + b'\xff' * 3)
+
+# --------------------------------------------------------- whole sessions
+
+case('a fresh host sends code 0 whatever stands for a reply')
+fresh()
+step()
+fresh(0)
+step(offer_reply(READY))
+fresh(0xFF)
+step(bytes(60))
+
+case('E13 with scripted replies: packets 13, passes 2')
+fresh()
+step()
+answer(ACCEPT, ACCEPT, SKIP, ACCEPT)
+blocks(0, 1)
+answer(ACCEPT, ACCEPT, ACCEPT)
+blocks(0, 1)
+answer(REJECT, ACCEPT)
+
+case('E13, the other order: packets 9, passes 1')
+fresh()
+step()
+answer(ACCEPT, ACCEPT, ACCEPT)
+blocks(0, 1)
+answer(ACCEPT)
+blocks(0, 1)
+answer(ACCEPT)
+
+case('both offers rejected: done in one pass, nothing completed')
+fresh()
+step()
+answer(ACCEPT, ACCEPT, REJECT, REJECT, ACCEPT)
+
+# ------------------------------------------------- the decision of closing
+
+for skipped in (0, 1):
+    for landed in (0, 1):
+        for passes in (1, 2):
+            case('code 2 accepted: skipped %d, landed %d, passes %d of 2' % (skipped, landed, passes))
+            record(CLOSING, passes=passes, mask=landed, skipped=skipped, landed=landed)
+            answer(ACCEPT)
+case('listing accepted: the first offer, and what the pass had is kept')
+record(LISTING, mask=1, skipped=1, landed=1)
+answer(ACCEPT)
+
+# -------------------------------------------------------------- the blocks
+
+case('the bit of an offer is set by status 0 to its last block, not to an earlier one')
+record(SENDING, 1, 0, mask=1)
+blocks(0, 1)
+case('one record: first and last flags in one block')
+over(SEVEN)
+record(OFFERING, 6, 0, mask=0x3F)
+answer(ACCEPT)
+blocks(0)
+case('a bit that is set stays set')
+record(SENDING, 6, 0, mask=0x7F)
+blocks(0)
+over(TWO)
+
+# ----------------------------------------------------------------- the ends
+
+for status in (1, 2, 4, 0x0B, 0xFF):
+    case('H1: content status %d' % status)
+    record(SENDING, 0, 0)
+    step(content_reply(0, status))
+case('H1: content status 9 to the last block: its bit stays clear')
+record(SENDING, 1, 1, mask=1)
+step(content_reply(1, 9))
+
+for name, stage in STAGES + [('sending', SENDING)]:
+    case('H2 by length: %s, replies of 0, 15, 17 and 60 bytes' % name)
+    for length in (0, 15, 17, 60):
+        record(stage)
+        good = content_reply(0) if stage == SENDING else offer_reply(ACCEPT)
+        step((good + bytes(44))[:length])
+for name, stage in STAGES:
+    case('H2 by token: %s, every bit of the token' % name)
+    for bit in range(8):
+        record(stage)
+        step(offer_reply(ACCEPT, token=TOKEN ^ 1 << bit))
+case('H2 by sequence: every bit of it')
+for bit in range(16):
+    record(SENDING, 0, 1)
+    step(content_reply(1 ^ 1 << bit))
+case('H2 before H1: a sequence not ours, with status 9')
+record(SENDING, 0, 1)
+step(content_reply(0, 9))
+case('H2 before H3: a token not ours, with status 5')
+record(OFFERING)
+step(offer_reply(5, token=TOKEN ^ 1))
+case('a block is told by its sequence alone: its reply holds no token')
+record(SENDING, 0, 1, token=0xFF)
+blocks(1)
+
+case('H4: eight BUSY, each survived with READY; the ninth ends')
+fresh()
+step()
+answer(ACCEPT, ACCEPT)
+for _ in range(8):
+    answer(BUSY, READY)
+answer(BUSY)
+case('eight BUSY for one offer, then it is accepted; the next offer counts from 0')
+record(OFFERING, 0, 7)
+answer(BUSY, READY, ACCEPT)
+blocks(0, 1)
+answer(BUSY)
+case('eight BUSY for an offer, then SKIP: the next counts from 0')
+record(OFFERING, 0, 8)
+answer(SKIP, BUSY)
+
+# -------------------------------------------------------------------- ended
+
+for name, end in [('done', DONE), ('H1', H1), ('H2', H2), ('H3', H3), ('H4', H4)]:
+    case('an ended record stepped again: %s' % name)
+    record(ENDED, end, 9 if end == H1 else 0, mask=3, passes=2, skipped=1)
+    answer(ACCEPT)
+    step()
+
+# ----------------------------------------------------------------------- N1
+
+def judged(bad, text):
+    """A case of N1, or one at its border that still fits."""
+    case(('N1: ' if bad else 'fits: ') + text)
+
+
+for name, stage, status in [('offering', OFFERING, REJECT), ('waiting', WAITING, READY)]:
+    for entry in (1, 2, 255):
+        judged(entry > 1, '%s entry %d of 2, counted from 0' % (name, entry))
+        record(stage, entry)
+        answer(status)
+    for busy in (8, 9, 255):
+        judged(busy > 8, '%s, %d BUSY' % (name, busy))
+        record(stage, 0, busy)
+        answer(status)
+for entry, block in [(1, 1), (2, 0), (7, 0), (255, 0), (0, 2), (1, 2), (0, 0xFFFFFFFF)]:
+    judged(entry > 1 or block > 1, 'sending entry %d, record %d, counted from 0, of 2 with 2 each' % (entry, block))
+    record(SENDING, entry, block)
+    blocks(block & 0xFFFF)
+for name, stage in [('fresh', FRESH), ('listing', LISTING), ('closing', CLOSING), ('ended', ENDED)]:
+    for passes in (2, 3, 0xFFFFFFFF):
+        judged(passes > 2, '%s, %d passes of 2' % (name, passes))
+        record(stage, passes=passes)
+        answer(ACCEPT)
+    for packets in (0x7FFFFFFF, 0x80000000, 0xFFFFFFFF):
+        judged(packets >= 1 << 31, '%s, %d packets' % (name, packets))
+        record(stage, packets=packets)
+        answer(ACCEPT)
+    for mask in (3, 4, 0x80000000):
+        judged(mask > 3, '%s, mask %08x over 2 offers' % (name, mask))
+        record(stage, mask=mask)
+        answer(ACCEPT)
+case('a pass more than the offers is counted by code 1, and the next step is N1')
+record(OPENING, passes=2)
+answer(ACCEPT, ACCEPT)
+case('the packet that makes 2^31 is sent, and the next step is N1')
+record(OPENING, packets=0x7FFFFFFF)
+answer(ACCEPT, ACCEPT)
+over(SEVEN)
+for mask in (0x7F, 0x80):
+    judged(mask > 0x7F, 'mask %08x over 7 offers' % mask)
+    record(CLOSING, mask=mask)
+    answer(ACCEPT)
+for entry in (6, 7):
+    judged(entry > 6, 'offering entry %d of 7, counted from 0' % entry)
+    record(OFFERING, entry)
+    answer(REJECT)
+over(TWO)
+case('N1 before H2: a reply of no bytes')
+record(OFFERING, 2)
+step()
+
+# --------------------------------------------------------- refused bundles
+
+for name, bad in [('B1', TWO[:7]), ('B2', TWO[:7] + b'\x01' + TWO[8:]), ('B3', NONE), ('B4', TWO[:55]), ('B5', TWO[:35] + b'\x01' + TWO[36:]),
+                  ('B6', bundle(offer(1, 52), offer(1, 52))), ('B7', MORE), ('B8', bundle(offer(1, 52), offer(2, 53)))]:
+    case('a refused bundle: %s' % name)
+    over(bad)
+    fresh()
+    step()
+    record(OFFERING)
+    answer(ACCEPT)
+over(NONE)
+case('B before N1: a record that no bundle fits')
+record(OFFERING, 9, 9, mask=0xFFFFFFFF, packets=0xFFFFFFFF, passes=0xFFFFFFFF)
+answer(ACCEPT)
+case('B before H2: a reply of no bytes')
+record(OFFERING)
+step()
+case('an end over a refused bundle')
+record(ENDED, H1, 9, mask=1)
+answer(ACCEPT)
+record(ENDED, DONE, mask=3)
+step()
+case('the same record over a bundle that is served again')
+over(TWO)
+answer(ACCEPT)
+
+sys.stdout.buffer.write(bytes(OUT))

@@ -22,3 +22,11 @@ pub fn serve_in_place(
     *device = out.device;
     out
 }
+
+// A record by value, lent to the entry above: whoever calls this lends nothing of its own.
+pub fn serve_lent(device: Device, channel: Channel, staging: &mut [u8], report: &[u8]) -> Answer
+    ensures { λ r. ⌜ (told r ≡ serveEntry device channel (now (staging .entry)) (now (report .entry))) × (now (staging .exit) ≡ serveStaging device channel (now (staging .entry)) (now (report .entry))) ⌝ }
+{
+    let mut d = device;
+    serve_in_place(&mut d, channel, staging, report)
+}

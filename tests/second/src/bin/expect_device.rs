@@ -1,4 +1,4 @@
-//! Runs a script of frames (FRAMES.md) from standard input against the
+//! Runs a script of frames (tests/device/README.md) from standard input against the
 //! device and prints one line for each frame.
 #![forbid(unsafe_code)]
 

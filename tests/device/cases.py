@@ -1,5 +1,5 @@
 #!/usr/bin/env python3
-"""Writes the frames (FRAMES.md) of the device's cases to standard output.
+"""Writes the frames (README.md beside this file) of the device's cases to standard output.
 
 Each case starts with a '#' line that names it and its row in document 01.
 The bench device: platform 0x0042; id 1 at 0x01000200, region 0-63; id 2 at

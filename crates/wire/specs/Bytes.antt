@@ -1,7 +1,7 @@
 -- Bytes and the numbers that they make, the least significant byte first (document 01: numbers are little-endian unless said).
 use Prim.Native.Nat.{ℕ, zero, suc, _+_, _*_, _/_, _%_, _<_}
 use mathlib.Core.Path.{_≡_}
-use mathlib.Core.Bool.{cond}
+use mathlib.Core.Bool.{Bool, true, false, cond, _&&_}
 use mathlib.Core.List.{List, [], _∷_}
 use lib.Dec.{eqb}
 use lib.ListN.{length, getD}
@@ -33,3 +33,10 @@ bytesAt (suc k) i p = getD p i 0 ∷ bytesAt k (suc i) p
 -- what a copy leaves in its target: the source, if both are equally long
 abbrev pub copyOf : (target source : List ℕ) → List ℕ
 copyOf target source = cond (eqb (length target) (length source)) source target
+
+-- two lists are the same
+unfoldable pub same : (a b : List ℕ) → Bool
+same [] [] = true
+same [] (y ∷ ys) = false
+same (x ∷ xs) [] = false
+same (x ∷ xs) (y ∷ ys) = eqb x y && same xs ys

@@ -1,0 +1,23 @@
+-- What the bytes of a device's record promise.
+use Prim.Native.Nat.{ℕ}
+use mathlib.Core.Path.{_≡_}
+use mathlib.Core.Bool.{true}
+use mathlib.Core.List.{List}
+use lib.ListN.{length}
+use Rattle.wire.specs.Bytes.{Bytes, Packet}
+use Rattle.device.specs.declared.record.Device.{Device}
+use Rattle.device.specs.Record.{FitsDevice}
+use Rattle.device.specs.Refusals.{breaksD1}
+use Rattle.device_bytes.specs.Layout.{DEVICE-SIZE, deviceBytes, readDevice}
+
+-- every record is bytes of the one length
+abbrev pub DeviceSized : Type 0
+DeviceSized = (d : Device) → FitsDevice d → Packet DEVICE-SIZE (deviceBytes d)
+
+-- every record reads back
+abbrev pub DeviceReadsBack : Type 0
+DeviceReadsBack = (d : Device) → FitsDevice d → readDevice (deviceBytes d) ≡ d
+
+-- bytes that are no record's are read as a record that D1 refuses
+abbrev pub OthersBreakD1 : Type 0
+OthersBreakD1 = (b : List ℕ) → Bytes b → ((d : Device) → FitsDevice d → deviceBytes d ≡ b → ⊥) → breaksD1 (readDevice b) ≡ true

@@ -1,0 +1,1 @@
+// The device's record as bytes.

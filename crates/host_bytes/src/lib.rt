@@ -1,0 +1,1 @@
+// The host's record as bytes.

@@ -1,0 +1,4 @@
+pub mod Numbers
+pub mod Device
+pub mod Host
+pub mod Packets

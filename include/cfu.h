@@ -1,0 +1,370 @@
+/*
+ * cfu.h: the C interface of the proved CFU updater (library libcapi.a, room crates/capi).
+ *
+ * The device end, the host end, the check of a bundle, and the building and reading of each packet. C99, also C++.
+ *
+ * Memory. The caller lends all of it: nothing is allocated, nothing is kept between calls, and there is no global state, so two threads may call at once with
+ * buffers of their own. A lent buffer is a pointer and its length in bytes.
+ *
+ * What cannot be judged, and so is asked of the caller:
+ *   - a pointer is not null and is valid for the length that comes with it, also where that length is 0 (any object's address will do);
+ *   - buffers that are lent to one call do not overlap, save that two buffers which are only read may.
+ *
+ * Everything else is judged. Each call ends, writes only inside the buffers that it may write (those without const), and answers a number:
+ *   - CFU_SERVED, or
+ *   - the number of a refusal, a row of the build document: its letter's code times 256, plus its number, so that D1 is 0x4401 ('D' is 0x44).
+ * A refusal leaves every record and the staging buffer as they were. What it leaves in a buffer for output is said at each call.
+ *
+ * Rows C1 to C3 are this interface's own and come before all others, in this order: with one of them nothing at all is changed.
+ *
+ * Numbers in lent bytes are little-endian. Versions in lent bytes are four: variant, minor (2), major.
+ */
+#ifndef CFU_H
+#define CFU_H
+
+#include <stddef.h>
+#include <stdint.h>
+
+#ifdef __cplusplus
+extern "C" {
+#endif
+
+/* ---- Sizes of lent buffers, in bytes ---- */
+
+#define CFU_DEVICE_SIZE 140     /* a device's record */
+#define CFU_LIST_SIZE 91        /* the list that set-up takes: seven times 13 */
+#define CFU_HOST_SIZE 24        /* a host's record */
+#define CFU_CONTENTS_SIZE 93    /* the contents of a checked bundle, with the host's cursor */
+#define CFU_REPLIES_SIZE 32     /* up to two replies of the device */
+#define CFU_SHORT_SIZE 16       /* offer, information, extended, and both replies */
+#define CFU_LONG_SIZE 60        /* content, version reply */
+#define CFU_DATA_SIZE 52        /* the data of a content packet */
+#define CFU_COMPONENTS_SIZE 49  /* the components of a version reply: seven times 7 */
+
+/* The largest staging buffer and the largest bundle, the most components and the most offers, the smallest region. */
+#define CFU_STAGING_LIMIT 65536
+#define CFU_BUNDLE_LIMIT 65536
+#define CFU_COMPONENT_LIMIT 7
+#define CFU_OFFER_LIMIT 7
+#define CFU_REGION_LEAST 8
+
+/* ---- Numbers that a call answers ---- */
+
+#define CFU_SERVED 0
+
+/* A lent buffer is not of its size: a record; a list or data that is read; a buffer for what comes out. */
+#define CFU_C1 0x4301
+#define CFU_C2 0x4302
+#define CFU_C3 0x4303
+
+/* Set-up: staging over 65,536 bytes; a count not 1 to 7; an id outside 1 to 0xDF or repeated; a region under 8 bytes, past the buffer or over another. */
+#define CFU_S1 0x5301
+#define CFU_S2 0x5302
+#define CFU_S3 0x5303
+#define CFU_S4 0x5304
+
+/* Device: a record that breaks its rules; another staging length than at set-up; a report of another length than its kind's. */
+#define CFU_D1 0x4401
+#define CFU_D2 0x4402
+#define CFU_D3 0x4403
+
+/* Packets: another length than the kind's (reading); a value that its field cannot hold (building; of a version reply also reading). */
+#define CFU_P1 0x5001
+#define CFU_P2 0x5002
+
+/* Host: a record that does not fit the bundle. */
+#define CFU_N1 0x4E01
+
+/* Bundle: its length; its head; its count; a table past the end; an offer; a repeated id; a body's place; a body's records. */
+#define CFU_B1 0x4201
+#define CFU_B2 0x4202
+#define CFU_B3 0x4203
+#define CFU_B4 0x4204
+#define CFU_B5 0x4205
+#define CFU_B6 0x4206
+#define CFU_B7 0x4207
+#define CFU_B8 0x4208
+
+/* ---- How far a host is (cfu_report.ending) ---- */
+
+#define CFU_RUNNING 0
+#define CFU_DONE 1
+#define CFU_H1 0x4801 /* a content status other than 0; cfu_report.status has it */
+#define CFU_H2 0x4802 /* a reply that is not 16 bytes, or whose token or sequence is not the host's */
+#define CFU_H3 0x4803 /* a reply that the table of steps has no step for */
+#define CFU_H4 0x4804 /* a ninth BUSY for one offer in one pass */
+
+/* ---- Codes in packets ---- */
+
+#define CFU_PROTOCOL 2
+
+/* cfu_offer_packet.kind */
+#define CFU_KIND_NONE 0
+#define CFU_KIND_OFFER 1
+#define CFU_KIND_INFORMATION 2
+#define CFU_KIND_EXTENDED 3
+
+/* Codes of information and extended packets. */
+#define CFU_INFO_START_ENTIRE_TRANSACTION 0
+#define CFU_INFO_START_OFFER_LIST 1
+#define CFU_INFO_END_OFFER_LIST 2
+#define CFU_NOTIFY_ON_READY 1
+
+/* Status of an offer reply, and the reasons of a REJECT. */
+#define CFU_OFFER_SKIP 0
+#define CFU_OFFER_ACCEPT 1
+#define CFU_OFFER_REJECT 2
+#define CFU_OFFER_BUSY 3
+#define CFU_OFFER_READY 4
+#define CFU_OFFER_UNSUPPORTED 0xFF
+#define CFU_REJECT_OLD_FW 0
+#define CFU_REJECT_INV_COMPONENT 1
+#define CFU_REJECT_SWAP_PENDING 2
+#define CFU_REJECT_WRONG_PROTOCOL 0xE0
+#define CFU_REJECT_WRONG_SEGMENT 0xE1
+
+/* Flags of a content packet, and status of its reply. */
+#define CFU_FLAG_FIRST_BLOCK 0x80
+#define CFU_FLAG_LAST_BLOCK 0x40
+#define CFU_SUCCESS 0
+#define CFU_ERROR_VERIFY 0x04
+#define CFU_ERROR_CRC 0x05
+#define CFU_ERROR_VERSION 0x07
+#define CFU_ERROR_INVALID_ADDR 0x09
+#define CFU_ERROR_NO_OFFER 0x0A
+#define CFU_ERROR_INVALID 0x0B
+
+/* ---- Numbers that cross together ---- */
+
+typedef struct cfu_version {
+    uint8_t major;
+    uint16_t minor;
+    uint8_t variant;
+} cfu_version;
+
+typedef struct cfu_offer {
+    uint8_t segment;
+    uint8_t force_immediate_reset; /* CFU's I: 0 or 1 */
+    uint8_t force_ignore_version;  /* CFU's V: 0 or 1 */
+    uint8_t id;
+    uint8_t token;
+    cfu_version version;
+    uint8_t need;   /* the needed component, 0 for none */
+    uint32_t least; /* its least version without the variant, 24 bits: major times 65,536 plus minor */
+    uint8_t protocol;
+    uint16_t platform;
+} cfu_offer;
+
+typedef struct cfu_signal {
+    uint8_t code;
+    uint8_t token;
+} cfu_signal;
+
+/* A packet of the offer channel; what is not of its kind is zero. */
+typedef struct cfu_offer_packet {
+    uint32_t number;
+    uint32_t kind;
+    cfu_offer offer;
+    cfu_signal signal;
+} cfu_offer_packet;
+
+typedef struct cfu_offer_reply {
+    uint32_t number;
+    uint8_t token;
+    uint8_t reason;
+    uint8_t status;
+} cfu_offer_reply;
+
+typedef struct cfu_content {
+    uint32_t number;
+    uint8_t flags;
+    uint8_t length;
+    uint16_t sequence;
+    uint32_t address;
+} cfu_content;
+
+typedef struct cfu_content_reply {
+    uint32_t number;
+    uint16_t sequence;
+    uint8_t status;
+} cfu_content_reply;
+
+typedef struct cfu_version_reply {
+    uint32_t number;
+    uint8_t count;
+    uint8_t protocol;
+} cfu_version_reply;
+
+typedef struct cfu_replies {
+    uint32_t number;
+    uint32_t count; /* how many replies to send, in order: 0, 1 or 2 */
+} cfu_replies;
+
+typedef struct cfu_check {
+    uint32_t number;
+    uint32_t entry; /* the entry that the row names, counted from 1; 0 for the bundle as a whole */
+    uint32_t count; /* how many offers an accepted bundle has */
+} cfu_check;
+
+typedef struct cfu_step {
+    uint32_t number;
+    uint32_t entry;  /* the entry that a bundle's row names */
+    uint32_t length; /* how many bytes of the packet to send: 0, 16 (offer channel) or 60 (content channel) */
+} cfu_step;
+
+typedef struct cfu_report {
+    uint32_t number;
+    uint32_t completed; /* how many offers were completed */
+    uint32_t mask;      /* which: bit i for entry i, counted from 0 */
+    uint32_t packets;
+    uint32_t passes;
+    uint32_t ending;
+    uint32_t status; /* the content status of H1, otherwise 0 */
+} cfu_report;
+
+/*
+ * ---- The device ----
+ *
+ * A device's record, CFU_DEVICE_SIZE bytes:
+ *     0  platform (2)
+ *     2  staging length at set-up (4)
+ *     6  count of components (1)
+ *     7  stage (1): 0 idle, 1 offered, 2 receiving
+ *     8  slot (1), 9 token (1), 10 next sequence (2): zero where the stage has none
+ *    12  owed ready-reply (1): 0 none, 1 owed; 13 its token (1), zero where none is owed
+ *    14  seven times 18 bytes: id (1), running version (4), region base (4), region length (4), staged (1): 0 nothing, 1 pending; staged version (4), zero
+ *        where nothing is staged
+ * Only these calls need to write one. Bytes that are no such record are refused by D1, and so are bytes that are one but break the rules of a device; a
+ * record of all zeros is one of these, so zero it before set-up.
+ */
+
+/*
+ * Makes the record of a device that is idle, with nothing staged and nothing owed. list: seven times id (1), running version (4), region base (4), region length
+ * (4), of which the first `count` are used. Of the staging buffer only the length counts, which later calls must lend again.
+ * Answers CFU_SERVED, C1 (device), C2 (list) or S1 to S4. A refusal leaves the record as it was.
+ */
+uint32_t cfu_device_set_up(uint8_t *device, size_t device_len, uint16_t platform, const uint8_t *list, size_t list_len, uint8_t count,
+                           const uint8_t *staging, size_t staging_len);
+
+/*
+ * Writes the version reply, CFU_LONG_SIZE bytes. Answers CFU_SERVED, C1 (device), C3 (packet), or D1 with the packet zeroed.
+ */
+uint32_t cfu_device_version_reply(const uint8_t *device, size_t device_len, uint8_t *packet, size_t packet_len);
+
+/*
+ * Judges a report of the offer channel (offer, information, extended) and writes the replies that are due, 16 bytes each, with zeros behind them.
+ * Answers CFU_SERVED with the count of replies; C1 (device), C3 (replies); D1, D2 or D3 with the replies zeroed and none due.
+ */
+cfu_replies cfu_device_offer(uint8_t *device, size_t device_len, const uint8_t *staging, size_t staging_len, const uint8_t *report, size_t report_len,
+                             uint8_t *replies, size_t replies_len);
+
+/*
+ * Judges a report of the content channel: erases and writes in the staging buffer as the protocol says, and writes the replies that are due. Answers as
+ * cfu_device_offer does; a refusal leaves the staging buffer as it was.
+ */
+cfu_replies cfu_device_content(uint8_t *device, size_t device_len, uint8_t *staging, size_t staging_len, const uint8_t *report, size_t report_len,
+                               uint8_t *replies, size_t replies_len);
+
+/*
+ * The device was reset: staged versions run, nothing is pending or owed, the session is idle. Answers CFU_SERVED, C1 (device) or D1.
+ */
+uint32_t cfu_device_reset(uint8_t *device, size_t device_len);
+
+/*
+ * ---- The bundle ----
+ *
+ * The contents of a checked bundle, CFU_CONTENTS_SIZE bytes: count (1), seven times body offset (4), body length (4), records (4), and the host's cursor (8).
+ */
+
+/*
+ * Checks a bundle, and writes its contents with the cursor at 0. Answers CFU_SERVED with the count of offers, C3 (contents), or B1 to B8 with the entry and the
+ * contents zeroed. The offer of entry i, counted from 0, is the 16 bytes of the bundle at 8 + 24 i, for cfu_read_offer.
+ */
+cfu_check cfu_bundle_check(const uint8_t *bundle, size_t bundle_len, uint8_t *contents, size_t contents_len);
+
+/*
+ * ---- The host ----
+ *
+ * A host's record, CFU_HOST_SIZE bytes:
+ *     0  token (1)
+ *     1  stage (1): 0 fresh, 1 opening, 2 listing, 3 offering, 4 waiting, 5 sending, 6 closing, 7 ended
+ *     2  (4) and 6 (4): entry and its BUSY replies where it offers or waits; entry and block where it sends, both counted from 0; where it ended the end (0 done,
+ *        1 to 4 for H1 to H4) and the content status of H1; otherwise zero
+ *    10  mask of completed offers (4), 14 packets (4), 18 passes (4)
+ *    22  this pass had a SKIP (1), 23 a completed image (1): 0 or 1
+ * Only these calls need to write one. Bytes that are no such record are refused by N1, as is a record that does not fit the bundle.
+ */
+
+/*
+ * Makes the record of a host that has sent nothing. Answers CFU_SERVED or C1 (host).
+ */
+uint32_t cfu_host_fresh(uint8_t *host, size_t host_len, uint8_t token);
+
+/*
+ * One step: takes the reply to the packet before (at the first step none is awaited, and the reply is not looked at) and writes the next packet, with zeros behind
+ * it. Answers CFU_SERVED with the length to send, which is 0 once the host has ended; C1 (host), C3 (packet); B1 to B8 with the entry; or N1. A B row or N1 leaves the packet zeroed.
+ * Each step checks the whole bundle: for a session of many packets take cfu_host_step_checked.
+ */
+cfu_step cfu_host_step(uint8_t *host, size_t host_len, const uint8_t *bundle, size_t bundle_len, const uint8_t *reply, size_t reply_len, uint8_t *packet,
+                       size_t packet_len);
+
+/*
+ * The same step over the contents that cfu_bundle_check wrote for this very bundle, which is not checked again: the time of a step does not grow with the bundle.
+ * contents is a record that each step hands to the next (it keeps the cursor). For a host that began fresh with these contents and took every step by this call it
+ * answers as cfu_host_step does. Contents of another making cannot harm either: they are judged by N1, and what is read of the bundle stays inside it.
+ * Answers as cfu_host_step does, but for the B rows; C1 is for host and contents.
+ */
+cfu_step cfu_host_step_checked(uint8_t *host, size_t host_len, uint8_t *contents, size_t contents_len, const uint8_t *bundle, size_t bundle_len,
+                               const uint8_t *reply, size_t reply_len, uint8_t *packet, size_t packet_len);
+
+/*
+ * How far a host is. Answers CFU_SERVED, or C1 (host) with zeros. It takes no bundle and so knows no N1: bytes that are no record report 0xFFFFFFFF packets.
+ */
+cfu_report cfu_host_report(const uint8_t *host, size_t host_len);
+
+/*
+ * ---- Packets ----
+ *
+ * Building writes a packet of CFU_SHORT_SIZE or CFU_LONG_SIZE bytes and answers CFU_SERVED, C2, C3, or P2 with the packet zeroed. Information, extended and the two
+ * replies hold any value of their fields and know no P2. What is built reads back to the same fields, unused data as zero.
+ * The components of a version reply, CFU_COMPONENTS_SIZE bytes: seven times running version (4), id (1), platform (2).
+ */
+
+uint32_t cfu_build_version_reply(uint8_t count, uint8_t protocol, const uint8_t *components, size_t components_len, uint8_t *packet, size_t packet_len);
+
+uint32_t cfu_build_offer(cfu_offer offer, uint8_t *packet, size_t packet_len);
+
+uint32_t cfu_build_information(uint8_t code, uint8_t token, uint8_t *packet, size_t packet_len);
+
+uint32_t cfu_build_extended(uint8_t code, uint8_t token, uint8_t *packet, size_t packet_len);
+
+uint32_t cfu_build_offer_reply(uint8_t token, uint8_t reason, uint8_t status, uint8_t *packet, size_t packet_len);
+
+/* bytes: CFU_DATA_SIZE of data, of which the first `length` are sent. */
+uint32_t cfu_build_content(uint8_t flags, uint8_t length, uint16_t sequence, uint32_t address, const uint8_t *bytes, size_t bytes_len, uint8_t *packet,
+                           size_t packet_len);
+
+uint32_t cfu_build_content_reply(uint16_t sequence, uint8_t status, uint8_t *packet, size_t packet_len);
+
+/*
+ * Reading answers the fields, or C3 or P1 (of a version reply also P2) with all fields zero. A packet of any length may be lent.
+ */
+
+/* components: CFU_COMPONENTS_SIZE bytes, zero past the count; zeroed by P1 and P2. */
+cfu_version_reply cfu_read_version_reply(const uint8_t *packet, size_t packet_len, uint8_t *components, size_t components_len);
+
+/* Offer, information or extended, by byte 2. */
+cfu_offer_packet cfu_read_offer(const uint8_t *packet, size_t packet_len);
+
+cfu_offer_reply cfu_read_offer_reply(const uint8_t *packet, size_t packet_len);
+
+/* bytes: CFU_DATA_SIZE of data, zero past the packet's length field; zeroed by P1. */
+cfu_content cfu_read_content(const uint8_t *packet, size_t packet_len, uint8_t *bytes, size_t bytes_len);
+
+cfu_content_reply cfu_read_content_reply(const uint8_t *packet, size_t packet_len);
+
+#ifdef __cplusplus
+}
+#endif
+
+#endif

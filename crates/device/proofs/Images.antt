@@ -11,7 +11,6 @@ use Rattle.wire.specs.Codes.{NOTIFY-ON-READY, INFO-START-ENTIRE-TRANSACTION, IN
 use Rattle.offers.specs.Kind.{Kind, offer, information, extended, kindIn}
 use Rattle.offers.specs.declared.signal.Signal.{Signal}
 use Rattle.contents.specs.Content.{fieldsIn}
-use Rattle.contents.specs.declared.content.ContentFields.{ContentFields}
 use Rattle.image.specs.Region.{regionBytes}
 use Rattle.image.specs.Judge.{imageIn}
 use Rattle.image.specs.declared.judge.Image.{Image}
@@ -22,7 +21,6 @@ use Rattle.component.specs.declared.record.Component.{Component}
 use Rattle.component.specs.declared.record.Staged.{Staged}
 use Rattle.component.specs.declared.record.Staged.the-variants.{Nothing, Pending}
 use Rattle.device.specs.declared.record.Device.{Device}
-use Rattle.device.specs.declared.answer.Channel.{Channel}
 use Rattle.device.specs.declared.answer.Channel.the-variants.{Offer, Content}
 use Rattle.device.specs.declared.record.Owed.{Owed}
 use Rattle.device.specs.declared.record.Owed.the-variants as owed

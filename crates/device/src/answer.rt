@@ -1,9 +1,11 @@
 // What an entry of the device answers.
 use crate::record::Device;
-use crate::record::Owed;
+use component::record::Component;
 use component::setup::SetupVerdict;
+use session::effect::Effect;
+use session::owed::Owed;
 ghost use mathlib.Core.Path.{_≡_};
-ghost use Rattle.device.specs.Refusals.{rowOf, told, refusedBy, answeredWith, silent as silentAs};
+ghost use Rattle.device.specs.Refusals.{rowOf, told, refusedBy, servedWith};
 
 // Served, or the row that refuses the call.
 pub enum Refusal {
@@ -60,29 +62,20 @@ impl Device {
         }
     }
 
-    // One reply, and then the READY that was owed.
-    pub(crate) fn answered(self, reply: [u8; 16], ready: Owed) -> Answer
-        ensures { λ r. ⌜ told r ≡ answeredWith reply ready self ⌝ }
+    // A served call: what the packet does, and the components afterwards.
+    pub(crate) fn served(self, parts: [Component; 7], effect: Effect) -> Answer
+        ensures { λ r. ⌜ told r ≡ servedWith self parts effect ⌝ }
     {
+        let reply = effect.reply;
+        let ready = effect.ready;
+        let session = effect.session;
+        let device = self.with_session(parts, session);
         Answer {
             refusal: Refusal::Served,
-            due: true,
+            due: effect.due,
             reply,
             ready,
-            device: self,
-        }
-    }
-
-    // No reply now.
-    pub(crate) fn silent(self) -> Answer
-        ensures { λ r. ⌜ told r ≡ silentAs self ⌝ }
-    {
-        Answer {
-            refusal: Refusal::Served,
-            due: false,
-            reply: [0u8; 16],
-            ready: Owed::Nothing,
-            device: self,
+            device,
         }
     }
 }

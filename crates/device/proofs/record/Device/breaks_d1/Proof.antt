@@ -1,51 +1,20 @@
--- `Device::breaks_d1` meets its contract: the four parts of D1, each as its helper says. Assumes nothing.
-use Rattle.device.specs.Refusals.{breaksD1}
+-- `Device::breaks_d1` meets its contract: D1 of its fields. Assumes nothing.
+use mathlib.Core.Path.{_∙_}
 use borrow.Author.Needs.{needs}
 use Rattle.device.proofs.record.Device.breaks_d1.Statement.{statement}
 use Rattle.device.proofs.record.Device.breaks_d1.Tie as tie
 
-open-slot-requires : tie.Need-open-slot-requires
-open-slot-requires c κs = search needs
+session-requires : tie.Need-session-requires
+session-requires c κs = search needs
 
-cast-setup-verdict : tie.Need-cast-setup-verdict
-cast-setup-verdict c = search needs
+cast-breaks-d1 : tie.Need-cast-breaks-d1
+cast-breaks-d1 c = search needs
 
-setup-verdict-requires : tie.Need-setup-verdict-requires
-setup-verdict-requires c κs = search needs
-
-refuses-setup-requires : tie.Need-refuses-setup-requires
-refuses-setup-requires c κs = search needs
-
-wrong-slot-requires : tie.Need-wrong-slot-requires
-wrong-slot-requires c κs = search needs
-
-owes-on-requires : tie.Need-owes-on-requires
-owes-on-requires c κs = search needs
-
-some-stale-requires : tie.Need-some-stale-requires
-some-stale-requires c κs = search needs
+breaks-d1-requires : tie.Need-breaks-d1-requires
+breaks-d1-requires c κs = search needs
 
 returns : tie.Need-returns
-unfolding breaksD1
-returns c =
-    rw (
-      c .before .before .before .refuses-setup .ensures,
-      c .before .before .wrong-slot .ensures,
-      c .before .owes-on .ensures,
-      c .some-stale .ensures,
-      c .before .before .before .before .setup-verdict .ensures,
-      c .before .before .before .before .before .before .open-slot .ensures,
-    )
+returns c = c .breaks-d1 .ensures ∙ rw (c .before .before .session .ensures)
 
 pub breaks-d1-spec : {M : Type 1} → statement M
-breaks-d1-spec =
-    tie.close
-    (tie.spec
-    open-slot-requires
-    cast-setup-verdict
-    setup-verdict-requires
-    refuses-setup-requires
-    wrong-slot-requires
-    owes-on-requires
-    some-stale-requires
-    returns)
+breaks-d1-spec = tie.close (tie.spec session-requires cast-breaks-d1 breaks-d1-requires returns)

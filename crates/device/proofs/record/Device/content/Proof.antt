@@ -1,5 +1,5 @@
 -- `Device::content` meets its contract: D1 to D3, or the answer to a block. Assumes nothing.
-use mathlib.Core.Path.{_≡_, ap}
+use mathlib.Core.Path.{_≡_, ap, _∙_}
 use borrow.Author.Tests.{eq-eqb}
 use denote.Ref.{now}
 use lib.ListN.{length}
@@ -7,8 +7,8 @@ use Rattle.wire.specs.Rows.{Told}
 use Rattle.contents.specs.Content.{fieldsIn, readOf}
 use Rattle.contents.specs.declared.content.ContentFields.{ContentFields}
 use Rattle.device.specs.Refusals.{served, rowOf, refusalOf}
-use Rattle.device.specs.Content.{contentEntry, contentStaging}
-use Rattle.device.proofs.Chain.{by}
+use Rattle.device.specs.Content.{received, contentEntry, contentStaging}
+use Rattle.wire.proofs.Chain.{by}
 use Rattle.device.proofs.Passes.{serves}
 use borrow.Author.Needs.{needs}
 use Rattle.device.proofs.record.Device.content.Statement.{statement}
@@ -23,8 +23,14 @@ enum-told c = search needs
 read-content-requires : tie.Need-read-content-requires
 read-content-requires c κs = search needs
 
+session-requires : tie.Need-session-requires
+session-requires c κs = search needs
+
 on-content-requires : tie.Need-on-content-requires
 on-content-requires c κs = search needs
+
+served-requires : tie.Need-served-requires
+served-requires c κs = search needs
 
 enum-told-2 : tie.Need-enum-told-2
 enum-told-2 c = search needs
@@ -58,10 +64,12 @@ read c = ap (λ (t : Told ContentFields). t .value) (rw (eq-eqb _ _ (serves 60 _
 returns : tie.Need-returns
 unfolding contentEntry contentStaging
 returns c =
-    let a = c .before .before .before .before .before .before .before .before .before .before .before .args in
-    let r = serves-it (c .before .before .before .before .before .before) in
-    let e = read (c .before .before .before .before .before) in
-    (rw r (rw e at (c .before .before .on-content .ensures .0)), rw r (rw e at (c .before .before .on-content .ensures .1)))
+    let d = c .before .before .before .before .before .before .before .before .before .before .before .before .before .before .before .before .args .self in
+    let r = serves-it (c .before .before .before .before .before .before .before .before .before .before .before) in
+    let e = read (c .before .before .before .before .before .before .before .before .before .before) in
+    let s = c .before .before .before .before .before .before .before .session .ensures in
+    let o = c .before .before .before .before .before .on-content .ensures in
+    (rw r (c .served .ensures ∙ ap (received d) (rw (e, s) at (o .0))), rw r (rw (e, s) at (o .1)))
 
 returns-2 : tie.Need-returns-2
 unfolding contentEntry contentStaging
@@ -82,7 +90,9 @@ content-spec =
     refusal-requires
     enum-told
     read-content-requires
+    session-requires
     on-content-requires
+    served-requires
     enum-told-2
     refused-requires
     enum-told-3

@@ -8,7 +8,7 @@ use Rattle.wire.specs.Rows.{Told}
 use Rattle.offers.specs.Kind.{Kind, kindIn, readOf, toldRead}
 use Rattle.device.specs.Refusals.{served, rowOf, refusalOf}
 use Rattle.device.specs.Offer.{onKind, offerEntry}
-use Rattle.device.proofs.Chain.{by}
+use Rattle.wire.proofs.Chain.{by}
 use Rattle.device.proofs.Passes.{serves}
 use borrow.Author.Needs.{needs}
 use Rattle.device.proofs.record.Device.offer.Statement.{statement}

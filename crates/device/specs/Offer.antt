@@ -3,10 +3,10 @@ use Prim.Native.Nat.{ℕ}
 use mathlib.Core.Bool.{Bool}
 use mathlib.Core.List.{List}
 use lib.ListN.{length}
-use Rattle.offers.specs.Kind.{Kind, offer, information, extended, kindIn}
+use Rattle.offers.specs.Kind.{Kind, kindIn}
 use Rattle.offers.specs.declared.offer.OfferFields.{OfferFields}
 use Rattle.offering.specs.Offer as offering
-use Rattle.offering.specs.Signal.{onInformation, onExtended}
+use Rattle.offering.specs.Packet as packet
 use Rattle.offering.specs.declared.verdict.OfferVerdict.{OfferVerdict}
 use Rattle.device.specs.declared.record.Device.{Device}
 use Rattle.device.specs.Record.{sessionOf}
@@ -21,9 +21,7 @@ needUnmet d o = offering.needUnmet (d .count) (d .parts) o
 
 -- a packet by its kind; none changes a component
 abbrev pub onKind : Device → Kind → Outcome
-onKind d (offer o) = servedWith d (d .parts) (offering.onOffer (d .platform) (d .count) (d .parts) (sessionOf d) o)
-onKind d (information s) = servedWith d (d .parts) (onInformation (sessionOf d) s)
-onKind d (extended s) = servedWith d (d .parts) (onExtended (sessionOf d) s)
+onKind d kind = servedWith d (d .parts) (packet.onKind (d .platform) (d .count) (d .parts) (sessionOf d) kind)
 
 -- the offer entry, for a staging buffer of n bytes
 unfoldable pub offerEntry : Device → (n : ℕ) → (report : List ℕ) → Outcome

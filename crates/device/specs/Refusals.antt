@@ -29,6 +29,10 @@ rowOf D1 = D 1
 rowOf D2 = D 2
 rowOf D3 = D 3
 
+abbrev pub isRefused : Row → Bool
+isRefused served = false
+isRefused (D k) = true
+
 -- D1
 abbrev pub breaksD1 : Device → Bool
 breaksD1 d = sound.breaksD1 (d .«staging_len») (d .count) (d .parts) (sessionOf d)

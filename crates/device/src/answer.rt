@@ -5,7 +5,7 @@ use component::setup::SetupVerdict;
 use session::effect::Effect;
 use session::owed::Owed;
 ghost use mathlib.Core.Path.{_≡_};
-ghost use Rattle.device.specs.Refusals.{rowOf, told, refusedBy, servedWith};
+ghost use Rattle.device.specs.Refusals.{rowOf, isRefused, told, refusedBy, servedWith};
 
 // Served, or the row that refuses the call.
 pub enum Refusal {
@@ -46,6 +46,19 @@ pub struct SetupAnswer {
 pub enum Channel {
     Offer,
     Content,
+}
+
+impl Refusal {
+    pub fn is_refused(self) -> bool
+        ensures { λ r. ⌜ r ≡ isRefused (rowOf self) ⌝ }
+    {
+        match self {
+            Refusal::Served => false,
+            Refusal::D1 => true,
+            Refusal::D2 => true,
+            Refusal::D3 => true,
+        }
+    }
 }
 
 impl Device {

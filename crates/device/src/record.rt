@@ -5,7 +5,7 @@ use session::owed::Owed;
 use session::stage::Stage;
 use slots::slot::blank_component;
 ghost use mathlib.Core.Path.{_≡_};
-ghost use Rattle.device.specs.Record.{sessionOf, withSession, blankDevice};
+ghost use Rattle.device.specs.Record.{withSession, blankDevice};
 
 pub struct Device {
     pub platform: u16,
@@ -19,15 +19,6 @@ pub struct Device {
 }
 
 impl Device {
-    // Its session.
-    pub(crate) fn session(self) -> Session
-        ensures { λ r. ⌜ r ≡ sessionOf self ⌝ }
-    {
-        let stage = self.stage;
-        let owed = self.owed;
-        Session { stage, owed }
-    }
-
     // With these components and this session.
     pub(crate) fn with_session(self, parts: [Component; 7], session: Session) -> Device
         ensures { λ r. ⌜ r ≡ withSession self parts session ⌝ }

@@ -1,6 +1,7 @@
 // Rows D1 to D3 (document 01, "Numbered refusals"): what every entry judges first.
 use crate::answer::Refusal;
 use crate::record::Device;
+use session::effect::Session;
 use session::sound;
 ghost use mathlib.Core.Path.{_≡_};
 ghost use Rattle.device.specs.Refusals.{rowOf, breaksD1, refusalOf};
@@ -11,8 +12,14 @@ impl Device {
         ensures { λ r. ⌜ r ≡ breaksD1 self ⌝ }
     {
         let parts = self.parts;
-        let session = self.session();
-        sound::breaks_d1(self.staging_len as usize, self.count, parts, session)
+        let stage = self.stage;
+        let owed = self.owed;
+        sound::breaks_d1(
+            self.staging_len as usize,
+            self.count,
+            parts,
+            Session { stage, owed },
+        )
     }
 
     // D1, D2 and D3, in this order, for a staging buffer of n bytes, a report of m bytes, and reports that are `size` bytes long.

@@ -62,5 +62,4 @@ contentVerdict parts stage c =
 -- check 6: on first, fill the region with 0xFF; write the data
 unfoldable pub takeBlock : List Component → (slot : ℕ) → ContentFields → List ℕ → List ℕ
 takeBlock parts slot c s =
-    writeOf (window parts slot) (c .address) (take (c .length) (c .«data»))
-    (cond (isFirst c) (eraseOf (window parts slot) s) s)
+    writeOf (window parts slot) (c .address) (take (c .length) (c .«data»)) (cond (isFirst c) (eraseOf (window parts slot) s) s)

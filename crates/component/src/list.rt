@@ -22,7 +22,7 @@ pub enum Found {
 }
 
 // A count as far as there are slots.
-fn within_slots(count: u8) -> u8
+pub fn within_slots(count: u8) -> u8
     ensures { λ r. ⌜ r ≡ min count COMPONENT-LIMIT ⌝ }
 {
     if count <= COMPONENT_LIMIT {

@@ -1,54 +1,30 @@
 -- What an entry's own answer is: it is served, so that a refused call changes nothing, and each entry refuses the blank record. Assumes nothing.
 use mathlib.Core.Path.{_≡_, refl}
-use mathlib.Core.Bool.{Bool, true, false}
 use mathlib.Core.List.{List}
 use Prim.Native.Nat.{ℕ}
 use native.Mathlib.Omega.{arith}
-use lib.Dec.{eqb, leb}
 use lib.ListN.{length}
-use Rattle.wire.specs.Codes.{NOTIFY-ON-READY, INFO-START-ENTIRE-TRANSACTION, INFO-END-OFFER-LIST}
 use Rattle.wire.specs.Checks.{firstOf, any}
 use Rattle.offers.specs.Kind.{Kind, offer, information, extended, kindIn}
 use Rattle.contents.specs.Content.{fieldsIn}
-use Rattle.contents.specs.declared.content.ContentFields.{ContentFields}
 use Rattle.component.specs.Setup.{setupVerdict}
+use Rattle.session.specs.Sound as sound
+use Rattle.receiving.specs.Receive.{onContent}
 use Rattle.device.specs.declared.record.Device.{Device}
-use Rattle.device.specs.declared.record.Owed.{Owed}
-use Rattle.device.specs.declared.record.Owed.the-variants as owed
 use Rattle.device.specs.declared.answer.Channel.{Channel}
 use Rattle.device.specs.declared.answer.Channel.the-variants.{Offer, Content}
-use Rattle.device.specs.declared.judged.ContentVerdict.{ContentVerdict}
-use Rattle.device.specs.declared.judged.ContentVerdict.the-variants.{Refuse, Take}
-use Rattle.device.specs.Record.{isOpen, blankDevice}
-use Rattle.device.specs.Refusals.{Row, served, D, breaksD1, refusalOf, Outcome, refusedBy, unlessRefused}
-use Rattle.device.specs.Offer.{onOffer, onInformation, onNotify, onExtended, onKind, offerEntry}
-use Rattle.device.specs.Content.{isLast, onBlock, onVerdict, contentVerdict, contentEntry, contentStaging}
+use Rattle.device.specs.Record.{sessionOf, blankDevice}
+use Rattle.device.specs.Refusals.{Row, served, D, refusalOf, Outcome, refusedBy, unlessRefused}
+use Rattle.device.specs.Offer.{onKind, offerEntry}
+use Rattle.device.specs.Content.{received, contentEntry, contentStaging}
 use Rattle.device.specs.Entries.{versionEntry, resetEntry, serveEntry, serveStaging}
 use Rattle.device.specs.Promises.{BlankRefused, RefusedChangesNothing}
-use Rattle.device.proofs.Chain.{either}
 
-abbrev IsServed : Outcome → Type 0
-IsServed a = a .row ≡ served
-
-module _ (d : Device) where
-  notify-served : (token : ℕ) (b : Bool) (o : Owed) → IsServed (onNotify d token b o)
-  notify-served token false o = refl
-  notify-served token true owed.Nothing = refl
-  notify-served token true (owed.Token t) = refl
-
-  -- the answer to an offer packet is served
-  pub kind-served : (x : Kind) → onKind d x .row ≡ served
-  unfolding onOffer onInformation onExtended
-  kind-served (offer o) = refl
-  kind-served (information s) =
-      either IsServed (eqb (s .code) INFO-START-ENTIRE-TRANSACTION) _ _ refl (either IsServed (leb (s .code) INFO-END-OFFER-LIST) _ _ refl refl)
-  kind-served (extended s) = either IsServed (eqb (s .code) NOTIFY-ON-READY) _ _ (notify-served (s .token) (isOpen (d .stage)) (d .owed)) refl
-
-  -- so is the answer to a content packet
-  pub content-served : (c : ContentFields) (s : List ℕ) (v : ContentVerdict) → onVerdict d c s v .row ≡ served
-  unfolding onBlock
-  content-served c s (Refuse status) = refl
-  content-served c s (Take k) = either IsServed (isLast c) _ _ refl refl
+-- the answer to an offer packet is served
+kind-served : (d : Device) (x : Kind) → onKind d x .row ≡ served
+kind-served d (offer o) = refl
+kind-served d (information s) = refl
+kind-served d (extended s) = refl
 
 module _ (row : Row) (d : Device) (answer : Outcome) where
   -- a refused call's row is one of D1 to D3
@@ -70,12 +46,11 @@ unfolding serveEntry serveStaging offerEntry contentEntry contentStaging
 refused-changes-nothing d Offer staging report k e =
     let r = refused-row (refusalOf 16 d (length staging) (length report)) d (onKind d (kindIn report)) k (kind-served d (kindIn report)) e in (rw r, refl)
 refused-changes-nothing d Content staging report k e =
-    let v = contentVerdict d (fieldsIn report) in
-    let r = refused-row (refusalOf 60 d (length staging) (length report)) d (onVerdict d (fieldsIn report) staging v) k (content-served d (fieldsIn report) staging v) e in
+    let r = refused-row (refusalOf 60 d (length staging) (length report)) d (received d (onContent (d .parts) (sessionOf d) (fieldsIn report) staging)) k refl e in
     (rw r, rw r)
 
 pub blank-refused : BlankRefused
-unfolding serveEntry serveStaging offerEntry contentEntry contentStaging versionEntry resetEntry refusalOf breaksD1 firstOf any setupVerdict
+unfolding serveEntry serveStaging offerEntry contentEntry contentStaging versionEntry resetEntry refusalOf sound.breaksD1 firstOf any setupVerdict
 blank-refused = record { packets = packets; staging = buffer; versions = refl; resets = refl } where
   packets : (channel : Channel) (staging report : List ℕ) → serveEntry blankDevice channel staging report ≡ refusedBy (D 1) blankDevice
   packets Offer staging report = refl

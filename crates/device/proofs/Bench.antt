@@ -9,9 +9,13 @@ use Rattle.versions.specs.Reply.{flat, replyBytes}
 use Rattle.image.specs.Region.{within, blank, put, eraseOf, writeOf}
 use Rattle.component.specs.Lists.{firstFrom, find}
 use Rattle.component.specs.Setup.{badIds, badRegions, setupVerdict}
-use Rattle.device.specs.Refusals.{breaksD1, refusalOf}
-use Rattle.device.specs.Offer.{rejections, needUnmet, offerVerdict, onOffer, offerEntry}
-use Rattle.device.specs.Content.{contentVerdict, takeBlock, onBlock, contentEntry, contentStaging}
+use Rattle.session.specs.Sound.{breaksD1}
+use Rattle.offering.specs.Offer.{rejections, needUnmet, offerVerdict, onOffer}
+use Rattle.receiving.specs.Content.{contentVerdict, takeBlock}
+use Rattle.receiving.specs.Receive.{onBlock}
+use Rattle.device.specs.Refusals.{refusalOf}
+use Rattle.device.specs.Offer.{offerEntry}
+use Rattle.device.specs.Content.{contentEntry, contentStaging}
 use Rattle.device.specs.Entries.{versionEntry, serveEntry, serveStaging}
 use Rattle.device.specs.Bench.{BenchHolds}
 

@@ -24,16 +24,21 @@ use Rattle.component.specs.Versions.{imageVersionFits}
 use Rattle.component.specs.declared.record.Component.{Component}
 use Rattle.component.specs.declared.list.Found.the-variants.{At}
 use Rattle.device.specs.declared.record.Device.{Device}
-use Rattle.device.specs.declared.record.Owed.the-variants as owed
-use Rattle.device.specs.declared.record.Stage.{Stage}
-use Rattle.device.specs.declared.record.Stage.the-variants.{Offered, Receiving}
+use Rattle.session.specs.declared.owed.Owed.the-variants as owed
+use Rattle.session.specs.declared.stage.Stage.{Stage}
+use Rattle.session.specs.declared.stage.Stage.the-variants.{Offered, Receiving}
 use Rattle.device.specs.declared.answer.Channel.the-variants.{Content}
-use Rattle.device.specs.declared.judged.ContentVerdict.the-variants.{Take}
-use Rattle.device.specs.Record.{idleWith, openSlot}
-use Rattle.device.specs.Refusals.{answeredWith}
-use Rattle.device.specs.Content.{atToken, isFirst, isLast, badShape, contentVerdict, takeBlock, finish, onBlock, contentEntry, contentStaging}
+use Rattle.receiving.specs.declared.checks.ContentVerdict.the-variants.{Take}
+use Rattle.session.specs.Stage.{openSlot, atToken}
+use Rattle.session.specs.Effect.{idle}
+use Rattle.receiving.specs.Content as receiving
+use Rattle.receiving.specs.Content.{isFirst, isLast, badShape, takeBlock}
+use Rattle.receiving.specs.Finish.{finish}
+use Rattle.receiving.specs.Receive.{onBlock}
+use Rattle.device.specs.Record.{sessionOf, idleWith}
+use Rattle.device.specs.Content.{contentVerdict, received, contentEntry, contentStaging}
 use Rattle.device.specs.Entries.{serveEntry, serveStaging}
-use Rattle.device.proofs.Calls.{Sound, rows-pass}
+use Rattle.device.proofs.Calls.{Sound, answeredWith, rows-pass}
 
 -- the record with these components in this stage, owing nothing
 abbrev pub held : Device → List Component → Stage → Device
@@ -80,7 +85,7 @@ bears m id v r i w = rw (r, eq-eqb (imageId m) id i) (ap Bears w)
 module _ (d : Device) (parts : List Component) (slot token : ℕ) (c : ContentFields) where
   -- checks 1 to 5 let it pass
   pub takes : (k : ℕ) → Fitting c k (partAt parts slot .region) → contentVerdict (held d parts (awaits slot token k)) c ≡ Take slot
-  unfolding contentVerdict firstOf
+  unfolding receiving.contentVerdict firstOf
   takes zero f = simp (f .shape, f .first, f .room)
   takes (suc k) f =
       simp (f .shape, f .first, eqb·suc-zero k, f .sequence, eq-eqb (suc k % 65536) (suc k % 65536) refl, f .room)
@@ -88,7 +93,7 @@ module _ (d : Device) (parts : List Component) (slot token : ℕ) (c : ContentFi
   -- its bytes are put into the region
   pub puts : (k : ℕ) (stage : Stage) (s bytes : List ℕ) → Fitting c k (partAt parts slot .region) → isInside (partAt parts slot .region) (length s) ≡ true
       → take (c .length) (c .«data») ≡ bytes → length bytes ≡ c .length
-      → takeBlock (held d parts stage) slot c s
+      → takeBlock parts slot c s
       ≡ within (partAt parts slot .region .base .0) (partAt parts slot .region .len)
       (λ (l : List ℕ). put (c .address .0) bytes (groundOf k (partAt parts slot .region .len) l)) s
   unfolding takeBlock
@@ -106,7 +111,7 @@ module _ (d : Device) (parts : List Component) (slot token : ℕ) (c : ContentFi
 
   -- a block that is not the last: the session waits for the next
   goes-on : (k : ℕ) (s : List ℕ) → c .sequence ≡ k % 65536 → isLast c ≡ false
-      → onBlock (held d parts (awaits slot token k)) slot c s
+      → received (held d parts (awaits slot token k)) (onBlock parts (sessionOf (held d parts (awaits slot token k))) slot c s)
       ≡ answeredWith (replyBytes (record { sequence = c .sequence; status = SUCCESS })) owed.Nothing (held d parts (awaits slot token (suc k)))
   unfolding onBlock
   goes-on k s q h =
@@ -114,31 +119,31 @@ module _ (d : Device) (parts : List Component) (slot token : ℕ) (c : ContentFi
       rw (h, e, awaits-token slot token k)
 
   -- a right image: pending with its version, and idle
-  finishes : (stage : Stage) (s m : List ℕ) (v : Version) → regionBytes (partAt parts slot .region) s ≡ m → isRight m ≡ true
+  finishes : (s m : List ℕ) (v : Version) → regionBytes (partAt parts slot .region) s ≡ m → isRight m ≡ true
       → imageId m ≡ partAt parts slot .id → imageVersion m ≡ v → imageVersionFits (partAt parts slot) v ≡ true
-      → finish (held d parts stage) slot s ≡ record { status = SUCCESS; device = idleWith d (set parts slot (withStaged (partAt parts slot) v)) }
+      → finish parts slot s ≡ record { status = SUCCESS; parts = set parts slot (withStaged (partAt parts slot) v); session = idle }
   unfolding finish
-  finishes stage s m v e r i w g = rw (e, bears m (partAt parts slot .id) v r i w, g)
+  finishes s m v e r i w g = rw (e, bears m (partAt parts slot .id) v r i w, g)
 
   -- the reply to the last block of a right image
   ends : (stage : Stage) (s m : List ℕ) (v : Version) → isLast c ≡ true → regionBytes (partAt parts slot .region) s ≡ m → isRight m ≡ true
       → imageId m ≡ partAt parts slot .id → imageVersion m ≡ v → imageVersionFits (partAt parts slot) v ≡ true
-      → onBlock (held d parts stage) slot c s
+      → received (held d parts stage) (onBlock parts (sessionOf (held d parts stage)) slot c s)
       ≡ answeredWith (replyBytes (record { sequence = c .sequence; status = SUCCESS })) owed.Nothing
       (idleWith d (set parts slot (withStaged (partAt parts slot) v)))
   unfolding onBlock
-  ends stage s m v h e r i w g = rw (h, finishes stage s m v e r i w g)
+  ends stage s m v h e r i w g = rw (h, finishes s m v e r i w g)
 
   module _ (s p : List ℕ) (size : length p ≡ 60) (reads : fieldsIn p ≡ c) (k : ℕ) (f : Fitting c k (partAt parts slot .region))
       (sound : Sound (held d parts (awaits slot token k)) s) where
     -- the staging buffer afterwards
-    pub block-staging : serveStaging (held d parts (awaits slot token k)) Content s p ≡ takeBlock (held d parts (awaits slot token k)) slot c s
+    pub block-staging : serveStaging (held d parts (awaits slot token k)) Content s p ≡ takeBlock parts slot c s
     unfolding serveStaging contentStaging
     block-staging = rw (rows-pass 60 (held d parts (awaits slot token k)) s (length p) sound size, reads, takes k f)
 
     -- the answer is that of a taken block
     block-taken : serveEntry (held d parts (awaits slot token k)) Content s p
-        ≡ onBlock (held d parts (awaits slot token k)) slot c (takeBlock (held d parts (awaits slot token k)) slot c s)
+        ≡ received (held d parts (awaits slot token k)) (onBlock parts (sessionOf (held d parts (awaits slot token k))) slot c (takeBlock parts slot c s))
     unfolding serveEntry contentEntry
     block-taken = rw (rows-pass 60 (held d parts (awaits slot token k)) s (length p) sound size, reads, takes k f)
 
@@ -150,7 +155,7 @@ module _ (d : Device) (parts : List Component) (slot token : ℕ) (c : ContentFi
 
     -- the last block of a right image that is not older: status 0, and the component is pending with its version
     pub block-last : (m : List ℕ) (v : Version) → isLast c ≡ true
-        → regionBytes (partAt parts slot .region) (takeBlock (held d parts (awaits slot token k)) slot c s) ≡ m → isRight m ≡ true
+        → regionBytes (partAt parts slot .region) (takeBlock parts slot c s) ≡ m → isRight m ≡ true
         → imageId m ≡ partAt parts slot .id → imageVersion m ≡ v → imageVersionFits (partAt parts slot) v ≡ true
         → serveEntry (held d parts (awaits slot token k)) Content s p
         ≡ answeredWith (replyBytes (record { sequence = c .sequence; status = SUCCESS })) owed.Nothing

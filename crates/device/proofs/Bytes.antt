@@ -11,7 +11,7 @@ use Rattle.wire.specs.declared.address.RegionAddress.{RegionAddress}
 use Rattle.contents.specs.Content.{cleared}
 use Rattle.image.specs.Region.{isInside, holds, within, regionBytes, blank, put, eraseOf, writeOf}
 use Rattle.image.specs.declared.region.Region.{Region}
-use Rattle.device.proofs.Chain.{either}
+use Rattle.wire.proofs.Chain.{either}
 
 pub take-bytes : (n : ℕ) (l : List ℕ) → Bytes l → Bytes (take n l)
 take-bytes zero l h i = omega arith

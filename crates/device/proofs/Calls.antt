@@ -2,28 +2,45 @@
 use Prim.Native.Nat.{ℕ, _≤_}
 use mathlib.Core.Path.{_≡_, refl, _∙_}
 use mathlib.Core.Bool.{Bool, true, false, cond}
-use mathlib.Core.List.{List}
+use mathlib.Core.List.{List, _∷_}
 use native.Mathlib.Omega.{arith}
 use borrow.Author.Tests.{eq-eqb, ne-eqb, le-leb}
 use lib.Dec.{leb, eqb}
 use lib.ListN.{length}
 use Rattle.wire.specs.Checks.{firstOf}
 use Rattle.wire.specs.Codes.{OFFER-ACCEPT, OFFER-UNSUPPORTED, SUCCESS}
+use Rattle.offers.specs.Reply.{replyBytes}
 use Rattle.offers.specs.Signal.{informationBytes}
 use Rattle.offers.specs.Kind.{Kind, offer, information, kindIn}
 use Rattle.offers.specs.declared.offer.OfferFields.{OfferFields}
 use Rattle.offers.specs.declared.signal.Signal.{Signal}
 use Rattle.contents.specs.Content.{fieldsIn}
+use Rattle.session.specs.Effect.{idle}
+use Rattle.session.specs.declared.owed.Owed.{Owed}
+use Rattle.session.specs.declared.owed.Owed.the-variants as owed
+use Rattle.offering.specs.Offer.{onOffer}
+use Rattle.offering.specs.Signal as signal
+use Rattle.offering.specs.Signal.{onInformation}
+use Rattle.receiving.specs.Content.{isLast, takeBlock}
+use Rattle.receiving.specs.Finish.{finish}
+use Rattle.receiving.specs.Receive.{blockReply, goesOn, onBlock, onVerdict}
+use Rattle.receiving.specs.declared.checks.ContentVerdict.{ContentVerdict}
+use Rattle.receiving.specs.declared.checks.ContentVerdict.the-variants.{Refuse, Take}
 use Rattle.device.specs.declared.record.Device.{Device}
-use Rattle.device.specs.declared.record.Owed.the-variants as owed
 use Rattle.device.specs.declared.answer.Channel.the-variants.{Offer, Content}
-use Rattle.device.specs.declared.judged.ContentVerdict.{ContentVerdict}
-use Rattle.device.specs.declared.judged.ContentVerdict.the-variants.{Refuse, Take}
-use Rattle.device.specs.Record.{toIdle}
-use Rattle.device.specs.Refusals.{served, breaksD1, refusalOf, Outcome}
-use Rattle.device.specs.Offer.{plainReply, onOffer, onInformation, onKind, offerEntry}
-use Rattle.device.specs.Content.{isLast, blockReply, goesOn, contentVerdict, takeBlock, finish, onBlock, onVerdict, contentEntry}
+use Rattle.device.specs.Record.{sessionOf, toIdle}
+use Rattle.device.specs.Refusals.{served, breaksD1, refusalOf, Outcome, servedWith, readySent}
+use Rattle.device.specs.Offer.{onKind, offerEntry}
+use Rattle.device.specs.Content.{contentVerdict, received, contentEntry}
 use Rattle.device.specs.Entries.{serveEntry}
+
+-- a served call with one reply, and then the READY that was owed
+abbrev pub answeredWith : List ℕ → Owed → Device → Outcome
+answeredWith bytes ready d = record { row = served; due = true; reply = bytes; ready = ready; sent = bytes ∷ readySent ready; device = d }
+
+-- one reply with this status, and no reason
+abbrev pub plainReply : (token status : ℕ) → Device → Outcome
+plainReply token status d = answeredWith (replyBytes (record { token = token; reason = 0; status = status })) owed.Nothing d
 
 -- D1 and D2 let pass
 pub record Sound (d : Device) (s : List ℕ) : Type 0 where
@@ -67,7 +84,8 @@ unfolding onInformation
 answers-code d s p x h l e = rw (serves-kind d s p (information x) h l e) (go (eqb (x .code) 0) (leb (x .code) 2))
   where
     go : (a b : Bool)
-        → Answered (cond a (plainReply (x .token) OFFER-ACCEPT (toIdle d)) (cond b (plainReply (x .token) OFFER-ACCEPT d) (plainReply (x .token) OFFER-UNSUPPORTED d)))
+        → Answered (servedWith d (d .parts) (cond a (signal.plainReply (x .token) OFFER-ACCEPT idle)
+        (cond b (signal.plainReply (x .token) OFFER-ACCEPT (sessionOf d)) (signal.plainReply (x .token) OFFER-UNSUPPORTED (sessionOf d)))))
     go true b = (refl, refl)
     go false true = (refl, refl)
     go false false = (refl, refl)
@@ -78,10 +96,12 @@ unfolding serveEntry contentEntry onBlock
 answers-block d s p h o l = rw (rows-pass 60 d s (length p) h l) (go (contentVerdict d (fieldsIn p)))
   where
     last : (slot : ℕ) (s′ : List ℕ) (b : Bool)
-        → Answered (cond b (blockReply (fieldsIn p) (finish d slot s′ .status) (d .owed) (finish d slot s′ .device)) (blockReply (fieldsIn p) SUCCESS owed.Nothing (goesOn d slot (fieldsIn p))))
+        → Answered (received d (cond b
+        (record { effect = blockReply (fieldsIn p .sequence) (finish (d .parts) slot s′ .status) (d .owed) (finish (d .parts) slot s′ .session); parts = finish (d .parts) slot s′ .parts })
+        (record { effect = blockReply (fieldsIn p .sequence) SUCCESS owed.Nothing (goesOn (sessionOf d) slot (fieldsIn p)); parts = d .parts })))
     last slot s′ true = rw o (refl, refl)
     last slot s′ false = (refl, refl)
 
-    go : (v : ContentVerdict) → Answered (onVerdict d (fieldsIn p) s v)
+    go : (v : ContentVerdict) → Answered (received d (onVerdict (d .parts) (sessionOf d) (fieldsIn p) s v))
     go (Refuse status) = (refl, refl)
-    go (Take slot) = last slot (takeBlock d slot (fieldsIn p) s) (isLast (fieldsIn p))
+    go (Take slot) = last slot (takeBlock (d .parts) slot (fieldsIn p) s) (isLast (fieldsIn p))

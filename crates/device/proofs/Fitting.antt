@@ -20,20 +20,25 @@ use Rattle.component.specs.declared.record.Component.{Component}
 use Rattle.component.specs.declared.record.Staged.{Staged}
 use Rattle.component.specs.declared.record.Staged.the-variants.{Nothing, Pending}
 use Rattle.component.specs.declared.setup.SetupVerdict.{SetupVerdict}
-use Rattle.device.specs.Entries.{newDevice, setUpBy, setUpOf, Reset, resetParts, resetEntry}
-use Rattle.device.proofs.Passes.{fine}
+use Rattle.slots.specs.Slots.{resetParts}
+use Rattle.session.specs.Stage.{FitsStage, openSlot, atToken}
+use Rattle.session.specs.Owed.{FitsOwed}
+use Rattle.session.specs.Sound.{refusesSetup}
+use Rattle.receiving.specs.Content.{isFirst, takeBlock}
+use Rattle.device.specs.Entries.{newDevice, setUpBy, setUpOf, Reset, resetEntry}
+use Rattle.session.proofs.sound.Laws.{fine}
 use Rattle.device.proofs.setup.Laws.{refused-set-up, made-set-up}
 use Rattle.wire.specs.Version.{FitsVersion}
 use Rattle.component.specs.declared.list.Found.the-variants as found
 use Rattle.device.specs.declared.record.Device.{Device}
-use Rattle.device.specs.declared.record.Owed.{Owed}
-use Rattle.device.specs.declared.record.Stage.{Stage}
-use Rattle.device.specs.declared.record.Stage.the-variants.{Idle, Offered, Receiving}
-use Rattle.device.specs.Record.{FitsStage, FitsOwed, FitsDevice, part, openSlot, blankDevice}
-use Rattle.device.specs.Refusals.{refusesSetup, breaksD1}
-use Rattle.device.specs.Content.{atToken, isFirst, window, takeBlock}
+use Rattle.session.specs.declared.owed.Owed.{Owed}
+use Rattle.session.specs.declared.stage.Stage.{Stage}
+use Rattle.session.specs.declared.stage.Stage.the-variants.{Idle, Offered, Receiving}
+use Rattle.device.specs.Record.{FitsDevice, part, blankDevice}
+use Rattle.device.specs.Refusals.{breaksD1}
+use Rattle.device.specs.Content.{window}
 use Rattle.device.specs.Promises.{SetUpFits, ResetKeepsFits, ServeKeepsFits}
-use Rattle.device.proofs.Chain.{either}
+use Rattle.wire.proofs.Chain.{either}
 use Rattle.component.proofs.list.Laws.{find-at}
 use Rattle.component.proofs.setup.Laws.{seen, fine-staging}
 use Rattle.device.proofs.Lists.{reset-seen, each-set, each-front}
@@ -67,7 +72,7 @@ bears m id v e = go (isRight m) (eqb (imageId m) id) e where
   go false b h = let z : _≡_ {A = ℕ} 0 1 = cc in absurd (omega arith)
 
 -- the staging buffer holds bytes after a block too
-block-bytes : (d : Device) (k : ℕ) (report s : List ℕ) → Bytes report → Bytes s → Bytes (takeBlock d k (contents.fieldsIn report) s)
+block-bytes : (d : Device) (k : ℕ) (report s : List ℕ) → Bytes report → Bytes s → Bytes (takeBlock (d .parts) k (contents.fieldsIn report) s)
 unfolding takeBlock contents.fieldsIn
 block-bytes d k report s h b =
     write-bytes (window d k) _ (either Bytes (isFirst (contents.fieldsIn report)) _ _ (erase-bytes (window d k) s b) b) _ _
@@ -86,7 +91,7 @@ move-fits {d} f h b (goes k e) =
     fits-with d f (d .parts) (f .slots) (f .each) _ (slot-fits (d .stage) k (f .stage) e, token-fits (d .stage) (f .stage), omega arith) _ (f .owed)
 move-fits {d} {staging = staging} {report = report} f h b (stages k e v q w) =
     let c = f .each k in
-    let after = takeBlock d k (contents.fieldsIn report) staging in
+    let after = takeBlock (d .parts) k (contents.fieldsIn report) staging in
     let r = part d k .region in
     let n : v .0 < 256 ^ 4 = rw (bears (regionBytes r after) _ v q) (version-fits 0 (regionBytes r after) (region-bytes r after (block-bytes d k report staging h b))) in
     let g : FitsComponent (withStaged (part d k) v) = record { id = c .id; running = c .running; region = c .region; staged = n } in

@@ -18,15 +18,18 @@ use Rattle.component.specs.declared.setup.SetupVerdict.the-variants.{Fine, S1, 
 use Rattle.device.specs.declared.record.Device.{Device}
 use Rattle.device.specs.Record.{part, idleWith}
 use Rattle.device.specs.Refusals.{breaksD1}
-use Rattle.device.specs.Content.{atSlot}
-use Rattle.device.specs.Entries.{newDevice, setUpBy, setUpOf, resetParts, resetEntry}
+use Rattle.slots.specs.Slots.{resetParts}
+use Rattle.session.specs.Stage.{atSlot}
+use Rattle.receiving.proofs.checks.Laws.{open-at}
+use Rattle.device.specs.Entries.{newDevice, setUpBy, setUpOf, resetEntry}
 use Rattle.device.specs.Promises.{SetUpPasses, ServeKeepsD1, ResetKeepsD1}
 use Rattle.component.proofs.list.Laws.{find-at}
 use Rattle.component.proofs.list.Members.{map-take, any-map}
 use Rattle.component.proofs.setup.Laws.{setup-same, setup-staged}
 use Rattle.device.proofs.Lists.{any-never, any-set, reset-seen, reset-take}
-use Rattle.device.proofs.Passes.{Passes, passes, keeps, count-most, open-slot}
-use Rattle.device.proofs.Moves.{Move, stays, idles, opens, owes, goes, stages, open-at, serve-moves}
+use Rattle.session.proofs.sound.Laws.{passes, keeps, count-most, open-slot}
+use Rattle.device.proofs.Passes.{Passes}
+use Rattle.device.proofs.Moves.{Move, stays, idles, opens, owes, goes, stages, serve-moves}
 
 abbrev stale : Component → Bool
 stale c = not (keepsStaged c (c .staged))
@@ -42,7 +45,7 @@ set-up-passes platform list count n l = go (setupVerdict n count (map listed lis
 
   go : (v : SetupVerdict) → setupVerdict n count (map listed list) ≡ v → setUpBy (setup.rowOf v) new .row ≡ setup.served
       → breaksD1 (setUpBy (setup.rowOf v) new .device) ≡ false
-  go Fine e h = keeps new (record { setup = rw e; slot = refl; owed = refl; staged = fresh })
+  go Fine e h = keeps (record { setup = rw e; slot = refl; owed = refl; staged = fresh })
   go S1 e h = let z : _≡_ {A = ℕ} 0 1 = cc in absurd (omega arith)
   go S2 e h = let z : _≡_ {A = ℕ} 0 1 = cc in absurd (omega arith)
   go S3 e h = let z : _≡_ {A = ℕ} 0 1 = cc in absurd (omega arith)
@@ -50,36 +53,36 @@ set-up-passes platform list count n l = go (setupVerdict n count (map listed lis
 
 -- each of the six moves keeps D1
 move-passes : {d d′ : Device} {staging report : List ℕ} → Passes d → Move d staging report d′ → breaksD1 d′ ≡ false
-move-passes {d} p stays = keeps d p
-move-passes {d} p idles = keeps _ (record { setup = p .setup; slot = refl; owed = refl; staged = p .staged })
+move-passes {d} p stays = keeps p
+move-passes {d} p idles = keeps (record { setup = p .setup; slot = refl; owed = refl; staged = p .staged })
 move-passes {d} p (opens k f q) =
     let b = lt-leb (d .count) k (find-at _ (d .count) (d .parts) k f .0) in
-    keeps _ (record { setup = p .setup; slot = rw (b, q); owed = refl; staged = p .staged })
+    keeps (record { setup = p .setup; slot = rw (b, q); owed = refl; staged = p .staged })
 move-passes {d} p (owes e) =
     let s = open-at (d .stage) e in
-    let o = open-slot d (atSlot (d .stage)) p s in
+    let o = open-slot (atSlot (d .stage)) p s in
     let b = lt-leb (d .count) (atSlot (d .stage)) (o .0) in
-    keeps _ (record { setup = p .setup; slot = rw (s, b, o .1); owed = rw s; staged = p .staged })
+    keeps (record { setup = p .setup; slot = rw (s, b, o .1); owed = rw s; staged = p .staged })
 move-passes {d} p (goes k s) =
-    let o = open-slot d k p s in
-    keeps _ (record { setup = p .setup; slot = rw (lt-leb (d .count) k (o .0), o .1); owed = refl; staged = p .staged })
+    let o = open-slot k p s in
+    keeps (record { setup = p .setup; slot = rw (lt-leb (d .count) k (o .0), o .1); owed = refl; staged = p .staged })
 move-passes {d} p (stages k s v e f) =
-    let o = open-slot d k p s in
+    let o = open-slot k p s in
     let c = withStaged (part d k) v in
     let same = setup-staged (d .«staging_len») (d .count) (d .parts) k v in
     let kept : any stale (take (d .count) (set (d .parts) k c)) ≡ false
     = rw (take-set-lt (d .count) (d .parts) k c (o .0)) (any-set stale (take (d .count) (d .parts)) k c (rw f) (p .staged)) in
-    keeps _ (record { setup = rw same (p .setup); slot = refl; owed = refl; staged = kept })
+    keeps (record { setup = rw same (p .setup); slot = refl; owed = refl; staged = kept })
 
 pub serve-keeps-d1 : ServeKeepsD1
-serve-keeps-d1 d channel staging report f h = move-passes (passes d h) (serve-moves d staging report channel)
+serve-keeps-d1 d channel staging report f h = move-passes (passes h) (serve-moves d staging report channel)
 
 pub reset-keeps-d1 : ResetKeepsD1
 unfolding resetEntry
 reset-keeps-d1 d f h =
-    let p = passes d h in
-    let m : d .count ≤ length (d .parts) = omega (arith, count-most d p, f .slots) in
+    let p = passes h in
+    let m : d .count ≤ length (d .parts) = omega (arith, count-most p, f .slots) in
     let same = setup-same (d .«staging_len») (d .count) (resetParts (d .count) (d .parts)) (d .parts) (reset-seen (d .count) (d .parts)) in
     let kept : any stale (take (d .count) (resetParts (d .count) (d .parts))) ≡ false
     = rw (reset-take (d .count) (d .parts) m, ← (any-map afterReset stale (take (d .count) (d .parts)))) (any-never (take (d .count) (d .parts))) in
-    rw h (keeps (idleWith d (resetParts (d .count) (d .parts))) (record { setup = rw same (p .setup); slot = refl; owed = refl; staged = kept }))
+    rw h (keeps (record { setup = rw same (p .setup); slot = refl; owed = refl; staged = kept }))

@@ -1,5 +1,4 @@
 pub mod Bench
-pub mod Chain
 pub mod Lists
 pub mod Passes
 pub mod Moves
@@ -9,7 +8,6 @@ pub mod Answers
 pub mod Bytes
 pub mod Fitting
 pub mod Staging
-pub mod Turns
 pub mod Replies
 pub mod Calls
 pub mod Offering

@@ -10,8 +10,8 @@ use Rattle.image.specs.declared.region.Region.{Region}
 use Rattle.component.specs.Record.{afterReset}
 use Rattle.component.specs.declared.record.Component.{Component}
 use Rattle.component.proofs.setup.Laws.{seen}
-use Rattle.device.specs.Entries.{resetParts}
-use Rattle.component.proofs.list.Members.{neither}
+use Rattle.slots.specs.Slots.{resetParts}
+use Rattle.wire.proofs.Tests.{neither}
 
 module _ {A : Type 0} where
   -- what holds of no value holds of no member

@@ -7,6 +7,7 @@ use Prim.Native.Nat.{ℕ}
 use lib.Dec.{eqb, leb}
 use lib.ListN.{length}
 use Rattle.wire.specs.Codes.{NOTIFY-ON-READY, INFO-START-ENTIRE-TRANSACTION, INFO-END-OFFER-LIST}
+use Rattle.wire.proofs.Chain.{either}
 use Rattle.offers.specs.Kind.{Kind, offer, information, extended, kindIn}
 use Rattle.contents.specs.Content.{fieldsIn}
 use Rattle.contents.specs.declared.content.ContentFields.{ContentFields}
@@ -14,30 +15,44 @@ use Rattle.image.specs.Region.{regionBytes}
 use Rattle.image.specs.Judge.{imageIn}
 use Rattle.image.specs.declared.judge.Image.{Image}
 use Rattle.image.specs.declared.judge.Image.the-variants.{Damaged, Foreign, Bears}
+use Rattle.component.specs.Lists.{partAt}
 use Rattle.component.specs.Versions.{imageVersionFits}
+use Rattle.component.specs.declared.record.Component.{Component}
 use Rattle.component.specs.declared.list.Found.the-variants.{At}
+use Rattle.session.specs.Stage.{isOpen, openSlot}
+use Rattle.session.specs.Owed.{owes}
+use Rattle.session.specs.declared.owed.Owed.{Owed}
+use Rattle.session.specs.declared.owed.Owed.the-variants as owed
+use Rattle.session.specs.declared.stage.Stage.{Stage}
+use Rattle.session.specs.declared.stage.Stage.the-variants.{Idle, Offered, Receiving}
+use Rattle.session.specs.declared.effect.Effect.{Effect}
+use Rattle.offering.specs.Offer.{onOffer}
+use Rattle.offering.specs.Signal.{onInformation, onNotify, onExtended}
+use Rattle.receiving.specs.Content.{isLast, takeBlock}
+use Rattle.receiving.specs.Finish.{judge, finish}
+use Rattle.receiving.specs.Receive.{onBlock, onVerdict}
+use Rattle.receiving.specs.declared.checks.ContentVerdict.{ContentVerdict}
+use Rattle.receiving.specs.declared.checks.ContentVerdict.the-variants.{Refuse, Take}
+use Rattle.receiving.specs.declared.finish.Finished.{Finished}
+use Rattle.receiving.proofs.checks.Laws.{ContentSays, content-says}
 use Rattle.device.specs.declared.record.Device.{Device}
-use Rattle.device.specs.declared.record.Owed.{Owed}
-use Rattle.device.specs.declared.record.Owed.the-variants as owed
-use Rattle.device.specs.declared.record.Stage.{Stage}
-use Rattle.device.specs.declared.record.Stage.the-variants.{Idle, Offered, Receiving}
-use Rattle.device.specs.declared.judged.ContentVerdict.{ContentVerdict}
-use Rattle.device.specs.declared.judged.ContentVerdict.the-variants.{Refuse, Take}
-use Rattle.device.specs.Record.{part, isOpen, openSlot, owes}
-use Rattle.device.specs.Refusals.{Outcome, refusalOf, readySent}
-use Rattle.device.specs.Offer.{onOffer, onInformation, onNotify, onExtended, onKind, offerEntry}
-use Rattle.device.specs.Content.{isLast, takeBlock, contentVerdict, judge, Finished, finish, onBlock, onVerdict, contentEntry}
+use Rattle.device.specs.Record.{sessionOf}
+use Rattle.device.specs.Refusals.{Outcome, servedWith, refusalOf, readySent}
+use Rattle.device.specs.Offer.{onKind, offerEntry}
+use Rattle.device.specs.Content.{contentVerdict, received, contentEntry}
 use Rattle.device.specs.Promises.{awaits, becomesIdle, OfferReplies, ContentReplies}
-use Rattle.device.proofs.Chain.{either}
 use Rattle.device.proofs.Answers.{served-row}
-use Rattle.device.proofs.Moves.{ContentSays, content-says}
 
 -- just its reply is sent
-abbrev One : Outcome → Type 0
-One a = a .sent ≡ a .reply ∷ []
+abbrev One : Device → Effect → Type 0
+One d e = servedWith d (d .parts) e .sent ≡ e .reply ∷ []
 
 module _ (d : Device) where
-  notify-sends : (token : ℕ) (b : Bool) (o : Owed) → onNotify d token b o .sent ≡ cond (b && not (owes o)) [] (onNotify d token b o .reply ∷ [])
+  -- what a notify on ready comes to
+  abbrev notified : (token : ℕ) → Bool → Owed → Outcome
+  notified token b o = servedWith d (d .parts) (onNotify (sessionOf d) token b o)
+
+  notify-sends : (token : ℕ) (b : Bool) (o : Owed) → notified token b o .sent ≡ cond (b && not (owes o)) [] (notified token b o .reply ∷ [])
   notify-sends token false o = refl
   notify-sends token true owed.Nothing = refl
   notify-sends token true (owed.Token t) = refl
@@ -45,9 +60,9 @@ module _ (d : Device) where
   kind-sends : (x : Kind) → onKind d x .sent ≡ cond (awaits d x) [] (onKind d x .reply ∷ [])
   unfolding onOffer onInformation onExtended
   kind-sends (offer o) = refl
-  kind-sends (information s) = either One (eqb (s .code) INFO-START-ENTIRE-TRANSACTION) _ _ refl (either One (leb (s .code) INFO-END-OFFER-LIST) _ _ refl refl)
+  kind-sends (information s) = either (One d) (eqb (s .code) INFO-START-ENTIRE-TRANSACTION) _ _ refl (either (One d) (leb (s .code) INFO-END-OFFER-LIST) _ _ refl refl)
   kind-sends (extended s) = go (eqb (s .code) NOTIFY-ON-READY) refl where
-    go : (b : Bool) → eqb (s .code) NOTIFY-ON-READY ≡ b → onExtended d s .sent ≡ cond (awaits d (extended s)) [] (onExtended d s .reply ∷ [])
+    go : (b : Bool) → eqb (s .code) NOTIFY-ON-READY ≡ b → onKind d (extended s) .sent ≡ cond (awaits d (extended s)) [] (onKind d (extended s) .reply ∷ [])
     go true e = rw e (notify-sends (s .token) (isOpen (d .stage)) (d .owed))
     go false e = rw e
 
@@ -62,10 +77,10 @@ stays-open true = refl
 stays-open false = refl
 
 -- an image that is judged leaves the session idle
-judge-idles : (d : Device) (k : ℕ) (m : Image) → judge d k m .device .stage ≡ Idle
-judge-idles d k Damaged = refl
-judge-idles d k Foreign = refl
-judge-idles d k (Bears v) = either (λ (f : Finished). f .device .stage ≡ Idle) (imageVersionFits (part d k) v) _ _ refl refl
+judge-idles : (parts : List Component) (k : ℕ) (m : Image) → judge parts k m .session .stage ≡ Idle
+judge-idles parts k Damaged = refl
+judge-idles parts k Foreign = refl
+judge-idles parts k (Bears v) = either (λ (f : Finished). f .session .stage ≡ Idle) (imageVersionFits (partAt parts k) v) _ _ refl refl
 
 is-open : (s : Stage) (k : ℕ) → openSlot s ≡ At k → isOpen s ≡ true
 is-open Idle k e = cc
@@ -77,17 +92,17 @@ abbrev Sends : Device → Outcome → Type 0
 Sends d a = a .sent ≡ a .reply ∷ readySent (cond (becomesIdle d (a .device)) (d .owed) owed.Nothing)
 
 module _ (d : Device) (c : ContentFields) (s : List ℕ) where
-  verdict-sends : (v : ContentVerdict) → ContentSays d c v → Sends d (onVerdict d c s v)
+  verdict-sends : (v : ContentVerdict) → ContentSays (d .parts) (d .stage) c v → Sends d (received d (onVerdict (d .parts) (sessionOf d) c s v))
   unfolding onBlock finish
   verdict-sends (Refuse status) h = rw (stays-open (isOpen (d .stage)))
   verdict-sends (Take k) h = go (isLast c) refl where
-    go : (b : Bool) → isLast c ≡ b → Sends d (onBlock d k c (takeBlock d k c s))
-    go true e = rw (e, is-open (d .stage) k (h .0), judge-idles d k (imageIn (regionBytes (part d k .region) (takeBlock d k c s)) (part d k .id)))
+    go : (b : Bool) → isLast c ≡ b → Sends d (received d (onBlock (d .parts) (sessionOf d) k c (takeBlock (d .parts) k c s)))
+    go true e = rw (e, is-open (d .stage) k (h .0), judge-idles (d .parts) k (imageIn (regionBytes (partAt (d .parts) k .region) (takeBlock (d .parts) k c s)) (partAt (d .parts) k .id)))
     go false e = rw (e, is-open (d .stage) k (h .0))
 
 pub content-replies : ContentReplies
 unfolding contentEntry
 content-replies d staging report e =
     let v = contentVerdict d (fieldsIn report) in
-    let r = served-row (refusalOf 60 d (length staging) (length report)) d (onVerdict d (fieldsIn report) staging v) e in
-    rw r (verdict-sends d (fieldsIn report) staging v (content-says d (fieldsIn report)))
+    let r = served-row (refusalOf 60 d (length staging) (length report)) d (received d (onVerdict (d .parts) (sessionOf d) (fieldsIn report) staging v)) e in
+    rw r (verdict-sends d (fieldsIn report) staging v (content-says (d .parts) (d .stage) (fieldsIn report)))

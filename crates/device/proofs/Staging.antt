@@ -14,15 +14,16 @@ use Rattle.image.specs.Region.{isInside, regionBytes, blank, put, eraseOf}
 use Rattle.image.specs.declared.region.Region.{Region}
 use Rattle.image.proofs.region.Within.{region-length, blank-length, within-same, inside, erase-inside, write-inside, put-place, erase-length, write-length}
 use Rattle.device.specs.declared.record.Device.{Device}
-use Rattle.device.specs.declared.judged.ContentVerdict.{ContentVerdict}
-use Rattle.device.specs.declared.judged.ContentVerdict.the-variants.{Refuse, Take}
+use Rattle.receiving.specs.declared.checks.ContentVerdict.{ContentVerdict}
+use Rattle.receiving.specs.declared.checks.ContentVerdict.the-variants.{Refuse, Take}
 use Rattle.device.specs.Refusals.{Row, served, D, refusalOf}
-use Rattle.device.specs.Content.{isFirst, window, takeBlock, contentVerdict, contentEntry, contentStaging}
+use Rattle.receiving.specs.Content.{isFirst, takeBlock}
+use Rattle.receiving.proofs.checks.Laws.{ContentSays, content-says}
+use Rattle.device.specs.Content.{window, contentVerdict, contentEntry, contentStaging}
 use Rattle.device.specs.Promises.{Beside, Around, TakesBlock, StagingChanges}
-use Rattle.device.proofs.Chain.{either}
-use Rattle.device.proofs.Passes.{serves, open-slot, region-inside}
-use Rattle.device.proofs.Answers.{content-served}
-use Rattle.device.proofs.Moves.{ContentSays, content-says}
+use Rattle.wire.proofs.Chain.{either}
+use Rattle.session.proofs.sound.Laws.{open-slot, region-inside}
+use Rattle.device.proofs.Passes.{serves}
 
 module _ (at : ℕ) (bytes l : List ℕ) (h : at + length bytes ≤ length l) where
   front : length (take at l) ≡ at
@@ -97,7 +98,7 @@ before d k c s = cond (isFirst c) (eraseOf (window d k) s) s
 before-length : (d : Device) (k : ℕ) (c : ContentFields) (s : List ℕ) → length (before d k c s) ≡ length s
 before-length d k c s = either (λ (l : List ℕ). length l ≡ length s) (isFirst c) _ _ (erase-length (window d k) s) refl
 
-block-length : (d : Device) (k : ℕ) (c : ContentFields) (s : List ℕ) → length (takeBlock d k c s) ≡ length s
+block-length : (d : Device) (k : ℕ) (c : ContentFields) (s : List ℕ) → length (takeBlock (d .parts) k c s) ≡ length s
 unfolding takeBlock
 block-length d k c s = write-length (window d k) (before d k c s) (c .address) _ ∙ before-length d k c s
 
@@ -115,7 +116,7 @@ module _ (d : Device) (k : ℕ) (c : ContentFields) (s : List ℕ) (i : isInside
   n = inside (window d k) (length s) i
 
   -- a block puts its data at their address
-  block-put : takeBlock d k c s ≡ put (base + c .address .0) (take (c .length) (c .«data»)) (before d k c s)
+  block-put : takeBlock (d .parts) k c s ≡ put (base + c .address .0) (take (c .length) (c .«data»)) (before d k c s)
   unfolding takeBlock
   block-put =
       let l = before-length d k c s in
@@ -125,16 +126,16 @@ module _ (d : Device) (k : ℕ) (c : ContentFields) (s : List ℕ) (i : isInside
   room : base + c .address .0 + length (take (c .length) (c .«data»)) ≤ length (before d k c s)
   room = rw (u, before-length d k c s) (omega (arith, n))
 
-  block-in : (j : ℕ) → c .address .0 ≤ j → j < c .address .0 + c .length → getD (takeBlock d k c s) (base + j) 0 ≡ getD (take (c .length) (c .«data»)) (j - c .address .0) 0
+  block-in : (j : ℕ) → c .address .0 ≤ j → j < c .address .0 + c .length → getD (takeBlock (d .parts) k c s) (base + j) 0 ≡ getD (take (c .length) (c .«data»)) (j - c .address .0) 0
   block-in j p q =
       let a = c .address .0 in
       let e : base + a + (j - a) ≡ base + j = omega arith in
       rw (block-put, ← e) (put-in (base + a) _ (before d k c s) room (j - a) (omega (arith, u)))
 
-  block-out : (j : ℕ) → (j < base + c .address .0) ⊎ (base + c .address .0 + c .length ≤ j) → getD (takeBlock d k c s) j 0 ≡ getD (before d k c s) j 0
+  block-out : (j : ℕ) → (j < base + c .address .0) ⊎ (base + c .address .0 + c .length ≤ j) → getD (takeBlock (d .parts) k c s) j 0 ≡ getD (before d k c s) j 0
   block-out j o = rw block-put (put-out (base + c .address .0) _ (before d k c s) room j (rw u o))
 
-  block-rest : (j : ℕ) → j < window d k .len → Around c j → getD (takeBlock d k c s) (base + j) 0 ≡ cond (isFirst c) 0xFF (getD s (base + j) 0)
+  block-rest : (j : ℕ) → j < window d k .len → Around c j → getD (takeBlock (d .parts) k c s) (base + j) 0 ≡ cond (isFirst c) 0xFF (getD s (base + j) 0)
   block-rest j p o =
       block-out (base + j) (past o) ∙ picked (isFirst c) (eraseOf (window d k) s) s (base + j) ∙ rw (erased (window d k) s i j p)
     where
@@ -142,7 +143,7 @@ module _ (d : Device) (k : ℕ) (c : ContentFields) (s : List ℕ) (i : isInside
       past (inl q) = inl (omega arith)
       past (inr q) = inr (omega arith)
 
-  block-beside : (j : ℕ) → Beside d k j → getD (takeBlock d k c s) j 0 ≡ getD s j 0
+  block-beside : (j : ℕ) → Beside d k j → getD (takeBlock (d .parts) k c s) j 0 ≡ getD s j 0
   block-beside j o =
       block-out j (past o) ∙ either (λ (l : List ℕ). getD l j 0 ≡ getD s j 0) (isFirst c) _ _ (erased-out (window d k) s i j o) refl
     where
@@ -159,17 +160,17 @@ staging-changes d staging report f h = go (refusalOf 60 d (length staging) (leng
   Result : Type 0
   Result = (length (contentStaging d staging report) ≡ length staging) × ((contentStaging d staging report ≡ staging) ⊎ TakesBlock d staging report)
 
-  by-verdict : (v : ContentVerdict) → contentVerdict d c ≡ v → ContentSays d c v → refusalOf 60 d (length staging) (length report) ≡ served → Result
+  by-verdict : (v : ContentVerdict) → contentVerdict d c ≡ v → ContentSays (d .parts) (d .stage) c v → refusalOf 60 d (length staging) (length report) ≡ served → Result
   by-verdict (Refuse s) e says r = (rw (r, e), inl (rw (r, e)))
   by-verdict (Take k) e says r =
       let v = serves 60 d (length staging) (length report) r in
-      let i : isInside (window d k) (length staging) ≡ true = rw (v .staging) (region-inside d k (v .record-passes) (f .slots) (open-slot d k (v .record-passes) (says .0) .0)) in
+      let i : isInside (window d k) (length staging) ≡ true = rw (v .staging) (region-inside k (v .record-passes) (f .slots) (open-slot k (v .record-passes) (says .0) .0)) in
       let u = used-length report (says .1) (v .report) in (
         rw (r, e) (block-length d k c staging),
         inr (record {
           slot = k;
           opened = says .0;
-          row = rw r (content-served d c staging (contentVerdict d c));
+          row = rw r;
           verdict = e;
           written = λ j p q. rw (r, e) (block-in d k c staging i u (says .2) j p q ∙ used-byte report (says .1) (v .report) (j - c .address .0) (omega arith));
           rest = λ j p o. rw (r, e) (block-rest d k c staging i u (says .2) j p o);
@@ -178,5 +179,5 @@ staging-changes d staging report f h = go (refusalOf 60 d (length staging) (leng
       )
 
   go : (row : Row) → refusalOf 60 d (length staging) (length report) ≡ row → Result
-  go served r = by-verdict (contentVerdict d c) refl (content-says d c) r
+  go served r = by-verdict (contentVerdict d c) refl (content-says (d .parts) (d .stage) c) r
   go (D k) r = (rw r, inl (rw r))

@@ -7,9 +7,9 @@ use lib.ListN.{replicate}
 use Rattle.component.specs.Record.{blankComponent}
 use Rattle.component.specs.declared.record.Staged.the-variants as staged
 use Rattle.device.specs.declared.record.Device.{Device}
-use Rattle.device.specs.declared.record.Stage.{Stage}
-use Rattle.device.specs.declared.record.Stage.the-variants.{Idle, Offered, Receiving}
-use Rattle.device.specs.declared.record.Owed.the-variants as owed
+use Rattle.session.specs.declared.stage.Stage.{Stage}
+use Rattle.session.specs.declared.stage.Stage.the-variants.{Idle, Offered, Receiving}
+use Rattle.session.specs.declared.owed.Owed.the-variants as owed
 use Rattle.device.specs.declared.answer.Channel.{Channel}
 use Rattle.device.specs.declared.answer.Channel.the-variants.{Offer, Content}
 use Rattle.device.specs.Entries.{versionEntry, serveEntry, serveStaging}

@@ -1,19 +1,17 @@
 -- Set-up, version reply, reset, and the entry by channel (document 01, "The device" and "Numbered refusals").
 use Prim.Native.Nat.{ℕ}
 use mathlib.Core.Bool.{cond}
-use mathlib.Core.List.{List, _++_, map}
-use lib.ListN.{length, take, drop, replicate}
+use mathlib.Core.List.{List, map}
+use lib.ListN.{length, replicate}
 use Rattle.wire.specs.Codes.{PROTOCOL}
 use Rattle.versions.specs.Reply.{replyBytes}
-use Rattle.versions.specs.declared.Running.{Running}
-use Rattle.component.specs.Record.{listed, afterReset}
+use Rattle.component.specs.Record.{listed}
 use Rattle.component.specs.Setup as setup
-use Rattle.component.specs.declared.record.Component.{Component}
 use Rattle.component.specs.declared.record.Listed.{Listed}
-use Rattle.component.specs.declared.setup.SetupVerdict.{SetupVerdict}
+use Rattle.slots.specs.Slots.{resetParts, runningOf}
+use Rattle.session.specs.declared.stage.Stage.the-variants.{Idle}
+use Rattle.session.specs.declared.owed.Owed.the-variants.{Nothing}
 use Rattle.device.specs.declared.record.Device.{Device}
-use Rattle.device.specs.declared.record.Stage.the-variants.{Idle}
-use Rattle.device.specs.declared.record.Owed.the-variants.{Nothing}
 use Rattle.device.specs.declared.answer.SetupAnswer.{SetupAnswer}
 use Rattle.device.specs.declared.answer.VersionAnswer.{VersionAnswer}
 use Rattle.device.specs.declared.answer.ResetAnswer.{ResetAnswer}
@@ -60,15 +58,11 @@ pub record Versions : Type 0 where
 abbrev pub toldVersions : VersionAnswer → Versions
 toldVersions a = record { row = rowOf (a .refusal); packet = a .packet }
 
--- a component in the version reply: its running version, with the device's platform
-abbrev pub runningOf : Device → Component → Running
-runningOf d c = record { version = c .running; id = c .id; platform = d .platform }
-
 -- D1 with a zeroed reply, or the reply
 unfoldable pub versionEntry : Device → Versions
 versionEntry d =
     cond (breaksD1 d) (record { row = D 1; packet = replicate 60 0 })
-    (record { row = served; packet = replyBytes (d .count) PROTOCOL (map (runningOf d) (d .parts)) })
+    (record { row = served; packet = replyBytes (d .count) PROTOCOL (map (runningOf (d .platform)) (d .parts)) })
 
 -- what the reset's entry answers
 pub record Reset : Type 0 where
@@ -77,10 +71,6 @@ pub record Reset : Type 0 where
 
 abbrev pub toldReset : ResetAnswer → Reset
 toldReset a = record { row = rowOf (a .refusal); device = a .device }
-
--- the components after a reset; slots at or past the count stay
-abbrev pub resetParts : ℕ → List Component → List Component
-resetParts count parts = map afterReset (take count parts) ++ drop count parts
 
 -- D1, or staged versions run, nothing is pending or owed, and the session is idle
 unfoldable pub resetEntry : Device → Reset

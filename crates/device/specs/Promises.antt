@@ -16,13 +16,16 @@ use Rattle.component.specs.Setup as setup
 use Rattle.component.specs.declared.record.Listed.{Listed}
 use Rattle.component.specs.declared.list.Found.the-variants.{At}
 use Rattle.device.specs.declared.record.Device.{Device}
-use Rattle.device.specs.declared.record.Owed.the-variants.{Nothing}
+use Rattle.session.specs.declared.owed.Owed.the-variants.{Nothing}
 use Rattle.device.specs.declared.answer.Channel.{Channel}
-use Rattle.device.specs.declared.judged.ContentVerdict.the-variants.{Take}
-use Rattle.device.specs.Record.{FitsDevice, isOpen, openSlot, owes, blankDevice}
+use Rattle.receiving.specs.declared.checks.ContentVerdict.the-variants.{Take}
+use Rattle.session.specs.Stage.{isOpen, openSlot}
+use Rattle.session.specs.Owed.{owes}
+use Rattle.receiving.specs.Content.{isFirst}
+use Rattle.device.specs.Record.{FitsDevice, blankDevice}
 use Rattle.device.specs.Refusals.{Row, served, D, Outcome, breaksD1, refusedBy, readySent}
 use Rattle.device.specs.Offer.{offerEntry}
-use Rattle.device.specs.Content.{isFirst, window, contentVerdict, contentEntry, contentStaging}
+use Rattle.device.specs.Content.{window, contentVerdict, contentEntry, contentStaging}
 use Rattle.device.specs.Entries.{setUpOf, versionEntry, resetEntry, serveEntry, serveStaging}
 
 -- D1 is kept: what set-up makes passes D1, and so does what every entry leaves of a record that passes

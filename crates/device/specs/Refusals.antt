@@ -1,26 +1,22 @@
 -- Rows D1 to D3 (document 01, "Numbered refusals"), and what an entry answers: its row, its reply, what is sent, and the next record.
 use Prim.Native.Nat.{ℕ}
-use mathlib.Core.Bool.{Bool, true, false, not, cond, _||_}
+use mathlib.Core.Bool.{Bool, true, false, not}
 use mathlib.Core.List.{List, [], _∷_, _++_}
-use lib.Dec.{leb, eqb}
-use lib.ListN.{length, replicate}
-use Rattle.wire.specs.Checks.{firstOf, any}
+use lib.Dec.{eqb}
+use lib.ListN.{replicate}
+use Rattle.wire.specs.Checks.{firstOf}
 use Rattle.wire.specs.Codes.{OFFER-READY}
 use Rattle.offers.specs.Reply.{replyBytes}
-use Rattle.component.specs.Record.{isPending}
-use Rattle.component.specs.Versions.{keepsStaged}
-use Rattle.component.specs.Setup.{setupVerdict}
-use Rattle.component.specs.declared.list.Found.{Found}
-use Rattle.component.specs.declared.list.Found.the-variants as found
-use Rattle.component.specs.declared.setup.SetupVerdict.{SetupVerdict}
-use Rattle.component.specs.declared.setup.SetupVerdict.the-variants.{Fine, S1, S2, S3, S4}
+use Rattle.component.specs.declared.record.Component.{Component}
+use Rattle.session.specs.Sound as sound
+use Rattle.session.specs.declared.owed.Owed.{Owed}
+use Rattle.session.specs.declared.owed.Owed.the-variants as owed
+use Rattle.session.specs.declared.effect.Effect.{Effect}
 use Rattle.device.specs.declared.record.Device.{Device}
-use Rattle.device.specs.declared.record.Owed.{Owed}
-use Rattle.device.specs.declared.record.Owed.the-variants as owed
 use Rattle.device.specs.declared.answer.Refusal.{Refusal}
 use Rattle.device.specs.declared.answer.Refusal.the-variants.{Served, D1, D2, D3}
 use Rattle.device.specs.declared.answer.Answer.{Answer}
-use Rattle.device.specs.Record.{inUse, part, openSlot, owes}
+use Rattle.device.specs.Record.{sessionOf, withSession}
 
 -- the rows of document 01 that the device gives out
 pub data Row : Type 0 where
@@ -33,40 +29,13 @@ rowOf D1 = D 1
 rowOf D2 = D 2
 rowOf D3 = D 3
 
--- D1: breaks S1 to S4
-abbrev pub refusesSetup : SetupVerdict → Bool
-refusesSetup Fine = false
-refusesSetup S1 = true
-refusesSetup S2 = true
-refusesSetup S3 = true
-refusesSetup S4 = true
-
-abbrev pub breaksSetup : Device → Bool
-breaksSetup d = refusesSetup (setupVerdict (d .«staging_len») (d .count) (d .parts))
-
--- D1: opens on an unlisted or pending component
-abbrev pub wrongSlot : Device → Found → Bool
-wrongSlot d found.Nothing = false
-wrongSlot d (found.At k) = leb (d .count) k || isPending (part d k .staged)
-
-abbrev pub opensWrong : Device → Bool
-opensWrong d = wrongSlot d (openSlot (d .stage))
-
--- D1: owes while idle
-abbrev pub owesOn : Found → Owed → Bool
-owesOn found.Nothing o = owes o
-owesOn (found.At k) o = false
-
-abbrev pub owesIdle : Device → Bool
-owesIdle d = owesOn (openSlot (d .stage)) (d .owed)
-
--- D1: has a staged version below running
-abbrev pub stagedBelow : Device → Bool
-stagedBelow d = any (λ c. not (keepsStaged c (c .staged))) (inUse d)
+abbrev pub isRefused : Row → Bool
+isRefused served = false
+isRefused (D k) = true
 
 -- D1
-unfoldable pub breaksD1 : Device → Bool
-breaksD1 d = breaksSetup d || (opensWrong d || (owesIdle d || stagedBelow d))
+abbrev pub breaksD1 : Device → Bool
+breaksD1 d = sound.breaksD1 (d .«staging_len») (d .count) (d .parts) (sessionOf d)
 
 -- D1, D2 and D3, in this order, for a staging buffer of n bytes, a report of m bytes, and an entry whose reports are `size` bytes long
 unfoldable pub refusalOf : (size : ℕ) → Device → (n m : ℕ) → Row
@@ -115,13 +84,16 @@ told a = record {
 abbrev pub refusedBy : Row → Device → Outcome
 refusedBy row d = record { row = row; due = false; reply = replicate 16 0; ready = owed.Nothing; sent = []; device = d }
 
--- a served call with one reply, and then the READY that was owed
-abbrev pub answeredWith : List ℕ → Owed → Device → Outcome
-answeredWith bytes ready d = record { row = served; due = true; reply = bytes; ready = ready; sent = bytes ∷ readySent ready; device = d }
-
--- a served call with no reply now
-abbrev pub silent : Device → Outcome
-silent d = record { row = served; due = false; reply = replicate 16 0; ready = owed.Nothing; sent = []; device = d }
+-- a served call: what the packet does, and the components afterwards
+abbrev pub servedWith : Device → List Component → Effect → Outcome
+servedWith d parts effect = record {
+  row = served;
+  due = effect .due;
+  reply = effect .reply;
+  ready = effect .ready;
+  sent = dueSent (effect .due) (effect .reply) ++ readySent (effect .ready);
+  device = withSession d parts (effect .session);
+}
 
 -- a refused call, or the answer of the entry
 abbrev pub unlessRefused : Row → Device → Outcome → Outcome

@@ -1,9 +1,11 @@
 // What an entry of the device answers.
 use crate::record::Device;
-use crate::record::Owed;
+use component::record::Component;
 use component::setup::SetupVerdict;
+use session::effect::Effect;
+use session::owed::Owed;
 ghost use mathlib.Core.Path.{_≡_};
-ghost use Rattle.device.specs.Refusals.{rowOf, told, refusedBy, answeredWith, silent as silentAs};
+ghost use Rattle.device.specs.Refusals.{rowOf, isRefused, told, refusedBy, servedWith};
 
 // Served, or the row that refuses the call.
 pub enum Refusal {
@@ -46,6 +48,19 @@ pub enum Channel {
     Content,
 }
 
+impl Refusal {
+    pub fn is_refused(self) -> bool
+        ensures { λ r. ⌜ r ≡ isRefused (rowOf self) ⌝ }
+    {
+        match self {
+            Refusal::Served => false,
+            Refusal::D1 => true,
+            Refusal::D2 => true,
+            Refusal::D3 => true,
+        }
+    }
+}
+
 impl Device {
     // A refused call: a zeroed reply, nothing sent, the record unchanged.
     pub(crate) fn refused(self, refusal: Refusal) -> Answer
@@ -60,29 +75,20 @@ impl Device {
         }
     }
 
-    // One reply, and then the READY that was owed.
-    pub(crate) fn answered(self, reply: [u8; 16], ready: Owed) -> Answer
-        ensures { λ r. ⌜ told r ≡ answeredWith reply ready self ⌝ }
+    // A served call: what the packet does, and the components afterwards.
+    pub(crate) fn served(self, parts: [Component; 7], effect: Effect) -> Answer
+        ensures { λ r. ⌜ told r ≡ servedWith self parts effect ⌝ }
     {
+        let reply = effect.reply;
+        let ready = effect.ready;
+        let session = effect.session;
+        let device = self.with_session(parts, session);
         Answer {
             refusal: Refusal::Served,
-            due: true,
+            due: effect.due,
             reply,
             ready,
-            device: self,
-        }
-    }
-
-    // No reply now.
-    pub(crate) fn silent(self) -> Answer
-        ensures { λ r. ⌜ told r ≡ silentAs self ⌝ }
-    {
-        Answer {
-            refusal: Refusal::Served,
-            due: false,
-            reply: [0u8; 16],
-            ready: Owed::Nothing,
-            device: self,
+            device,
         }
     }
 }

@@ -1,7 +1,6 @@
 // The device end: its record, and what each entry answers.
-pub mod record; // record.rt: the record and its session
+pub mod record; // record.rt: the record
 pub mod answer; // answer.rt: what an entry answers
-pub mod judged; // judged.rt: what the checks say
 pub mod refusal; // refusal.rt: rows D1 to D3
 pub mod setup; // setup.rt: set-up, rows S1 to S4
 pub mod version_reply; // version_reply.rt: the version reply

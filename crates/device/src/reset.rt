@@ -2,25 +2,10 @@
 use crate::answer::Refusal;
 use crate::answer::ResetAnswer;
 use crate::record::Device;
-use component::record::Component;
+use session::effect::Session;
+use slots::all::reset_parts;
 ghost use mathlib.Core.Path.{_≡_};
-ghost use Prim.Native.Nat.{_≤_};
-ghost use Rattle.device.specs.Entries.{toldReset, resetParts, resetEntry};
-
-// The first `count` after a reset; the others stay.
-fn reset_parts(mut parts: [Component; 7], count: u8) -> [Component; 7]
-    requires { ⌜ count ≤ 7 ⌝ }
-    ensures { λ r. ⌜ r ≡ resetParts count parts ⌝ }
-{
-    let n = count as usize;
-    let mut i: usize = 0;
-    while i < n {
-        let part = parts[i];
-        parts[i] = part.after_reset();
-        i += 1;
-    }
-    parts
-}
+ghost use Rattle.device.specs.Entries.{toldReset, resetEntry};
 
 impl Device {
     // D1, or staged versions run, nothing is pending or owed, and the session is idle.
@@ -35,7 +20,7 @@ impl Device {
         }
         let parts = self.parts;
         let next = reset_parts(parts, self.count);
-        let device = self.idle_with(next);
+        let device = self.with_session(next, Session::idle());
         ResetAnswer {
             refusal: Refusal::Served,
             device,

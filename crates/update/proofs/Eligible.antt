@@ -22,8 +22,12 @@ use Rattle.component.specs.declared.list.Found.{Found}
 use Rattle.component.specs.declared.list.Found.the-variants as found
 use Rattle.passes.proofs.Tests.{or-true, is-false}
 use Rattle.bundle.specs.Layout.{countIn, idIn}
-use Rattle.bundle.proofs.Accepted.{Accepted, neither}
-use Rattle.device.specs.Offer.{slotOf, isAbsent, isOld, rejections, needUnmet}
+use Rattle.wire.proofs.Tests.{neither}
+use Rattle.bundle.proofs.Accepted.{Accepted}
+use Rattle.slots.specs.Slots.{slotOf, isAbsent}
+use Rattle.offering.specs.Offer as offering
+use Rattle.offering.specs.Offer.{isOld}
+use Rattle.device.specs.Offer.{rejections, needUnmet}
 use Rattle.device.specs.Record.{find, part, toIdle, idleWith}
 use Rattle.device.specs.declared.record.Device.{Device}
 use Rattle.host.specs.Step.{entryAt}
@@ -48,7 +52,7 @@ rejected platform o f c =
 -- eligible is not rejected
 pub rejected-is : (d : Device) (parts : List Component) (o : OfferFields)
     → isEligible (idleWith d parts) o ≡ not (rejected (d .platform) o (find (idleWith d parts) (o .id)) (partAt parts (slotOf (find (idleWith d parts) (o .id)))))
-unfolding applies rejections
+unfolding applies offering.rejections
 rejected-is d parts o = refl
 
 -- an absent component is rejected
@@ -90,15 +94,15 @@ passes-all d o (found.At k) e h =
 
 -- what eligibility says
 pub eligible-says : (d : Device) (o : OfferFields) → T (isEligible (toIdle d) o) → Fresher d o
-unfolding applies rejections
+unfolding applies offering.rejections
 eligible-says d o t = passes-all d o (find d (o .id)) refl (is-false _ t)
 
 -- the token plays no part in checks 2 to 7
 pub token-rejections : (d : Device) (o : OfferFields) (token : ℕ) → applies (rejections d (withToken o token)) ≡ applies (rejections d o)
-unfolding rejections
+unfolding offering.rejections
 token-rejections d o token = refl
 
 -- nor in the need's check
 pub token-need : (d : Device) (o : OfferFields) (token : ℕ) → needUnmet d (withToken o token) ≡ needUnmet d o
-unfolding needUnmet
+unfolding offering.needUnmet
 token-need d o token = refl

@@ -25,16 +25,17 @@ use Rattle.passes.proofs.Sets.{ins-old, ins-new, Some, some-out, some-in}
 use Rattle.bundle.specs.Layout.{countIn}
 use Rattle.bundle.proofs.Accepted.{Accepted}
 use Rattle.device.specs.Record.{find, part}
-use Rattle.device.specs.Refusals.{refusesSetup, breaksD1}
+use Rattle.session.specs.Sound.{refusesSetup}
+use Rattle.device.specs.Refusals.{breaksD1}
 use Rattle.device.specs.declared.record.Device.{Device}
-use Rattle.device.proofs.Passes.{passes}
+use Rattle.session.proofs.sound.Laws.{passes}
 use Rattle.host.specs.Step.{blocksAt}
 use Rattle.update.specs.Claim.{offerAt, writes, imageOf, Inside, Untouched, Fills}
 use Rattle.update.proofs.Landed.{same-slot, numbered, below-count, at-slot, one-offer}
 
 -- what D1 lets pass, set-up finds fine
 pub fine-setup : (d : Device) → breaksD1 d ≡ false → setupVerdict (d .«staging_len») (d .count) (d .parts) ≡ Fine
-fine-setup d h = go (setupVerdict (d .«staging_len») (d .count) (d .parts)) (passes d h .setup)
+fine-setup d h = go (setupVerdict (d .«staging_len») (d .count) (d .parts)) (passes h .setup)
   where
     go : (v : SetupVerdict) → refusesSetup v ≡ false → v ≡ Fine
     go Fine e = refl

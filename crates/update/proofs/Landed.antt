@@ -27,7 +27,10 @@ use Rattle.passes.proofs.Tests.{bool-cases, or-inl, or-inr, or-cases, both, and
 use Rattle.passes.proofs.Sets.{ins-old, ins-new, in-from, from-in, some-out, some-in}
 use Rattle.bundle.specs.Layout.{countIn}
 use Rattle.bundle.proofs.Accepted.{Accepted}
-use Rattle.device.specs.Offer.{slotOf, isAbsent, below, needUnmet}
+use Rattle.slots.specs.Slots.{slotOf, isAbsent}
+use Rattle.offering.specs.Offer as offering
+use Rattle.offering.specs.Offer.{below}
+use Rattle.device.specs.Offer.{needUnmet}
 use Rattle.device.specs.Record.{find, part, toIdle, idleWith}
 use Rattle.device.specs.Refusals.{breaksD1}
 use Rattle.device.specs.declared.record.Device.{Device}
@@ -274,7 +277,7 @@ module _ (b : List ℕ) (α : Accepted b) (d : Device) where
 
         -- the need, as the device judges it
         pub meets-now : isMet (idleWith d ps) (offerAt b e) ≡ offers .met S e
-        unfolding needUnmet
+        unfolding offering.needUnmet
         meets-now = go (eqb (o .need) 0) refl
           where
             go : (x : Bool) → eqb (o .need) 0 ≡ x

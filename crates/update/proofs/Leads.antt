@@ -8,9 +8,9 @@ use native.Mathlib.Omega.{arith}
 use lib.ListN.{length, length-append}
 use Rattle.bundle.specs.Layout.{countIn}
 use Rattle.device.specs.Entries.{serveStaging}
-use Rattle.device.specs.Refusals.{answeredWith}
+use Rattle.device.proofs.Calls.{answeredWith}
 use Rattle.device.specs.declared.record.Device.{Device}
-use Rattle.device.specs.declared.record.Owed.the-variants as owed
+use Rattle.session.specs.declared.owed.Owed.the-variants as owed
 use Rattle.device.proofs.Calls.{Answered}
 use Rattle.host.specs.Decide.{decideOf}
 use Rattle.host.specs.Step.{Step, lastIn, moved}

@@ -24,14 +24,15 @@ use Rattle.passes.proofs.Tests.{or-cases, holds}
 use Rattle.passes.proofs.Pass.{answer-cases}
 use Rattle.bundle.specs.Layout.{countIn}
 use Rattle.bundle.proofs.Accepted.{Accepted}
-use Rattle.device.specs.Offer.{rejections, needUnmet, offerVerdict}
+use Rattle.device.specs.Offer.{rejections, needUnmet}
 use Rattle.device.specs.Record.{find, part, toIdle, idleWith}
 use Rattle.device.specs.Refusals.{breaksD1}
-use Rattle.device.specs.declared.judged.OfferVerdict.{OfferVerdict}
-use Rattle.device.specs.declared.judged.OfferVerdict.the-variants.{Busy, Reject, Skip, Accept}
+use Rattle.offering.specs.declared.verdict.OfferVerdict.{OfferVerdict}
+use Rattle.offering.specs.declared.verdict.OfferVerdict.the-variants.{Busy, Reject, Skip, Accept}
 use Rattle.device.specs.declared.record.Device.{Device}
 use Rattle.device.proofs.Calls.{Sound}
-use Rattle.device.proofs.Offering.{Ruling, rules}
+use Rattle.offering.proofs.checks.Laws.{Ruling, rules}
+use Rattle.device.proofs.Offering.{offerVerdict}
 use Rattle.device.proofs.Opened.{open-passes}
 use Rattle.host.specs.Record.{hasBit, withBit}
 use Rattle.host.specs.Step.{blocksAt}
@@ -192,7 +193,7 @@ module _ (b : List ℕ) (t : ℕ) (d : Device) (s : List ℕ) (G : Given b t d s
   offer-sim : (e : ℕ) → e < countIn b → (p : Pass) → Fair (p .set) → (q c m n : ℕ) (ps : List Component) (r : List ℕ) (trace : List Exchange)
       → Landed (p .set) m ps r → length trace ≡ c + p .sent → Gets (due e p m n q ps r trace) (suc e) (answered (offers b α d) p e) q (suc c)
   unfolding answered
-  offer-sim e l p fair q c m n ps r trace h count = go (offerVerdict (idleWith d ps) (withToken (offerAt b e) t)) refl (rules d ps (withToken (offerAt b e) t))
+  offer-sim e l p fair q c m n ps r trace h count = go (offerVerdict (idleWith d ps) (withToken (offerAt b e) t)) refl (rules (d .platform) (d .count) ps (withToken (offerAt b e) t))
     where
       elig : isEligible (idleWith d ps) (offerAt b e) ≡ (not (p .set e) && isEligible (toIdle d) (offerAt b e))
       elig = eligible-now b α d (p .set) ps (h .parts) e l

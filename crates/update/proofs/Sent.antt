@@ -20,7 +20,7 @@ use Rattle.contents.proofs.content.Laws.{packet-fields}
 use Rattle.image.specs.declared.region.Region.{Region}
 use Rattle.bundle.specs.Layout.{countIn, offerIn}
 use Rattle.bundle.proofs.Accepted.{Accepted}
-use Rattle.device.specs.Content as device
+use Rattle.receiving.specs.Content as device
 use Rattle.device.proofs.Blocks.{Fitting}
 use Rattle.host.specs.Decide.{sequenceOf}
 use Rattle.host.specs.Step.{entryAt, isLast, flagsAt, blockAt, blockPacket}

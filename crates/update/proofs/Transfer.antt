@@ -24,12 +24,12 @@ use Rattle.component.specs.Versions.{imageVersionFits}
 use Rattle.component.specs.declared.record.Component.{Component}
 use Rattle.bundle.specs.Layout.{countIn}
 use Rattle.bundle.proofs.Accepted.{Accepted, Carried}
-use Rattle.device.specs.Content.{takeBlock}
+use Rattle.receiving.specs.Content.{takeBlock}
 use Rattle.device.specs.Entries.{serveStaging}
 use Rattle.device.specs.Record.{idleWith}
 use Rattle.device.specs.Refusals.{breaksD1}
 use Rattle.device.specs.declared.record.Device.{Device}
-use Rattle.device.specs.declared.record.Owed.the-variants as owed
+use Rattle.session.specs.declared.owed.Owed.the-variants as owed
 use Rattle.device.proofs.Calls.{Sound, Answered, answers-block}
 use Rattle.device.proofs.Blocks.{held, awaits, groundOf, Fitting, puts, block-staging, block-next, block-last}
 use Rattle.host.specs.Decide.{sequenceOf, goesOn, decideOf}
@@ -138,7 +138,7 @@ module _ (b : List ℕ) (α : Accepted b) (t : ℕ) (small : t < 256) (d : Devic
         reads = block-reads b (spot k) (omega (arith, o .len))
 
         -- its data is put into the region
-        puts-it : takeBlock (held d ps (awaits slot t k)) slot (contentOf b (spot k)) s ≡ s′
+        puts-it : takeBlock ps slot (contentOf b (spot k)) s ≡ s′
         puts-it =
             puts d ps slot t (contentOf b (spot k)) k (awaits slot t k) s (blockAt b (spot k) .bytes) fits
             (le-leb (r .base .0 + r .len) (length s) (omega (arith, o .room))) (data-back (blockAt b (spot k) .bytes) _) refl

@@ -18,15 +18,15 @@ use Rattle.bundle.specs.Layout.{countIn}
 use Rattle.bundle.proofs.Accepted.{Accepted}
 use Rattle.device.specs.Entries.{serveEntry, serveStaging}
 use Rattle.device.specs.declared.answer.Channel.the-variants.{Offer as OfferChannel}
-use Rattle.device.specs.Offer.{offerVerdict, statusOf, reasonOf, afterOffer}
+use Rattle.offering.specs.Offer.{statusOf, reasonOf}
 use Rattle.device.specs.Record.{toIdle, idleWith}
-use Rattle.device.specs.Refusals.{answeredWith}
-use Rattle.device.specs.declared.judged.OfferVerdict.{OfferVerdict}
-use Rattle.device.specs.declared.judged.OfferVerdict.the-variants.{Reject, Skip, Accept}
+use Rattle.device.proofs.Calls.{answeredWith}
+use Rattle.offering.specs.declared.verdict.OfferVerdict.{OfferVerdict}
+use Rattle.offering.specs.declared.verdict.OfferVerdict.the-variants.{Reject, Skip, Accept}
 use Rattle.device.specs.declared.record.Device.{Device}
-use Rattle.device.specs.declared.record.Owed.the-variants as owed
+use Rattle.session.specs.declared.owed.Owed.the-variants as owed
 use Rattle.device.proofs.Calls.{Sound, Answered, code-opens, code-accepted, answers-offer, answers-code}
-use Rattle.device.proofs.Offering.{answers}
+use Rattle.device.proofs.Offering.{offerVerdict, afterOffer, answers}
 use Rattle.device.proofs.Blocks.{held, awaits}
 use Rattle.host.specs.Decide.{sends, offerFrom, noted, decideIn, decideOf}
 use Rattle.host.specs.Step.{moved, packetOf, blockPacket}

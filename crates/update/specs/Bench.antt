@@ -17,7 +17,7 @@ use Rattle.component.specs.Record.{withStaged, blankComponent}
 use Rattle.device.specs.Record.{part, idleWith}
 use Rattle.device.specs.Bench.{bench}
 use Rattle.device.specs.declared.record.Device.{Device}
-use Rattle.device.specs.declared.record.Stage.the-variants.{Idle}
+use Rattle.session.specs.declared.stage.Stage.the-variants.{Idle}
 use Rattle.host.specs.declared.record.HostStage.the-variants.{Ended}
 use Rattle.host.specs.declared.record.End.the-variants.{Done}
 use Rattle.update.specs.Trace.{Exchange, passesIn}

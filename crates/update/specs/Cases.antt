@@ -14,8 +14,8 @@ use Rattle.component.specs.declared.record.Staged.the-variants as staged
 use Rattle.bundle.specs.Layout.{countIn}
 use Rattle.bundle.specs.Contents.{Part, bundleBytes}
 use Rattle.device.specs.declared.record.Device.{Device}
-use Rattle.device.specs.declared.record.Stage.the-variants.{Idle, Receiving}
-use Rattle.device.specs.declared.record.Owed.the-variants as owed
+use Rattle.session.specs.declared.stage.Stage.the-variants.{Idle, Receiving}
+use Rattle.session.specs.declared.owed.Owed.the-variants as owed
 use Rattle.host.specs.declared.record.HostStage.the-variants.{Ended}
 use Rattle.host.specs.declared.record.End.the-variants.{Done}
 use Rattle.update.specs.Trace.{passesIn}

@@ -2,11 +2,11 @@
 use component::record::Component;
 use component::record::Staged;
 use device::record::Device;
-use device::record::Owed;
-use device::record::Stage;
 use host::answer::Progress;
 use host::answer::Report;
 use host::record::End;
+use session::owed::Owed;
+use session::stage::Stage;
 
 fn end_number(e: End) -> u16 {
     match e {

@@ -18,7 +18,8 @@ use Rattle.component.specs.declared.record.Component.{Component}
 use Rattle.component.specs.declared.list.Found.{Found}
 use Rattle.component.specs.declared.list.Found.the-variants.{Nothing, At}
 use Rattle.component.proofs.list.Loops.{isAt, at-any}
-use Rattle.component.proofs.list.Members.{neither, any-none, pairs-none, map-take, first-map}
+use Rattle.wire.proofs.Tests.{neither}
+use Rattle.component.proofs.list.Members.{any-none, pairs-none, map-take, first-map}
 
 -- what is found is a member of which p holds
 found : {A : Type 0} (d : A) (p : A → Bool) (i : ℕ) (l : List A) (k : ℕ) → firstFrom p i l ≡ At k → (i ≤ k) × (k < i + length l) × (p (getD l (k - i) d) ≡ true)

@@ -1,17 +1,13 @@
 -- What `any` and `pairs` say of the members of a list, and lists that look alike. Assumes nothing.
 use mathlib.Core.Path.{_≡_, refl, ap, ap₂}
-use mathlib.Core.Bool.{Bool, true, false, _||_, true≢false}
+use mathlib.Core.Bool.{Bool, false, _||_}
 use mathlib.Core.List.{List, [], _∷_, map}
 use Prim.Native.Nat.{ℕ, zero, suc, _<_}
 use native.Mathlib.Nat.{not-suc-le-zero, le-of-suc-le-suc}
 use lib.ListN.{length, take, getD}
 use Rattle.wire.specs.Checks.{any, pairs}
+use Rattle.wire.proofs.Tests.{neither}
 use Rattle.component.specs.Lists.{firstFrom}
-
--- of two tests in a row, of which neither applies
-pub neither : (a b : Bool) → (a || b) ≡ false → (a ≡ false) × (b ≡ false)
-neither true b e = absurd (true≢false e)
-neither false b e = (refl, e)
 
 module _ {A : Type 0} (d : A) where
   -- where p holds of no member, it does not hold of the member at k

@@ -20,7 +20,8 @@ use Rattle.component.specs.Setup.{stagingTooLong, badCount, badId, badId
 use Rattle.component.specs.declared.record.Component.{Component}
 use Rattle.component.specs.declared.setup.SetupVerdict.{SetupVerdict}
 use Rattle.component.specs.declared.setup.SetupVerdict.the-variants.{Fine, S1, S2, S3, S4}
-use Rattle.component.proofs.list.Members.{neither, any-none, pairs-none, map-take, any-map, pairs-map}
+use Rattle.wire.proofs.Tests.{neither}
+use Rattle.component.proofs.list.Members.{any-none, pairs-none, map-take, any-map, pairs-map}
 use Rattle.component.proofs.list.Laws.{slot-taken, ids-differ as ids-differ-where}
 
 -- a list is fine where no row applies

@@ -6,7 +6,7 @@ use Rattle.component.specs.declared.setup.SetupVerdict.{SetupVerdict}
 use Rattle.component.specs.declared.setup.SetupVerdict.the-variants.{Fine, S1, S2, S3, S4}
 use Rattle.device.specs.declared.record.Device.{Device}
 use Rattle.device.specs.Record.{blankDevice}
-use Rattle.device.specs.Refusals.{refusesSetup}
+use Rattle.session.specs.Sound.{refusesSetup}
 use Rattle.device.specs.Entries.{setUpBy}
 
 pub refused-set-up : (v : SetupVerdict) (d : Device) → refusesSetup v ≡ true → setUpBy (rowOf v) d ≡ record { row = rowOf v; device = blankDevice }

@@ -16,20 +16,27 @@ use Rattle.bundle.specs.Layout.{countIn}
 use Rattle.bundle.specs.Rows as rows
 use Rattle.bundle.specs.Contents.{checkOf}
 use Rattle.bundle.proofs.Accepted.{accepted}
-use Rattle.device.specs.Record.{isOpen}
-use Rattle.device.specs.Refusals.{Row, served, D, Outcome, told, refusalOf, unlessRefused}
-use Rattle.device.specs.Offer.{onOffer, onInformation, onNotify, onExtended, onKind, offerEntry}
-use Rattle.device.specs.Content.{isLast, onBlock, onVerdict, contentVerdict, contentEntry}
+use Rattle.session.specs.Stage.{isOpen}
+use Rattle.session.specs.declared.effect.Effect.{Effect}
+use Rattle.offering.specs.Offer.{onOffer}
+use Rattle.offering.specs.Signal.{onInformation, onNotify, onExtended}
+use Rattle.receiving.specs.Content.{isLast}
+use Rattle.receiving.specs.Receive.{onBlock, onVerdict}
+use Rattle.receiving.specs.declared.content.Received.{Received}
+use Rattle.device.specs.Record.{sessionOf}
+use Rattle.device.specs.Refusals.{Row, served, D, Outcome, told, refusalOf, unlessRefused, servedWith}
+use Rattle.device.specs.Offer.{onKind, offerEntry}
+use Rattle.device.specs.Content.{contentVerdict, received, contentEntry}
 use Rattle.device.specs.Entries.{serveEntry, serveStaging}
 use Rattle.device.specs.declared.record.Device.{Device}
-use Rattle.device.specs.declared.record.Owed.{Owed}
-use Rattle.device.specs.declared.record.Owed.the-variants as owed
+use Rattle.session.specs.declared.owed.Owed.{Owed}
+use Rattle.session.specs.declared.owed.Owed.the-variants as owed
 use Rattle.device.specs.declared.answer.Answer.{Answer}
 use Rattle.device.specs.declared.answer.Channel.{Channel}
 use Rattle.device.specs.declared.answer.Channel.the-variants.{Offer, Content}
-use Rattle.device.specs.declared.judged.ContentVerdict.{ContentVerdict}
-use Rattle.device.specs.declared.judged.ContentVerdict.the-variants.{Refuse, Take}
-use Rattle.device.proofs.Chain.{either}
+use Rattle.receiving.specs.declared.checks.ContentVerdict.{ContentVerdict}
+use Rattle.receiving.specs.declared.checks.ContentVerdict.the-variants.{Refuse, Take}
+use Rattle.wire.proofs.Chain.{either}
 use Rattle.host.specs.Record.{freshHost, hasEnded}
 use Rattle.host.specs.Decide.{decideOf}
 use Rattle.host.specs.Step.{Step, lastIn, stepOf}
@@ -49,8 +56,12 @@ abbrev First : Outcome → Type 0
 First a = heard (a .sent) ≡ cond (a .due) (a .reply) []
 
 module _ (d : Device) where
+  -- of what a packet on the offer channel does
+  abbrev EffectFirst : Effect → Type 0
+  EffectFirst e = First (servedWith d (d .parts) e)
+
   -- of a notify on ready
-  notify-first : (token : ℕ) (b : Bool) (o : Owed) → First (onNotify d token b o)
+  notify-first : (token : ℕ) (b : Bool) (o : Owed) → EffectFirst (onNotify (sessionOf d) token b o)
   notify-first token false o = refl
   notify-first token true owed.Nothing = refl
   notify-first token true (owed.Token t) = refl
@@ -60,14 +71,14 @@ module _ (d : Device) where
   unfolding onOffer onInformation onExtended
   kind-first (offer o) = refl
   kind-first (information s) =
-      either First (eqb (s .code) INFO-START-ENTIRE-TRANSACTION) _ _ refl (either First (leb (s .code) INFO-END-OFFER-LIST) _ _ refl refl)
-  kind-first (extended s) = either First (eqb (s .code) NOTIFY-ON-READY) _ _ (notify-first (s .token) (isOpen (d .stage)) (d .owed)) refl
+      either EffectFirst (eqb (s .code) INFO-START-ENTIRE-TRANSACTION) _ _ refl (either EffectFirst (leb (s .code) INFO-END-OFFER-LIST) _ _ refl refl)
+  kind-first (extended s) = either EffectFirst (eqb (s .code) NOTIFY-ON-READY) _ _ (notify-first (s .token) (isOpen (d .stage)) (d .owed)) refl
 
   -- of a content packet
-  content-first : (c : ContentFields) (s : List ℕ) (v : ContentVerdict) → First (onVerdict d c s v)
+  content-first : (c : ContentFields) (s : List ℕ) (v : ContentVerdict) → First (received d (onVerdict (d .parts) (sessionOf d) c s v))
   unfolding onBlock
   content-first c s (Refuse status) = refl
-  content-first c s (Take k) = either First (isLast c) _ _ refl refl
+  content-first c s (Take k) = either (λ (r : Received). First (received d r)) (isLast c) _ _ refl refl
 
   -- of a refused call
   unless-first : (row : Row) (a : Outcome) → First a → First (unlessRefused row d a)
@@ -80,7 +91,7 @@ module _ (d : Device) where
   serve-first Offer staging p = unless-first (refusalOf 16 d (length staging) (length p)) (onKind d (kindIn p)) (kind-first (kindIn p))
   serve-first Content staging p =
       let v = contentVerdict d (fieldsIn p) in
-      unless-first (refusalOf 60 d (length staging) (length p)) (onVerdict d (fieldsIn p) staging v) (content-first (fieldsIn p) staging v)
+      unless-first (refusalOf 60 d (length staging) (length p)) (received d (onVerdict (d .parts) (sessionOf d) (fieldsIn p) staging v)) (content-first (fieldsIn p) staging v)
 
 -- the first 16 bytes of a packet
 pub first-16 : (p : List ℕ) → length p ≡ 60 → 16 ≡ length (take 16 p)

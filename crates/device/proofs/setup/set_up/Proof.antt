@@ -3,8 +3,8 @@ use mathlib.Core.Path.{sym}
 use native.Mathlib.Omega.{arith}
 use lib.ListN.{length}
 use Rattle.device.specs.Entries.{setUpOf}
-use Rattle.device.proofs.Chain.{by}
-use Rattle.device.proofs.Passes.{fine}
+use Rattle.wire.proofs.Chain.{by}
+use Rattle.session.proofs.sound.Laws.{fine}
 use Rattle.component.proofs.setup.Laws.{fine-staging}
 use Rattle.device.proofs.setup.Laws.{refused-set-up, made-set-up}
 use borrow.Author.Needs.{needs}

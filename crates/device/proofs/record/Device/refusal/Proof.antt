@@ -2,7 +2,7 @@
 use borrow.Author.Tests.{eq-eqb, ne-eqb}
 use Rattle.wire.specs.Checks.{firstOf}
 use Rattle.device.specs.Refusals.{refusalOf}
-use Rattle.device.proofs.Chain.{by}
+use Rattle.wire.proofs.Chain.{by}
 use borrow.Author.Needs.{needs}
 use Rattle.device.proofs.record.Device.refusal.Statement.{statement}
 use Rattle.device.proofs.record.Device.refusal.Tie as tie

@@ -6,8 +6,8 @@ use borrow.Author.Tests.{le-leb}
 use Rattle.wire.specs.Rows.{Told}
 use Rattle.versions.specs.Reply.{buildOf}
 use Rattle.device.specs.Entries.{versionEntry}
-use Rattle.device.proofs.Chain.{by}
-use Rattle.device.proofs.Passes.{passes, count-most}
+use Rattle.wire.proofs.Chain.{by}
+use Rattle.session.proofs.sound.Laws.{passes, count-most}
 use borrow.Author.Needs.{needs}
 use Rattle.device.proofs.record.Device.version_reply.Statement.{statement}
 use Rattle.device.proofs.record.Device.version_reply.Tie as tie
@@ -30,7 +30,7 @@ unfolding versionEntry buildOf
 returns-2 c =
     let d = c .before .before .before .before .before .before .args .self in
     let h = by (c .before .before .before .before .before .breaks-d1 .ensures) (c .before .before .before .before .if1 .left) in
-    let m = count-most d (passes d h) in
+    let m = count-most (passes h) in
     let e = ap (λ (t : Told (List ℕ)). t .value) (rw (le-leb (d .count) 7 m) at (c .before .build-version-reply .ensures)) in
     rw (h, e, c .before .before .all-running .ensures)
 

@@ -1,0 +1,20 @@
+-- A row refuses the call, or none does. Assumes nothing.
+use Prim.Native.Nat.{ℕ}
+use mathlib.Core.Path.{_≡_, refl, sym}
+use mathlib.Core.Bool.{true, false, true≢false}
+use mathlib.Core.List.{List}
+use Rattle.device.specs.declared.record.Device.{Device}
+use Rattle.device.specs.Refusals.{Row, served, D, isRefused, Outcome, refusedBy, unlessRefused}
+use Rattle.device.specs.Content.{stagingUnless}
+
+pub none-refuses : (row : Row) → isRefused row ≡ false → row ≡ served
+none-refuses served h = refl
+none-refuses (D k) h = absurd (true≢false h)
+
+pub one-refuses : (row : Row) (d : Device) (answer : Outcome) → isRefused row ≡ true → unlessRefused row d answer ≡ refusedBy row d
+one-refuses served d answer h = absurd (true≢false (sym h))
+one-refuses (D k) d answer h = refl
+
+pub one-keeps : (row : Row) (s after : List ℕ) → isRefused row ≡ true → stagingUnless row s after ≡ s
+one-keeps served s after h = absurd (true≢false (sym h))
+one-keeps (D k) s after h = refl

@@ -1,0 +1,47 @@
+-- `checks::need_unmet` meets its contract: check 8, each part as its helper says. Assumes nothing.
+use Rattle.offering.specs.Offer.{needUnmet}
+use borrow.Author.Needs.{needs}
+use Rattle.offering.proofs.checks.need_unmet.Statement.{statement}
+use Rattle.offering.proofs.checks.need_unmet.Tie as tie
+
+find-requires : tie.Need-find-requires
+find-requires c κs = search needs
+
+slot-of-requires : tie.Need-slot-of-requires
+slot-of-requires c κs = search needs
+
+part-at-requires : tie.Need-part-at-requires
+part-at-requires c κs = search needs
+
+effective-requires : tie.Need-effective-requires
+effective-requires c κs = search needs
+
+is-absent-requires : tie.Need-is-absent-requires
+is-absent-requires c κs = search needs
+
+release-requires : tie.Need-release-requires
+release-requires c κs = search needs
+
+returns : tie.Need-returns
+unfolding needUnmet
+returns c =
+    rw (
+      c .before .before .is-absent .ensures,
+      c .before .release .ensures,
+      c .before .before .before .before .effective .ensures,
+      c .before .before .before .before .before .part-at .ensures,
+      c .before .before .before .before .before .before .slot-of .ensures,
+      c .before .before .before .before .before .before .before .find .ensures,
+    )
+
+pub need-unmet-spec : {M : Type 1} → statement M
+need-unmet-spec =
+    tie.close
+    (tie.spec
+    find-requires
+    slot-of-requires
+    part-at-requires
+    effective-requires
+    is-absent-requires
+    release-requires
+    returns)

@@ -1,0 +1,92 @@
+-- An offer: checks 1 to 9, its reply and the session afterwards (document 01, "The device"), for a device of this platform whose components in use are
+-- the first `count`.
+use Prim.Native.Nat.{ℕ}
+use mathlib.Core.Bool.{Bool, true, false, not, _||_, _&&_}
+use mathlib.Core.List.{List, [], _∷_, _++_}
+use lib.Dec.{ltb, eqb}
+use Rattle.wire.specs.Checks.{firstOf}
+use Rattle.wire.specs.Codes.{PROTOCOL, OFFER-SKIP, OFFER-ACCEPT, OFFER-REJECT, OFFER-BUSY, REJECT-OLD-FW, REJECT-INV-COMPONENT, REJECT-SWAP-PENDING, REJECT-WRONG-PROTOCOL, REJECT-WRONG-SEGMENT}
+use Rattle.wire.specs.Version.{releaseOf}
+use Rattle.offers.specs.Reply.{replyBytes}
+use Rattle.offers.specs.declared.offer.OfferFields.{OfferFields}
+use Rattle.component.specs.Record.{isPending, effective}
+use Rattle.component.specs.Lists.{find, partAt}
+use Rattle.component.specs.Versions.{offerVersion}
+use Rattle.component.specs.declared.record.Component.{Component}
+use Rattle.component.specs.declared.rule.VersionVerdict.{VersionVerdict}
+use Rattle.component.specs.declared.rule.VersionVerdict.the-variants.{Fits, Old}
+use Rattle.slots.specs.Slots.{slotOf, isAbsent}
+use Rattle.session.specs.Stage.{isOpen}
+use Rattle.session.specs.Effect.{inStage, answered}
+use Rattle.session.specs.declared.stage.Stage.{Stage}
+use Rattle.session.specs.declared.stage.Stage.the-variants.{Offered}
+use Rattle.session.specs.declared.owed.Owed.the-variants as owed
+use Rattle.session.specs.declared.effect.Session.{Session}
+use Rattle.session.specs.declared.effect.Effect.{Effect}
+use Rattle.offering.specs.declared.verdict.OfferVerdict.{OfferVerdict}
+use Rattle.offering.specs.declared.verdict.OfferVerdict.the-variants.{Busy, Reject, Skip, Accept}
+
+abbrev pub isOld : VersionVerdict → Bool
+isOld Fits = false
+isOld Old = true
+
+-- the effective version of a component, divided by 256, is below the 24-bit number
+abbrev pub below : Component → ℕ → Bool
+below c least = ltb (releaseOf (effective (c .running) (c .staged))) least
+
+-- the component that the offer is for
+abbrev pub target : (count : ℕ) → List Component → OfferFields → Component
+target count parts o = partAt parts (slotOf (find (o .id) count parts))
+
+-- checks 2 to 7, each with its answer
+unfoldable pub rejections : (platform count : ℕ) → List Component → OfferFields → List (Bool × OfferVerdict)
+rejections platform count parts o =
+    (not (eqb (o .protocol) PROTOCOL), Reject REJECT-WRONG-PROTOCOL)
+    ∷ (isAbsent (find (o .id) count parts), Reject REJECT-INV-COMPONENT)
+    ∷ (not (eqb (o .platform) platform), Reject REJECT-INV-COMPONENT)
+    ∷ (not (eqb (o .segment) 0), Reject REJECT-WRONG-SEGMENT)
+    ∷ (isPending (target count parts o .staged), Reject REJECT-SWAP-PENDING)
+    ∷ (isOld (offerVersion (target count parts o) (o .version)), Reject REJECT-OLD-FW)
+    ∷ []
+
+-- check 8: byte 8 is not 0, and that component is absent or its effective version is below
+unfoldable pub needUnmet : (count : ℕ) → List Component → OfferFields → Bool
+needUnmet count parts o =
+    not (eqb (o .need) 0)
+    && (isAbsent (find (o .need) count parts) || below (partAt parts (slotOf (find (o .need) count parts))) (o .least))
+
+-- checks 1 to 9: the first that applies
+unfoldable pub offerVerdict : (platform count : ℕ) → List Component → Stage → OfferFields → OfferVerdict
+offerVerdict platform count parts stage o =
+    firstOf ((isOpen stage, Busy) ∷ rejections platform count parts o ++ (needUnmet count parts o, Skip) ∷ [])
+    (Accept (slotOf (find (o .id) count parts)))
+
+-- the status of a verdict, and its reason: zero unless REJECT
+abbrev pub statusOf : OfferVerdict → ℕ
+statusOf Busy = OFFER-BUSY
+statusOf (Reject r) = OFFER-REJECT
+statusOf Skip = OFFER-SKIP
+statusOf (Accept k) = OFFER-ACCEPT
+
+abbrev pub reasonOf : OfferVerdict → ℕ
+reasonOf Busy = 0
+reasonOf (Reject r) = r
+reasonOf Skip = 0
+reasonOf (Accept k) = 0
+
+-- the session after a verdict: ACCEPT makes it offered, any other changes nothing
+abbrev pub afterOffer : Session → (token : ℕ) → OfferVerdict → Session
+afterOffer session token Busy = session
+afterOffer session token (Reject r) = session
+afterOffer session token Skip = session
+afterOffer session token (Accept k) = inStage session (Offered (record { slot = k; token = token }))
+
+-- what a verdict comes to: its reply, and the session afterwards
+abbrev pub onVerdict : Session → (token : ℕ) → OfferVerdict → Effect
+onVerdict session token verdict =
+    answered (replyBytes (record { token = token; reason = reasonOf verdict; status = statusOf verdict })) owed.Nothing
+    (afterOffer session token verdict)
+
+-- an offer
+unfoldable pub onOffer : (platform count : ℕ) → List Component → Session → OfferFields → Effect
+onOffer platform count parts session o = onVerdict session (o .token) (offerVerdict platform count parts (session .stage) o)

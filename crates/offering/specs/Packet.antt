@@ -1,0 +1,24 @@
+-- A packet of the offer channel, by its kind (document 01, "Packets").
+use Prim.Native.Nat.{ℕ}
+use mathlib.Core.List.{List}
+use Rattle.offers.specs.Kind.{Kind, offer, information, extended}
+use Rattle.offers.specs.declared.kind.OfferPacket.{OfferPacket}
+use Rattle.offers.specs.declared.kind.OfferPacket.the-variants.{Refused, Offer, Information, Extended}
+use Rattle.component.specs.declared.record.Component.{Component}
+use Rattle.session.specs.Effect.{silent}
+use Rattle.session.specs.declared.effect.Session.{Session}
+use Rattle.session.specs.declared.effect.Effect.{Effect}
+use Rattle.offering.specs.Offer.{onOffer}
+use Rattle.offering.specs.Signal.{onInformation, onExtended}
+
+abbrev pub onKind : (platform count : ℕ) → List Component → Session → Kind → Effect
+onKind platform count parts session (offer o) = onOffer platform count parts session o
+onKind platform count parts session (information s) = onInformation session s
+onKind platform count parts session (extended s) = onExtended session s
+
+-- what the reader hands out: of bytes that are no packet nothing comes
+abbrev pub onPacket : (platform count : ℕ) → List Component → Session → OfferPacket → Effect
+onPacket platform count parts session Refused = silent session
+onPacket platform count parts session (Offer o) = onKind platform count parts session (offer o)
+onPacket platform count parts session (Information s) = onKind platform count parts session (information s)
+onPacket platform count parts session (Extended s) = onKind platform count parts session (extended s)

@@ -1,0 +1,6 @@
+// Offers, information and extended packets: what a device answers, and its session afterwards.
+pub mod verdict; // verdict.rt: what the checks of an offer say
+pub mod checks; // checks.rt: checks 1 to 9
+pub mod offer; // offer.rt: the answer to an offer
+pub mod signal; // signal.rt: the answers to information and extended packets
+pub mod packet; // packet.rt: the answer by kind

@@ -1,0 +1,47 @@
+// The answer to an offer (document 01, "The device"): the reply of its verdict, and the session afterwards.
+use crate::checks::judge_offer;
+use crate::verdict::OfferVerdict;
+use component::record::Component;
+use offers::offer::OfferFields;
+use offers::reply::OfferReply;
+use offers::reply::build_offer_reply;
+use session::effect::Effect;
+use session::effect::Session;
+use session::owed::Owed;
+use session::stage::Offered;
+use session::stage::Stage;
+ghost use mathlib.Core.Path.{_≡_};
+ghost use Rattle.offering.specs.Offer.{afterOffer, onOffer};
+
+// ACCEPT makes the session offered; any other verdict changes nothing.
+fn after_offer(session: Session, token: u8, verdict: OfferVerdict) -> Session
+    ensures { λ r. ⌜ r ≡ afterOffer session token verdict ⌝ }
+{
+    match verdict {
+        OfferVerdict::Busy => session,
+        OfferVerdict::Reject(_) => session,
+        OfferVerdict::Skip => session,
+        OfferVerdict::Accept(slot) => session.in_stage(Stage::Offered(Offered { slot, token })),
+    }
+}
+
+// An offer to a device of this platform with these components.
+pub fn on_offer(
+    platform: u16,
+    count: u8,
+    parts: [Component; 7],
+    session: Session,
+    o: OfferFields,
+) -> Effect
+    ensures { λ r. ⌜ r ≡ onOffer platform count parts session o ⌝ }
+{
+    let stage = session.stage;
+    let verdict = judge_offer(platform, count, parts, stage, o);
+    let reply = build_offer_reply(OfferReply {
+        token: o.token,
+        reason: verdict.reason(),
+        status: verdict.status(),
+    });
+    let next = after_offer(session, o.token, verdict);
+    next.answered(reply, Owed::Nothing)
+}

@@ -1,0 +1,26 @@
+-- `Stage::open_slot` meets its contract: by cases on the stage. Assumes nothing.
+use borrow.Author.Needs.{needs}
+use Rattle.session.proofs.stage.Stage.open_slot.Statement.{statement}
+use Rattle.session.proofs.stage.Stage.open_slot.Tie as tie
+
+enum-told : tie.Need-enum-told
+enum-told c = search needs
+
+enum-known-self : tie.Need-enum-known-self
+enum-known-self c = search needs
+
+enum-known-self-2 : tie.Need-enum-known-self-2
+enum-known-self-2 c = search needs
+
+returns : tie.Need-returns
+returns c = search needs
+
+returns-2 : tie.Need-returns-2
+returns-2 c = rw (c .before .self .given .1)
+
+returns-3 : tie.Need-returns-3
+returns-3 c = rw (c .before .self2 .given .1)
+
+pub open-slot-spec : {M : Type 1} → statement M
+open-slot-spec =
+    tie.close (tie.spec enum-told enum-known-self enum-known-self-2 returns returns-2 returns-3)

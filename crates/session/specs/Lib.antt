@@ -1,0 +1,4 @@
+pub mod Stage
+pub mod Owed
+pub mod Effect
+pub mod Sound

@@ -1,0 +1,59 @@
+// Row D1 (document 01, "Numbered refusals"): what every entry of the device judges first.
+use crate::effect::Session;
+use crate::owed::Owed;
+use component::list::Found;
+use component::list::some_stale;
+use component::record::Component;
+use component::setup::SetupVerdict;
+use component::setup::setup_verdict;
+use slots::slot::part_at;
+ghost use mathlib.Core.Path.{_≡_};
+ghost use Rattle.session.specs.Sound.{refusesSetup, wrongSlot, owesOn, breaksD1};
+
+// S1 to S4 refuse it.
+pub fn refuses_setup(v: SetupVerdict) -> bool
+    ensures { λ r. ⌜ r ≡ refusesSetup v ⌝ }
+{
+    match v {
+        SetupVerdict::Fine => false,
+        SetupVerdict::S1 => true,
+        SetupVerdict::S2 => true,
+        SetupVerdict::S3 => true,
+        SetupVerdict::S4 => true,
+    }
+}
+
+// A ready-reply is owed while the session is idle.
+fn owes_on(at: Found, owed: Owed) -> bool
+    ensures { λ r. ⌜ r ≡ owesOn at owed ⌝ }
+{
+    match at {
+        Found::Nothing => owed.is_owed(),
+        Found::At(_) => false,
+    }
+}
+
+// The slot that the session is open on is unlisted, or its component is pending.
+fn wrong_slot(count: u8, parts: [Component; 7], at: Found) -> bool
+    ensures { λ r. ⌜ r ≡ wrongSlot count parts at ⌝ }
+{
+    match at {
+        Found::Nothing => false,
+        Found::At(k) => {
+            let part = part_at(parts, k);
+            (count <= k) | part.is_pending()
+        }
+    }
+}
+
+// D1: no entry serves a device with these components, a staging buffer of n bytes and this session.
+pub fn breaks_d1(n: usize, count: u8, parts: [Component; 7], session: Session) -> bool
+    ensures { λ r. ⌜ r ≡ breaksD1 n count parts session ⌝ }
+{
+    let stage = session.stage;
+    let owed = session.owed;
+    let slot = stage.open_slot();
+    let verdict = setup_verdict(n, count, parts);
+    refuses_setup(verdict)
+        | (wrong_slot(count, parts, slot) | (owes_on(slot, owed) | some_stale(parts, count)))
+}

@@ -1,0 +1,34 @@
+-- What a chain of checks answers. Assumes nothing.
+use mathlib.Core.Path.{_≡_, refl, sym, _∙_}
+use mathlib.Core.Bool.{Bool, true, false, cond}
+use mathlib.Core.List.{List, [], _∷_}
+use Rattle.wire.specs.Checks.{firstOf}
+
+-- a helper's answer r is s by its contract, and a branch says that r is b
+pub by : {A : Type 0} {r s b : A} → r ≡ s → r ≡ b → s ≡ b
+by e t = sym e ∙ t
+
+-- no check applies
+abbrev pub Quiet : {A : Type 0} → List (Bool × A) → Type 0
+Quiet [] = Unit {0}
+Quiet (c ∷ cs) = (c .0 ≡ false) × Quiet cs
+
+module _ {A : Type 0} (P : A → Type 0) where
+  -- what is said of the answer of each check
+  abbrev pub Each : List (Bool × A) → Type 0
+  Each [] = Unit {0}
+  Each (c ∷ cs) = P (c .1) × Each cs
+
+  -- what is said of each check's answer, and of the last where no check applies, is said of the answer of the chain
+  pub first-says : (cs : List (Bool × A)) (last : A) → Each cs → (Quiet cs → P last) → P (firstOf cs last)
+  unfolding firstOf
+  first-says [] last e f = f tt
+  first-says (c ∷ cs) last e f = go (c .0) refl (first-says cs last (e .1)) where
+    go : (b : Bool) → c .0 ≡ b → ((Quiet cs → P last) → P (firstOf cs last)) → P (firstOf (c ∷ cs) last)
+    go true q h = rw q (e .0)
+    go false q h = rw q (h (λ z. f (q, z)))
+
+-- what is said of both answers of a test is said of its answer
+pub either : {A : Type 0} (P : A → Type 0) (b : Bool) (x y : A) → P x → P y → P (cond b x y)
+either P true x y h k = h
+either P false x y h k = k

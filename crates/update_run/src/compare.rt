@@ -4,9 +4,9 @@ use component::record::Staged;
 use device::record::Device;
 use device::record::Owed;
 use device::record::Stage;
-use host::answer::Progress;
-use host::answer::Report;
-use host::record::End;
+use host_record::record::End;
+use host_record::report::Progress;
+use host_record::report::Report;
 
 fn end_number(e: End) -> u16 {
     match e {

@@ -17,7 +17,8 @@ import tempfile
 
 HERE = os.path.dirname(os.path.abspath(__file__))
 TOP = os.path.dirname(os.path.dirname(HERE))
-ROOMS = ['wire', 'offers', 'contents', 'versions', 'crc16', 'image', 'component', 'slots', 'session', 'offering', 'receiving', 'records', 'bundle', 'device', 'host', 'update']
+ROOMS = ['wire', 'offers', 'contents', 'versions', 'crc16', 'image', 'component', 'slots', 'session', 'offering', 'receiving', 'device', 'records', 'layout', 'bundle', 'host_record',
+         'table', 'decide', 'make', 'host', 'update']
 # the statements that compute, and what they stand on
 PROOFS = {'wire': ['Tests'], 'device': ['Bench'], 'update': ['Fitting', 'Goodness', 'Bench', 'Cases']}
 

@@ -11,21 +11,16 @@ use lib.ListN.{length, getD, take, drop, length-take, length-drop}
 use lib.Seq.{getD-drop}
 use Rattle.wire.specs.Bytes.{Packet, Bytes, number, bytesAt}
 use Rattle.wire.specs.Checks.{firstOf, any}
-use Rattle.wire.proofs.Tests.{both}
+use Rattle.wire.proofs.Tests.{both, neither}
 use Rattle.records.specs.Record.{Block, headIn, isSound, blockIn, restOf}
 use Rattle.records.specs.Parse.{Parsed, whole, broken, more, after, parse, recordsOf, blocksOf}
 use Rattle.records.specs.declared.Head.{Head}
 use Rattle.records.specs.declared.Head.the-variants.{Empty, Cut, Whole}
-use Rattle.bundle.specs.Layout.{ENTRY, HEAD, BUNDLE-LIMIT, OFFER-LIMIT, countIn, tableEnd, entriesFrom, entriesIn, idIn, offsetIn, lengthIn, bodyIn}
-use Rattle.bundle.specs.Rows.{Row, served, B, firstEntry, badLength, badCount, badOffer, badBody, isBad, repeated, cutTable, badHead, named, rowB5, rowB6, rowB7, rowB8, bundleRow}
+use Rattle.layout.specs.Layout.{ENTRY, HEAD, BUNDLE-LIMIT, OFFER-LIMIT, countIn, tableEnd, entriesFrom, entriesIn, idIn, offsetIn, lengthIn, bodyIn}
+use Rattle.layout.specs.Rows.{Row, served, B, firstEntry, badLength, badCount, badOffer, badBody, isBad, repeated, cutTable, badHead, named, rowB5, rowB6, rowB7, rowB8, bundleRow}
 use Rattle.bundle.specs.Contents.{blocksIn}
 use Rattle.bundle.proofs.table.Laws.{entry-is}
 use Rattle.bundle.proofs.chain.Laws.{bodies-inside}
-
--- neither part of a disjunction holds
-pub neither : (a b : Bool) → (a || b) ≡ false → (a ≡ false) × (b ≡ false)
-neither true b h = absurd (true≢false h)
-neither false b h = (refl, h)
 
 -- a row that refuses nothing, and the rows after it
 passes : (t : Bool) (k e : ℕ) (rest : Row) → cond t (B k e) rest ≡ served → (t ≡ false) × (rest ≡ served)

@@ -15,8 +15,8 @@ use Rattle.wire.proofs.words.Laws.{round}
 use Rattle.records.specs.Record.{Block}
 use Rattle.records.specs.Parse.{whole, recordsOf, written}
 use Rattle.records.proofs.Written.{written-reads}
-use Rattle.bundle.specs.Layout.{BUNDLE-LIMIT, OFFER-LIMIT, HEAD, ENTRY, tableEnd, entriesFrom, entriesIn, idIn, offsetIn, lengthIn, bodyIn}
-use Rattle.bundle.specs.Rows.{firstEntry, badLength, badHead, badCount, cutTable, badOffer, repeated, gap, isBad, badBody, rowB5, rowB6, rowB7, rowB8, bundleRow}
+use Rattle.layout.specs.Layout.{BUNDLE-LIMIT, OFFER-LIMIT, HEAD, ENTRY, tableEnd, entriesFrom, entriesIn, idIn, offsetIn, lengthIn, bodyIn}
+use Rattle.layout.specs.Rows.{firstEntry, badLength, badHead, badCount, cutTable, badOffer, repeated, gap, isBad, badBody, rowB5, rowB6, rowB7, rowB8, bundleRow}
 use Rattle.bundle.specs.Contents.{joined, All, Part, tableBytes, bundleBytes, GoodPart, LayoutAccepted}
 
 -- a part's body, its entry where the body stands at `at`, and the entries of a layout

@@ -1,3 +1,5 @@
+pub mod Limits
 pub mod Accepted
 pub mod Tiles
 pub mod Layouts
+pub mod Told

@@ -1,21 +1,17 @@
 -- What the check answers: its row and, for an accepted bundle, the contents table; and the promises on accepted bundles.
-use Prim.Native.Nat.{ℕ, suc, _+_, _*_, _-_, _≤_, _<_, _^_}
+use Prim.Native.Nat.{ℕ, _+_, _-_, _≤_, _<_}
 use mathlib.Core.Path.{_≡_}
-use mathlib.Core.Bool.{Bool, true, false}
+use mathlib.Core.Bool.{false}
 use mathlib.Core.List.{List, [], _∷_, _++_, map}
-use lib.ListN.{length, getD, take, drop, replicate}
+use lib.ListN.{length, getD, take, replicate}
 use Rattle.wire.specs.Bytes.{Packet, Bytes, bytesOf}
-use Rattle.offers.specs.Offer.{fieldsIn, blankOffer}
+use Rattle.offers.specs.Offer.{fieldsIn}
 use Rattle.records.specs.Record.{Block}
-use Rattle.records.specs.Parse.{Parsed, whole, broken, recordsOf, blocksOf, AllSound, written}
-use Rattle.bundle.specs.declared.Entry.{Entry}
-use Rattle.bundle.specs.declared.Checked.{Checked}
-use Rattle.bundle.specs.Layout.{BUNDLE-LIMIT, OFFER-LIMIT, HEAD, ENTRY, countIn, tableEnd, entriesIn, offerIn, idIn, offsetIn, lengthIn, bodyIn}
-use Rattle.bundle.specs.Rows.{Row, served, B, rowOf, badOffer, bundleRow}
-
--- no entry
-abbrev pub blankEntry : Entry
-blankEntry = record { offer = blankOffer; offset = 0; length = 0; records = 0 }
+use Rattle.records.specs.Parse.{whole, recordsOf, blocksOf, AllSound, written}
+use Rattle.layout.specs.declared.Entry.{Entry}
+use Rattle.layout.specs.declared.Checked.{Checked}
+use Rattle.layout.specs.Layout.{blankEntry, BUNDLE-LIMIT, OFFER-LIMIT, countIn, tableEnd, entriesIn, offerIn, idIn, offsetIn, lengthIn, bodyIn}
+use Rattle.layout.specs.Rows.{Row, served, B, rowOf, badOffer, bundleRow}
 
 -- the records of an entry's body
 abbrev pub blocksIn : (b e : List ℕ) → List Block

@@ -1,4 +1,1 @@
-pub mod Layout
-pub mod Rows
 pub mod Contents
-pub mod Report

@@ -2,12 +2,12 @@
 ghost use mathlib.Core.Path.{_≡_};
 ghost use Prim.Native.Nat.{_≤_};
 ghost use lib.ListN.{length};
-ghost use Rattle.bundle.specs.Layout.{OFFER-LIMIT, countIn, tableEnd};
-ghost use Rattle.bundle.specs.Rows.{rowB7};
-use crate::head::table_end;
+ghost use Rattle.layout.specs.Layout.{OFFER-LIMIT, countIn, tableEnd};
+ghost use Rattle.layout.specs.Rows.{rowB7};
 use crate::table::entry_at;
-use crate::table::length_in;
-use crate::table::offset_in;
+use layout::head::table_end;
+use layout::parts::length_in;
+use layout::parts::offset_in;
 
 fn wide(x: u32) -> usize
     ensures { λ r. ⌜ r ≡ x ⌝ }

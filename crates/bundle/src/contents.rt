@@ -4,77 +4,28 @@ ghost use mathlib.Core.Bool.{false};
 ghost use mathlib.Core.List.{map, _++_};
 ghost use Prim.Native.Nat.{_+_, _-_, _≤_};
 ghost use lib.ListN.{length, take, drop, replicate};
-ghost use Rattle.offers.specs.Offer.{fieldsIn, blankOffer};
+ghost use Rattle.offers.specs.Offer.{fieldsIn};
 ghost use Rattle.records.specs.Parse.{recordsOf, blocksOf};
-ghost use Rattle.bundle.specs.Layout.{BUNDLE-LIMIT, OFFER-LIMIT, ENTRY, countIn, tableEnd, entriesIn, offerIn, idIn, offsetIn, lengthIn};
-ghost use Rattle.bundle.specs.Rows.{rowB5, rowB7, rowB8, badOffer};
-ghost use Rattle.bundle.specs.Contents.{blankEntry, entryIn};
-use crate::BundleVerdict;
-use crate::Checked;
-use crate::Entry;
+ghost use Rattle.layout.specs.Layout.{BUNDLE-LIMIT, OFFER-LIMIT, ENTRY, countIn, tableEnd, entriesIn, offerIn, idIn, offsetIn, lengthIn};
+ghost use Rattle.layout.specs.Rows.{rowB5, rowB7, rowB8, badOffer};
+ghost use Rattle.layout.specs.Layout.{blankEntry};
+ghost use Rattle.bundle.specs.Contents.{entryIn};
 use crate::table::entry_at;
-use crate::table::length_in;
-use crate::table::offset_in;
+use layout::Entry;
+use layout::blank::no_entries;
+use layout::blank::no_offer;
+use layout::parts::length_in;
+use layout::parts::offset_in;
 use offers::kind::OfferPacket;
 use offers::kind::read_offer_packet;
 use offers::offer::OfferFields;
 use records::Tally;
 use records::walk::tally;
-use wire::version::Version;
 
 // What row B8 says (an entry, or 0), and the contents table where it says 0.
 pub struct Filled {
     pub place: u8,
     pub table: [Entry; 7],
-}
-
-fn no_offer() -> OfferFields
-    ensures { λ r. ⌜ r ≡ blankOffer ⌝ }
-{
-    OfferFields {
-        segment: 0,
-        force_immediate_reset: false,
-        force_ignore_version: false,
-        id: 0,
-        token: 0,
-        version: Version::new(0, 0, 0),
-        need: 0,
-        least: 0,
-        protocol: 0,
-        platform: 0,
-    }
-}
-
-fn no_entry() -> Entry
-    ensures { λ r. ⌜ r ≡ blankEntry ⌝ }
-{
-    let offer = no_offer();
-    Entry {
-        offer: offer,
-        offset: 0,
-        length: 0,
-        records: 0,
-    }
-}
-
-fn no_entries() -> [Entry; 7]
-    ensures { λ r. ⌜ r ≡ replicate OFFER-LIMIT blankEntry ⌝ }
-{
-    let none = no_entry();
-    [none; 7]
-}
-
-// A refusal: its row and entry, with no contents.
-pub(crate) fn refused(verdict: BundleVerdict, place: u8) -> Checked
-    ensures { λ r. ⌜ r ≡ record { verdict = verdict; place = place; count = 0; table = replicate OFFER-LIMIT blankEntry } ⌝ }
-{
-    let none = no_entries();
-    Checked {
-        verdict: verdict,
-        place: place,
-        count: 0,
-        table: none,
-    }
 }
 
 // The fields of 16 bytes that row B5 allows, by the one reader of the offer channel.

@@ -1,46 +1,14 @@
 // The bundle: its check, and what an accepted bundle contains.
 ghost use mathlib.Core.Path.{_≡_};
 ghost use Rattle.bundle.specs.Contents.{toldChecked, checkOf};
-use crate::contents::refused;
-use offers::offer::OfferFields;
+use layout::BundleVerdict;
+use layout::Checked;
+use layout::blank::refused;
+use layout::head;
 
-pub mod limits; // limits.rt: the largest bundle, the most offers, the lengths of its parts
-mod head; // head.rt: rows B1 to B4
 mod table; // table.rt: an entry of the table, rows B5 and B6
 mod chain; // chain.rt: row B7, the bodies one after the other
 mod contents; // contents.rt: row B8, and the contents table
-pub mod report; // report.rt: what a program tells of a check
-
-// What the check says of a bundle (document 01, "Numbered refusals").
-pub enum BundleVerdict {
-    Fine,
-    B1,
-    B2,
-    B3,
-    B4,
-    B5,
-    B6,
-    B7,
-    B8,
-}
-
-// An offer of the bundle with its body.
-pub struct Entry {
-    pub offer: OfferFields,
-    // Where the body starts, and how long it is.
-    pub offset: u32,
-    pub length: u32,
-    // How many records the body has.
-    pub records: u32,
-}
-
-// What the check answers: the verdict with the entry that it names (from 1, or 0), and the contents, which are zero where a row refuses.
-pub struct Checked {
-    pub verdict: BundleVerdict,
-    pub place: u8,
-    pub count: u8,
-    pub table: [Entry; 7],
-}
 
 // Rows B1 to B8, each over the whole bundle before the next.
 pub fn check(b: &[u8]) -> Checked

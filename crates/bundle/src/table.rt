@@ -1,15 +1,15 @@
-// The table: an entry's parts, and rows B5 and B6.
+// The table: its entries, and rows B5 and B6.
 ghost use mathlib.Core.Path.{_≡_};
 ghost use Prim.Native.Nat.{_+_, _≤_};
 ghost use lib.Dec.{eqb};
 ghost use lib.ListN.{length, take, drop};
 ghost use Rattle.wire.specs.Checks.{any};
-ghost use Rattle.bundle.specs.Layout.{OFFER-LIMIT, ENTRY, countIn, tableEnd, entriesIn, idIn, offsetIn, lengthIn};
-ghost use Rattle.bundle.specs.Rows.{badOffer, rowB5, rowB6};
-use crate::head::table_end;
-use crate::limits::ENTRY;
-use wire::codes::PROTOCOL;
-use wire::words;
+ghost use Rattle.layout.specs.Layout.{OFFER-LIMIT, ENTRY, countIn, tableEnd, entriesIn, idIn};
+ghost use Rattle.layout.specs.Rows.{rowB5, rowB6};
+use layout::head::table_end;
+use layout::limits::ENTRY;
+use layout::parts::bad_offer;
+use layout::parts::id_in;
 
 // The 24 bytes of entry i, counted from 0.
 pub(crate) fn entry_at(b: &[u8], i: u8) -> &[u8]
@@ -19,42 +19,6 @@ pub(crate) fn entry_at(b: &[u8], i: u8) -> &[u8]
     let at = table_end(i);
     let end = at + ENTRY;
     &b[at..end]
-}
-
-// Of an entry: its offer's id, its body's offset and length.
-pub(crate) fn id_in(e: &[u8]) -> u8
-    requires { ⌜ length (now e) ≡ ENTRY ⌝ }
-    ensures { λ r. ⌜ r ≡ idIn (now (e .entry)) ⌝ }
-{
-    e[2]
-}
-
-pub(crate) fn offset_in(e: &[u8]) -> u32
-    requires { ⌜ length (now e) ≡ ENTRY ⌝ }
-    ensures { λ r. ⌜ r ≡ offsetIn (now (e .entry)) ⌝ }
-{
-    words::word32(e[16], e[17], e[18], e[19])
-}
-
-pub(crate) fn length_in(e: &[u8]) -> u32
-    requires { ⌜ length (now e) ≡ ENTRY ⌝ }
-    ensures { λ r. ⌜ r ≡ lengthIn (now (e .entry)) ⌝ }
-{
-    words::word32(e[20], e[21], e[22], e[23])
-}
-
-// B5 of an entry: bytes 0, 1, 3 or 13 not zero, byte 12 not 2, or id outside 1-0xDF.
-fn bad_offer(e: &[u8]) -> bool
-    requires { ⌜ length (now e) ≡ ENTRY ⌝ }
-    ensures { λ r. ⌜ r ≡ badOffer (now (e .entry)) ⌝ }
-{
-    (e[0] != 0)
-        | (e[1] != 0)
-        | (e[3] != 0)
-        | (e[13] != 0)
-        | (e[12] != PROTOCOL)
-        | (e[2] < 1)
-        | (0xDF < e[2])
 }
 
 // B5: the first entry with a bad offer, or 0.

@@ -4,44 +4,27 @@ ghost use mathlib.Core.Path.{_≡_};
 ghost use mathlib.Core.Bool.{false};
 ghost use mathlib.Core.List.{List};
 ghost use Prim.Native.Nat.{_≤_};
-ghost use lib.Dec.{eqb};
 ghost use lib.ListN.{length, drop};
 ghost use Rattle.records.specs.Record.{Block};
 ghost use Rattle.records.specs.Parse.{whole, recordsOf};
 ghost use Rattle.records.specs.Walk.{between};
-ghost use Rattle.bundle.specs.Rows as rows;
+ghost use Rattle.layout.specs.Rows as rows;
 ghost use Rattle.bundle.specs.Contents.{toldChecked, checkOf};
-ghost use Rattle.host.specs.Step.{badStage, stepOf, told};
+ghost use Rattle.make.specs.Answer.{told};
+ghost use Rattle.host.specs.Step.{badStage, stepOf};
 ghost use Rattle.host.specs.Inner.{CursorIn};
-use crate::answer::Sent;
-use crate::answer::StepAnswer;
-use crate::answer::StepRefusal;
-use crate::fits::body_at;
 use crate::inner::inner_step;
-use crate::record::Host;
-use crate::record::HostStage;
-use bundle::BundleVerdict;
-use bundle::Checked;
 use bundle::check;
+use host_record::fits::body_at;
+use host_record::record::Host;
+use host_record::record::HostStage;
+use layout::Checked;
+use layout::row_number;
+use make::answer::Sent;
+use make::answer::StepAnswer;
+use make::answer::StepRefusal;
 use records::Next;
 use records::walk::next_record;
-
-// No row refuses the bundle.
-pub fn is_fine(verdict: BundleVerdict) -> bool
-    ensures { λ r. ⌜ r ≡ eqb (rows.numberOf verdict) 0 ⌝ }
-{
-    match verdict {
-        BundleVerdict::Fine => true,
-        BundleVerdict::B1 => false,
-        BundleVerdict::B2 => false,
-        BundleVerdict::B3 => false,
-        BundleVerdict::B4 => false,
-        BundleVerdict::B5 => false,
-        BundleVerdict::B6 => false,
-        BundleVerdict::B7 => false,
-        BundleVerdict::B8 => false,
-    }
-}
 
 // The place after the first `count` records of a body, if it has as many.
 fn place_after(b: &[u8], at: usize, end: usize, count: usize) -> usize
@@ -88,30 +71,28 @@ fn cursor_for(b: &[u8], c: Checked, stage: HostStage) -> usize
     }
 }
 
-impl Host {
-    // The bundle's rows, N1, the end, the reply.
-    pub fn step(self, bundle: &[u8], reply: &[u8]) -> StepAnswer
-        ensures { λ r. ⌜ told r ≡ stepOf (now (bundle .entry)) self (now (reply .entry)) ⌝ }
-    {
-        let c = check(bundle);
-        let verdict = c.verdict;
-        if is_fine(verdict) {
-            let stage = self.stage;
-            let cursor = cursor_for(bundle, c, stage);
-            let a = inner_step(c, cursor, self, bundle, reply);
-            let s = a.step;
-            s
-        } else {
-            let none = [0u8; 60];
-            StepAnswer {
-                refusal: StepRefusal::Bundle {
-                    verdict: verdict,
-                    place: c.place,
-                },
-                sent: Sent::Nothing,
-                packet: none,
-                host: self,
-            }
+// The bundle's rows, N1, the end, the reply.
+pub fn step(host: Host, bundle: &[u8], reply: &[u8]) -> StepAnswer
+    ensures { λ r. ⌜ told r ≡ stepOf (now (bundle .entry)) host (now (reply .entry)) ⌝ }
+{
+    let c = check(bundle);
+    let verdict = c.verdict;
+    if row_number(verdict) == 0 {
+        let stage = host.stage;
+        let cursor = cursor_for(bundle, c, stage);
+        let a = inner_step(c, cursor, host, bundle, reply);
+        let s = a.step;
+        s
+    } else {
+        let none = [0u8; 60];
+        StepAnswer {
+            refusal: StepRefusal::Bundle {
+                verdict: verdict,
+                place: c.place,
+            },
+            sent: Sent::Nothing,
+            packet: none,
+            host: host,
         }
     }
 }

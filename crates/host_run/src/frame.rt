@@ -1,9 +1,9 @@
 // A record in the payload of a frame.
-use host::record::End;
-use host::record::Host;
-use host::record::HostStage;
-use host::record::Place;
-use host::record::Turn;
+use host_record::record::End;
+use host_record::record::Host;
+use host_record::record::HostStage;
+use host_record::record::Place;
+use host_record::record::Turn;
 use show::payload::byte;
 use show::payload::word32;
 

@@ -1,5 +1,6 @@
 // Runs a script of frames (tests/host/README.md) against the host end: a line for each record that is set and for each step.
-use host::record::Host;
+use host::step::step;
+use host_record::record::Host;
 use script::buffer::read_first;
 use show::payload;
 use show::text;
@@ -34,7 +35,7 @@ fn run_record(b: Bench, host: Host) -> Bench {
 // A reply: one step.
 fn run_step(b: Bench, bundle: &[u8], reply: &[u8]) -> Bench {
     let h = b.host;
-    let a = h.step(show::first(bundle, b.len), reply);
+    let a = step(h, show::first(bundle, b.len), reply);
     told::step(a);
     let host = a.host;
     run_record(b, host)

@@ -1,11 +1,11 @@
 // What is printed of a step and of a record.
-use bundle::report::row_number;
-use host::answer::Sent;
-use host::answer::StepAnswer;
-use host::answer::StepRefusal;
-use host::record::End;
-use host::record::Host;
-use host::record::HostStage;
+use host_record::record::End;
+use host_record::record::Host;
+use host_record::record::HostStage;
+use layout::row_number;
+use make::answer::Sent;
+use make::answer::StepAnswer;
+use make::answer::StepRefusal;
 use show::decimal;
 use show::text;
 

@@ -1,9 +1,9 @@
 // Runs the bundle of standard input as often as its argument says, each time against the same fresh device, and prints the last report (tests/time).
 use component::record::Listed;
 use device::setup::set_up;
-use host::answer::Progress;
-use host::answer::Report;
-use host::record::End;
+use host_record::record::End;
+use host_record::report::Progress;
+use host_record::report::Report;
 use image::region::Region;
 use image::region::StagingOffset;
 use libc::STDIN_FILENO;

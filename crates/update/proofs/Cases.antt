@@ -17,8 +17,8 @@ use Rattle.component.specs.Record.{FitsComponent}
 use Rattle.component.specs.declared.record.Staged.the-variants.{Nothing}
 use Rattle.component.specs.Lists.{firstFrom, find}
 use Rattle.component.specs.Setup.{badIds, badRegions, setupVerdict}
-use Rattle.bundle.specs.Layout.{entriesFrom, entriesIn, bodyIn}
-use Rattle.bundle.specs.Rows.{firstEntry, rowB5, repeated, rowB6, gap, rowB7, rowB8, bundleRow}
+use Rattle.layout.specs.Layout.{entriesFrom, entriesIn, bodyIn}
+use Rattle.layout.specs.Rows.{firstEntry, rowB5, repeated, rowB6, gap, rowB7, rowB8, bundleRow}
 use Rattle.bundle.specs.Contents.{joined, tableBytes, bundleBytes}
 use Rattle.device.specs.Record.{FitsDevice}
 use Rattle.device.specs.Record as record-of
@@ -32,7 +32,8 @@ use Rattle.device.specs.Refusals.{refusalOf}
 use Rattle.device.specs.Offer.{offerEntry}
 use Rattle.device.specs.Content.{contentEntry, contentStaging}
 use Rattle.device.specs.Entries.{serveEntry, serveStaging}
-use Rattle.host.specs.Decide.{table, act, hears, hearsBlock, decideIn}
+use Rattle.table.specs.Table.{table}
+use Rattle.decide.specs.Decide.{act, hears, hearsBlock, decideIn}
 use Rattle.host.specs.Step.{breaksN1, packetOf, stepOn, stepOf}
 use Rattle.update.specs.Trace.{passesIn}
 use Rattle.update.specs.Run.{deliver, exchange, run, recordsFrom}

@@ -8,24 +8,25 @@ use borrow.Author.Tests.{eqb-true, eqb-false, eq-eqb, ne-eqb}
 use lib.Count.{ones}
 use lib.Dec.{eqb}
 use lib.ListN.{length}
-use Rattle.bundle.specs.Layout.{countIn, idIn}
-use Rattle.bundle.specs.Rows as bundle
+use Rattle.layout.specs.Layout.{countIn, idIn}
+use Rattle.layout.specs.Rows as bundle
 use Rattle.bundle.proofs.Accepted.{Accepted, accepted}
-use Rattle.host.specs.Record.{hasBit, withBit}
-use Rattle.host.specs.Decide.{sends, ends, list, offerFrom, noted, completes, decideIn}
-use Rattle.host.specs.Step.{Step, entryAt, blocksAt, isLast, lastIn, packetOf}
-use Rattle.host.specs.declared.record.Host.{Host}
-use Rattle.host.specs.declared.record.Turn.{Turn}
-use Rattle.host.specs.declared.record.Place.{Place}
-use Rattle.host.specs.declared.record.HostStage.{HostStage}
-use Rattle.host.specs.declared.record.HostStage.the-variants.{Fresh, Opening, Listing, Offering, Waiting, Sending, Closing, Ended}
-use Rattle.host.specs.declared.record.End.{End}
-use Rattle.host.specs.declared.answer.Action.the-variants.{Notify, Offer, Block}
-use Rattle.host.specs.declared.answer.Move.{Move}
+use Rattle.host_record.specs.Record.{hasBit, withBit}
+use Rattle.decide.specs.Decide.{sends, ends, list, offerFrom, noted, completes, decideIn}
+use Rattle.make.specs.Answer.{Step}
+use Rattle.host.specs.Step.{entryAt, blocksAt, isLast, lastIn, packetOf}
+use Rattle.host_record.specs.declared.record.Host.{Host}
+use Rattle.host_record.specs.declared.record.Turn.{Turn}
+use Rattle.host_record.specs.declared.record.Place.{Place}
+use Rattle.host_record.specs.declared.record.HostStage.{HostStage}
+use Rattle.host_record.specs.declared.record.HostStage.the-variants.{Fresh, Opening, Listing, Offering, Waiting, Sending, Closing, Ended}
+use Rattle.host_record.specs.declared.record.End.{End}
+use Rattle.decide.specs.declared.Action.the-variants.{Notify, Offer, Block}
+use Rattle.decide.specs.declared.Move.{Move}
 use Rattle.update.specs.Trace as trace
 use Rattle.update.specs.Trace.{Exchange, opensPass, passesIn, completedIn}
 use Rattle.update.specs.Ends.{heardAs, talk, completedOf, HostCounts, HostTallies}
-use Rattle.host.proofs.Moves.{isTaken, opening-cases, listing-cases, offering-cases, waiting-cases, closing-cases, sending-cases, offer-cases}
+use Rattle.decide.proofs.Moves.{isTaken, opening-cases, listing-cases, offering-cases, waiting-cases, closing-cases, sending-cases, offer-cases}
 use Rattle.update.proofs.Mask.{no-bit, with-bit, onesBelow, ones-below}
 use Rattle.update.proofs.Packets.{offer-opens, offer-completes, offer-about, block-opens, block-about, block-completes}
 use Rattle.update.proofs.Ready.{ReadyAt}

@@ -13,17 +13,17 @@ use Rattle.component.specs.declared.record.Component.{Component}
 use Rattle.component.specs.declared.list.Found.the-variants.{At}
 use Rattle.passes.specs.Sets.{Set}
 use Rattle.passes.proofs.Tests.{bool-cases, both, and-l, and-r}
-use Rattle.bundle.specs.Layout.{countIn}
-use Rattle.bundle.specs.Rows as rows
+use Rattle.layout.specs.Layout.{countIn}
+use Rattle.layout.specs.Rows as rows
 use Rattle.bundle.proofs.Accepted.{Accepted, accepted}
 use Rattle.device.specs.Record.{find, part, toIdle}
 use Rattle.device.specs.declared.record.Device.{Device}
-use Rattle.host.specs.Record as ending
-use Rattle.host.specs.Record.{reportOf}
+use Rattle.host_record.specs.Record as ending
+use Rattle.host_record.specs.Record.{reportOf}
 use Rattle.host.specs.Step.{blocksAt}
-use Rattle.host.specs.declared.record.Host.{Host}
-use Rattle.host.specs.declared.record.HostStage.the-variants.{Ended}
-use Rattle.host.specs.declared.record.End.the-variants.{Done}
+use Rattle.host_record.specs.declared.record.Host.{Host}
+use Rattle.host_record.specs.declared.record.HostStage.the-variants.{Ended}
+use Rattle.host_record.specs.declared.record.End.the-variants.{Done}
 use Rattle.update.specs.Trace.{Exchange, passesIn}
 use Rattle.update.specs.Ends.{Counted, completedOf}
 use Rattle.update.specs.Run.{System, lastOf}

@@ -21,7 +21,7 @@ use Rattle.component.specs.declared.rule.VersionVerdict.the-variants.{Fits, Old
 use Rattle.component.specs.declared.list.Found.{Found}
 use Rattle.component.specs.declared.list.Found.the-variants as found
 use Rattle.passes.proofs.Tests.{or-true, is-false}
-use Rattle.bundle.specs.Layout.{countIn, idIn}
+use Rattle.layout.specs.Layout.{countIn, idIn}
 use Rattle.wire.proofs.Tests.{neither}
 use Rattle.bundle.proofs.Accepted.{Accepted}
 use Rattle.slots.specs.Slots.{slotOf, isAbsent}

@@ -22,7 +22,7 @@ use Rattle.component.proofs.setup.Laws.{fine-region, fine-apart}
 use Rattle.passes.specs.Sets.{Set, ins, none, from, some}
 use Rattle.passes.proofs.Tests.{bool-cases, or-cases, and-l, and-r, nand}
 use Rattle.passes.proofs.Sets.{ins-old, ins-new, Some, some-out, some-in}
-use Rattle.bundle.specs.Layout.{countIn}
+use Rattle.layout.specs.Layout.{countIn}
 use Rattle.bundle.proofs.Accepted.{Accepted}
 use Rattle.device.specs.Record.{find, part}
 use Rattle.session.specs.Sound.{refusesSetup}

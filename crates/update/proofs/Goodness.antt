@@ -16,7 +16,7 @@ use Rattle.image.specs.Judge.{isRight, imageId, imageVersion}
 use Rattle.component.specs.declared.record.Component.{Component}
 use Rattle.component.specs.declared.list.Found.{Found}
 use Rattle.component.specs.declared.list.Found.the-variants.{Nothing, At}
-use Rattle.bundle.specs.Layout.{countIn}
+use Rattle.layout.specs.Layout.{countIn}
 use Rattle.device.specs.Record.{find, part}
 use Rattle.device.specs.declared.record.Device.{Device}
 use Rattle.host.specs.Step.{blocksAt}

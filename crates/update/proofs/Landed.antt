@@ -25,7 +25,7 @@ use Rattle.passes.specs.Sets.{Set, In, ins, none, from, some}
 use Rattle.passes.specs.Passes.{Offers, needMet}
 use Rattle.passes.proofs.Tests.{bool-cases, or-inl, or-inr, or-cases, both, and-l, and-r, is-true, holds, fails, T-ext, and-false}
 use Rattle.passes.proofs.Sets.{ins-old, ins-new, in-from, from-in, some-out, some-in}
-use Rattle.bundle.specs.Layout.{countIn}
+use Rattle.layout.specs.Layout.{countIn}
 use Rattle.bundle.proofs.Accepted.{Accepted}
 use Rattle.slots.specs.Slots.{slotOf, isAbsent}
 use Rattle.offering.specs.Offer as offering

@@ -6,15 +6,16 @@ use native.Mathlib.Nat.{zero-add, suc-add, not-suc-le-zero, le-of-suc-le-suc}
 use native.Mathlib.Decide.{decLt}
 use native.Mathlib.Omega.{arith}
 use lib.ListN.{length, length-append}
-use Rattle.bundle.specs.Layout.{countIn}
+use Rattle.layout.specs.Layout.{countIn}
 use Rattle.device.specs.Entries.{serveStaging}
 use Rattle.device.proofs.Calls.{answeredWith}
 use Rattle.device.specs.declared.record.Device.{Device}
 use Rattle.session.specs.declared.owed.Owed.the-variants as owed
 use Rattle.device.proofs.Calls.{Answered}
-use Rattle.host.specs.Decide.{decideOf}
-use Rattle.host.specs.Step.{Step, lastIn, moved}
-use Rattle.host.specs.declared.record.Host.{Host}
+use Rattle.decide.specs.Decide.{decideOf}
+use Rattle.make.specs.Answer.{Step}
+use Rattle.host.specs.Step.{lastIn, moved}
+use Rattle.host_record.specs.declared.record.Host.{Host}
 use Rattle.update.specs.Trace.{Exchange}
 use Rattle.update.specs.Run.{System, channelOf, answerTo, flight, deliver}
 

@@ -8,7 +8,7 @@ use borrow.Author.Tests.{eqb-true, eqb-false}
 use lib.Count.{ones, ones-cat}
 use lib.Dec.{eqb, eqb·zero-suc, eqb·suc-zero, eqb·suc-suc}
 use lib.Pow.{pow-pos, mod-pow-add}
-use Rattle.host.specs.Record.{hasBit, withBit}
+use Rattle.host_record.specs.Record.{hasBit, withBit}
 
 -- an empty mask has no bit
 pub no-bit : (i : ℕ) → hasBit 0 i ≡ false

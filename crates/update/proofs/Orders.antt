@@ -13,7 +13,7 @@ use Rattle.component.specs.Record.{blankComponent, withStaged}
 use Rattle.component.specs.declared.list.Found.the-variants.{At}
 use Rattle.passes.specs.Sets.{Set}
 use Rattle.passes.proofs.Tests.{T-ext}
-use Rattle.bundle.specs.Layout.{countIn, offerIn, bodyIn}
+use Rattle.layout.specs.Layout.{countIn, offerIn, bodyIn}
 use Rattle.bundle.proofs.Accepted.{Accepted}
 use Rattle.device.specs.Record.{find, part, toIdle, idleWith}
 use Rattle.device.specs.declared.record.Device.{Device}

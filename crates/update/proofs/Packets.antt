@@ -18,16 +18,16 @@ use Rattle.offers.specs.Offer as offer
 use Rattle.offers.proofs.offer.Laws.{read-allowed, fields-bytes}
 use Rattle.contents.specs.Content as content
 use Rattle.contents.specs.declared.content.ContentFields.{ContentFields}
-use Rattle.bundle.specs.Layout.{countIn, offerIn, idIn}
+use Rattle.layout.specs.Layout.{countIn, offerIn, idIn}
 use Rattle.bundle.proofs.Accepted.{Accepted, take-bytes}
-use Rattle.host.specs.Decide.{sequenceOf}
+use Rattle.host_record.specs.Record.{sequenceOf}
 use Rattle.host.specs.Step.{entryAt, blocksAt, isLast, noBlock, blockAt, blockPacket, packetOf}
-use Rattle.host.specs.declared.record.Place.{Place}
-use Rattle.host.specs.declared.answer.Action.{Action}
-use Rattle.host.specs.declared.answer.Action.the-variants.{Nothing, Information, Notify, Offer, Block}
+use Rattle.host_record.specs.declared.record.Place.{Place}
+use Rattle.decide.specs.declared.Action.{Action}
+use Rattle.decide.specs.declared.Action.the-variants.{Nothing, Information, Notify, Offer, Block}
 use Rattle.update.specs.Trace.{opensPass, about, completes}
 use Rattle.update.specs.Ends.{Built, anInformation, anExtended, anOffer, aContent, AllBuilt}
-use Rattle.host.proofs.Moves.{isTaken}
+use Rattle.decide.proofs.Moves.{isTaken}
 
 -- an action that the bundle has the bytes for
 abbrev pub Has : (b : List ℕ) → Action → Type 0

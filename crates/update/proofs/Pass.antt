@@ -22,7 +22,7 @@ use Rattle.passes.specs.Sets.{Set, ins, from}
 use Rattle.passes.specs.Passes.{Pass, answered, passOver}
 use Rattle.passes.proofs.Tests.{or-cases, holds}
 use Rattle.passes.proofs.Pass.{answer-cases}
-use Rattle.bundle.specs.Layout.{countIn}
+use Rattle.layout.specs.Layout.{countIn}
 use Rattle.bundle.proofs.Accepted.{Accepted}
 use Rattle.device.specs.Offer.{rejections, needUnmet}
 use Rattle.device.specs.Record.{find, part, toIdle, idleWith}
@@ -34,7 +34,7 @@ use Rattle.device.proofs.Calls.{Sound}
 use Rattle.offering.proofs.checks.Laws.{Ruling, rules}
 use Rattle.device.proofs.Offering.{offerVerdict}
 use Rattle.device.proofs.Opened.{open-passes}
-use Rattle.host.specs.Record.{hasBit, withBit}
+use Rattle.host_record.specs.Record.{hasBit, withBit}
 use Rattle.host.specs.Step.{blocksAt}
 use Rattle.update.specs.Trace.{Exchange}
 use Rattle.update.specs.Run.{System}

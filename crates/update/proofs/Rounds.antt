@@ -7,7 +7,7 @@ use native.Mathlib.Nat.{zero-div}
 use native.Mathlib.Omega.{arith}
 use borrow.Author.Tests.{lt-ltb, le-ltb}
 use lib.Dec.{ltb}
-use lib.ListN.{length, length-append}
+use lib.ListN.{length}
 use Rattle.wire.specs.Codes.{OFFER-ACCEPT}
 use Rattle.component.specs.declared.record.Component.{Component}
 use Rattle.passes.specs.Sets.{Set, from}
@@ -15,14 +15,14 @@ use Rattle.passes.specs.Passes.{Pass, opened, Passes, unpassed, onePass, onward
 use Rattle.passes.proofs.Pass.{pass-keeps}
 use Rattle.passes.proofs.Tests.{and-false}
 use Rattle.passes.proofs.Sets.{length-from}
-use Rattle.bundle.specs.Layout.{countIn}
+use Rattle.layout.specs.Layout.{countIn}
 use Rattle.device.specs.Record.{idleWith}
 use Rattle.device.specs.declared.record.Device.{Device}
 use Rattle.device.proofs.Calls.{Sound}
 use Rattle.device.proofs.Opened.{idle-passes}
-use Rattle.host.specs.Record.{hasBit}
-use Rattle.host.specs.declared.record.HostStage.the-variants.{Ended}
-use Rattle.host.specs.declared.record.End.the-variants.{Done}
+use Rattle.host_record.specs.Record.{hasBit}
+use Rattle.host_record.specs.declared.record.HostStage.the-variants.{Ended}
+use Rattle.host_record.specs.declared.record.End.the-variants.{Done}
 use Rattle.update.specs.Trace.{Exchange}
 use Rattle.update.specs.Run.{System, start}
 use Rattle.update.proofs.Leads.{said, more-length, Leads, leads-none, leads-step, leads-then}

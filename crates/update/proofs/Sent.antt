@@ -18,13 +18,13 @@ use Rattle.contents.specs.Content.{cleared}
 use Rattle.contents.specs.declared.content.ContentFields.{ContentFields}
 use Rattle.contents.proofs.content.Laws.{packet-fields}
 use Rattle.image.specs.declared.region.Region.{Region}
-use Rattle.bundle.specs.Layout.{countIn, offerIn}
+use Rattle.layout.specs.Layout.{countIn, offerIn}
 use Rattle.bundle.proofs.Accepted.{Accepted}
 use Rattle.receiving.specs.Content as device
 use Rattle.device.proofs.Blocks.{Fitting}
-use Rattle.host.specs.Decide.{sequenceOf}
+use Rattle.host_record.specs.Record.{sequenceOf}
 use Rattle.host.specs.Step.{entryAt, isLast, flagsAt, blockAt, blockPacket}
-use Rattle.host.specs.declared.record.Place.{Place}
+use Rattle.host_record.specs.declared.record.Place.{Place}
 use Rattle.update.specs.Claim.{offerAt}
 use Rattle.update.proofs.Packets.{offerPacket, offer-packet, offer-id, flags-sound, flags-last}
 

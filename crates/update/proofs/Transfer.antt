@@ -22,7 +22,7 @@ use Rattle.component.specs.Lists.{partAt}
 use Rattle.component.specs.Record.{withStaged}
 use Rattle.component.specs.Versions.{imageVersionFits}
 use Rattle.component.specs.declared.record.Component.{Component}
-use Rattle.bundle.specs.Layout.{countIn}
+use Rattle.layout.specs.Layout.{countIn}
 use Rattle.bundle.proofs.Accepted.{Accepted, Carried}
 use Rattle.receiving.specs.Content.{takeBlock}
 use Rattle.device.specs.Entries.{serveStaging}
@@ -32,13 +32,14 @@ use Rattle.device.specs.declared.record.Device.{Device}
 use Rattle.session.specs.declared.owed.Owed.the-variants as owed
 use Rattle.device.proofs.Calls.{Sound, Answered, answers-block}
 use Rattle.device.proofs.Blocks.{held, awaits, groundOf, Fitting, puts, block-staging, block-next, block-last}
-use Rattle.host.specs.Decide.{sequenceOf, goesOn, decideOf}
-use Rattle.host.specs.Record.{withBit}
+use Rattle.host_record.specs.Record.{sequenceOf}
+use Rattle.decide.specs.Decide.{goesOn, decideOf}
+use Rattle.host_record.specs.Record.{withBit}
 use Rattle.host.specs.Step.{entryAt, blocksAt, isLast, noBlock, blockAt, blockPacket, moved, packetOf}
-use Rattle.host.specs.declared.record.HostStage.the-variants.{Sending}
-use Rattle.host.specs.declared.record.Place.{Place}
-use Rattle.host.specs.declared.answer.Move.{Move}
-use Rattle.host.proofs.Heard.{hears-taken}
+use Rattle.host_record.specs.declared.record.HostStage.the-variants.{Sending}
+use Rattle.host_record.specs.declared.record.Place.{Place}
+use Rattle.decide.specs.declared.Move.{Move}
+use Rattle.decide.proofs.Heard.{hears-taken}
 use Rattle.update.specs.Trace.{Exchange}
 use Rattle.update.specs.Run.{System, channelOf, answerTo, flight}
 use Rattle.update.specs.Claim.{writes, imageOf, Inside}

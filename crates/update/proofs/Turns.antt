@@ -1,7 +1,7 @@
 -- One turn of an honest run, of each kind but blocks: codes and offers. Assumes nothing.
 use Prim.Native.Nat.{ℕ, suc, _+_, _<_}
 use mathlib.Core.Path.{_≡_, refl, ap, subst, _∙_}
-use mathlib.Core.Bool.{Bool, true, false, cond, _&&_, _||_}
+use mathlib.Core.Bool.{Bool, true, false, cond, _&&_}
 use mathlib.Core.List.{List, [], _∷_, _++_}
 use native.Mathlib.Numerals.{add-one}
 use native.Mathlib.Omega.{arith}
@@ -14,7 +14,7 @@ use Rattle.offers.specs.Kind.{kindIn}
 use Rattle.offers.specs.Reply.{replyBytes}
 use Rattle.component.specs.declared.record.Component.{Component}
 use Rattle.passes.proofs.Tests.{or-true, or-false}
-use Rattle.bundle.specs.Layout.{countIn}
+use Rattle.layout.specs.Layout.{countIn}
 use Rattle.bundle.proofs.Accepted.{Accepted}
 use Rattle.device.specs.Entries.{serveEntry, serveStaging}
 use Rattle.device.specs.declared.answer.Channel.the-variants.{Offer as OfferChannel}
@@ -28,15 +28,15 @@ use Rattle.session.specs.declared.owed.Owed.the-variants as owed
 use Rattle.device.proofs.Calls.{Sound, Answered, code-opens, code-accepted, answers-offer, answers-code}
 use Rattle.device.proofs.Offering.{offerVerdict, afterOffer, answers}
 use Rattle.device.proofs.Blocks.{held, awaits}
-use Rattle.host.specs.Decide.{sends, offerFrom, noted, decideIn, decideOf}
+use Rattle.decide.specs.Decide.{sends, offerFrom, noted, decideIn, decideOf}
 use Rattle.host.specs.Step.{moved, packetOf, blockPacket}
-use Rattle.host.specs.declared.record.Host.{Host}
-use Rattle.host.specs.declared.record.HostStage.{HostStage}
-use Rattle.host.specs.declared.record.HostStage.the-variants.{Opening, Listing, Offering, Sending, Closing, Ended}
-use Rattle.host.specs.declared.record.End.the-variants.{Done}
-use Rattle.host.specs.declared.answer.Action.the-variants.{Information, Offer}
-use Rattle.host.specs.declared.answer.Move.{Move}
-use Rattle.host.proofs.Heard.{hears-opening, hears-listing, hears-accept, hears-skip, hears-reject, hears-closing}
+use Rattle.host_record.specs.declared.record.Host.{Host}
+use Rattle.host_record.specs.declared.record.HostStage.{HostStage}
+use Rattle.host_record.specs.declared.record.HostStage.the-variants.{Opening, Listing, Offering, Sending, Closing, Ended}
+use Rattle.host_record.specs.declared.record.End.the-variants.{Done}
+use Rattle.decide.specs.declared.Action.the-variants.{Information, Offer}
+use Rattle.decide.specs.declared.Move.{Move}
+use Rattle.decide.proofs.Heard.{hears-opening, hears-listing, hears-accept, hears-skip, hears-reject, hears-closing}
 use Rattle.update.specs.Trace.{Exchange}
 use Rattle.update.specs.Run.{System, channelOf, answerTo, flight, deliver, start}
 use Rattle.update.proofs.Leads.{said, goes, Goes, turn, stop}

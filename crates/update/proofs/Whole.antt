@@ -15,16 +15,17 @@ use Rattle.passes.specs.Passes.{Reached, Monotone, passesOf}
 use Rattle.passes.proofs.Tests.{or-inl, or-inr, or-cases, both, and-l, and-r}
 use Rattle.passes.proofs.Sets.{length-from, some-out, some-in}
 use Rattle.passes.proofs.Passes.{passes-reach, need-monotone}
-use Rattle.bundle.specs.Layout.{countIn, entriesIn}
+use Rattle.layout.specs.Layout.{countIn, entriesIn}
 use Rattle.bundle.specs.Contents.{blocksIn}
 use Rattle.bundle.proofs.Accepted.{accepted}
 use Rattle.device.specs.Record.{toIdle}
 use Rattle.device.specs.declared.record.Device.{Device}
-use Rattle.host.specs.Record.{hasEnded}
+use Rattle.host_record.specs.Record.{hasEnded}
 use Rattle.host.specs.Step as hostStep
-use Rattle.host.specs.Step.{Step, stepOf}
-use Rattle.host.specs.declared.record.HostStage.the-variants.{Ended}
-use Rattle.host.specs.declared.record.End.the-variants.{Done}
+use Rattle.make.specs.Answer.{Step}
+use Rattle.host.specs.Step.{stepOf}
+use Rattle.host_record.specs.declared.record.HostStage.the-variants.{Ended}
+use Rattle.host_record.specs.declared.record.End.the-variants.{Done}
 use Rattle.update.specs.Trace.{passesIn}
 use Rattle.update.specs.Run.{System, run, start, recordsFrom, recordsIn, lastOf}
 use Rattle.update.specs.Ends.{Counted}

@@ -5,10 +5,10 @@ use mathlib.Core.List.{List, [], _∷_}
 use lib.Dec.{eqb}
 use lib.ListN.{length}
 use Rattle.wire.specs.Checks.{firstOf}
-use Rattle.bundle.specs.Rows as bundle
+use Rattle.layout.specs.Rows as bundle
 use Rattle.device.specs.Refusals.{breaksD1}
 use Rattle.device.specs.declared.record.Device.{Device}
-use Rattle.host.specs.Record.{freshHost, Reported, reportOf, toldReport}
+use Rattle.host_record.specs.Record.{freshHost, Reported, reportOf, toldReport}
 use Rattle.update.specs.declared.RunRefusal.{RunRefusal}
 use Rattle.update.specs.declared.RunRefusal.the-variants as refusal
 use Rattle.update.specs.declared.RunAnswer.{RunAnswer}

@@ -11,15 +11,15 @@ use Rattle.wire.specs.Version.{versionBytes, versionOf}
 use Rattle.wire.specs.declared.version.Version.{Version}
 use Rattle.crc16.specs.Crc.{crcOf}
 use Rattle.records.specs.Record.{Block}
-use Rattle.bundle.specs.Rows as rows
+use Rattle.layout.specs.Rows as rows
 use Rattle.bundle.specs.Contents.{Part, bundleBytes}
 use Rattle.component.specs.Record.{withStaged, blankComponent}
 use Rattle.device.specs.Record.{part, idleWith}
 use Rattle.device.specs.Bench.{bench}
 use Rattle.device.specs.declared.record.Device.{Device}
 use Rattle.session.specs.declared.stage.Stage.the-variants.{Idle}
-use Rattle.host.specs.declared.record.HostStage.the-variants.{Ended}
-use Rattle.host.specs.declared.record.End.the-variants.{Done}
+use Rattle.host_record.specs.declared.record.HostStage.the-variants.{Ended}
+use Rattle.host_record.specs.declared.record.End.the-variants.{Done}
 use Rattle.update.specs.Trace.{Exchange, passesIn}
 use Rattle.update.specs.Run.{System, lastOf}
 use Rattle.update.specs.Demand.{Premise}

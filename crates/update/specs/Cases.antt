@@ -2,26 +2,25 @@
 -- component pending at the start, a need cycle and an offer for a component that the device has not.
 use Prim.Native.Nat.{ℕ, _+_, _*_, _-_}
 use mathlib.Core.Path.{_≡_}
-use mathlib.Core.Bool.{Bool, true, false}
+use mathlib.Core.Bool.{true, false}
 use mathlib.Core.List.{List, [], _∷_, _++_, map}
 use lib.ListN.{length, take, drop, replicate}
 use Rattle.wire.specs.Codes.{OFFER-SKIP, OFFER-ACCEPT, OFFER-REJECT, REJECT-INV-COMPONENT, REJECT-SWAP-PENDING, SUCCESS}
 use Rattle.wire.specs.Version.{versionBytes, versionOf}
-use Rattle.wire.specs.declared.version.Version.{Version}
 use Rattle.component.specs.Record.{isPending, withStaged, blankComponent}
 use Rattle.component.specs.declared.record.Component.{Component}
 use Rattle.component.specs.declared.record.Staged.the-variants as staged
-use Rattle.bundle.specs.Layout.{countIn}
+use Rattle.layout.specs.Layout.{countIn}
 use Rattle.bundle.specs.Contents.{Part, bundleBytes}
 use Rattle.device.specs.declared.record.Device.{Device}
 use Rattle.session.specs.declared.stage.Stage.the-variants.{Idle, Receiving}
 use Rattle.session.specs.declared.owed.Owed.the-variants as owed
-use Rattle.host.specs.declared.record.HostStage.the-variants.{Ended}
-use Rattle.host.specs.declared.record.End.the-variants.{Done}
+use Rattle.host_record.specs.declared.record.HostStage.the-variants.{Ended}
+use Rattle.host_record.specs.declared.record.End.the-variants.{Done}
 use Rattle.update.specs.Trace.{passesIn}
 use Rattle.update.specs.Run.{System, recordsIn, lastOf}
 use Rattle.update.specs.Demand.{Premise}
-use Rattle.update.specs.Bench.{placed, withCrc, Said, code, offered, block, said}
+use Rattle.update.specs.Bench.{placed, withCrc, code, offered, block, said}
 
 -- components with regions of 16 bytes, one after the other, all at 1.0.0
 abbrev pub at100 : (id : ℕ) → Component

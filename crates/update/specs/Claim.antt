@@ -3,7 +3,7 @@
 use Prim.Native.Nat.{ℕ, _+_, _≤_, _<_}
 use mathlib.Core.Path.{_≡_}
 use mathlib.Core.Logic.{_⊎_}
-use mathlib.Core.Bool.{Bool, true, false, not, _&&_}
+use mathlib.Core.Bool.{Bool, true, not, _&&_}
 use mathlib.Core.List.{List, [], _∷_}
 use lib.Dec.{T, leb, eqb}
 use lib.ListN.{length, getD}
@@ -14,10 +14,10 @@ use Rattle.offers.specs.declared.offer.OfferFields.{OfferFields}
 use Rattle.records.specs.Record.{Block}
 use Rattle.image.specs.Region.{blank, put, regionBytes}
 use Rattle.image.specs.Judge.{isRight, imageId, imageVersion}
-use Rattle.component.specs.Record.{isPending, withStaged}
+use Rattle.component.specs.Record.{withStaged}
 use Rattle.component.specs.declared.record.Component.{Component}
 use Rattle.component.specs.declared.list.Found.the-variants.{At}
-use Rattle.bundle.specs.Layout.{countIn, offerIn}
+use Rattle.layout.specs.Layout.{countIn, offerIn}
 use Rattle.device.specs.Record.{find, part, toIdle, idleWith}
 use Rattle.device.specs.Offer.{rejections, needUnmet}
 use Rattle.device.specs.declared.record.Device.{Device}

@@ -2,24 +2,24 @@
 use Prim.Native.Nat.{ℕ, _+_, _*_, _≤_, _<_}
 use mathlib.Core.Path.{_≡_}
 use mathlib.Core.Logic.{_↔_}
-use mathlib.Core.Bool.{Bool, true, false}
+use mathlib.Core.Bool.{true, false}
 use mathlib.Core.List.{List, [], _∷_}
 use lib.Dec.{T}
 use lib.ListN.{length}
 use Rattle.wire.specs.Bytes.{Bytes}
 use Rattle.component.specs.Record.{isPending}
 use Rattle.component.specs.declared.list.Found.the-variants.{At}
-use Rattle.bundle.specs.Layout.{countIn, offerIn, idIn, bodyIn}
-use Rattle.bundle.specs.Rows as rows
+use Rattle.layout.specs.Layout.{countIn, offerIn, idIn, bodyIn}
+use Rattle.layout.specs.Rows as rows
 use Rattle.device.specs.Record.{FitsDevice, find, part}
 use Rattle.device.specs.Refusals as deviceRows
 use Rattle.device.specs.declared.record.Device.{Device}
-use Rattle.host.specs.Record as ending
-use Rattle.host.specs.Record.{reportOf}
+use Rattle.host_record.specs.Record as ending
+use Rattle.host_record.specs.Record.{reportOf}
 use Rattle.host.specs.Step as hostStep
 use Rattle.host.specs.Step.{entryAt, blocksAt}
-use Rattle.host.specs.declared.record.HostStage.the-variants.{Ended}
-use Rattle.host.specs.declared.record.End.the-variants.{Done}
+use Rattle.host_record.specs.declared.record.HostStage.the-variants.{Ended}
+use Rattle.host_record.specs.declared.record.End.the-variants.{Done}
 use Rattle.update.specs.Trace.{passesIn, completedIn}
 use Rattle.update.specs.Run.{System, answerTo, run, start, recordsIn, lastOf}
 use Rattle.update.specs.Ends.{Counted, completedOf}

@@ -1,8 +1,7 @@
 -- The host always ends, against any device: the statement (document 00, question 1; document 01, "The host").
 use Prim.Native.Nat.{ℕ, zero, suc, _+_, _<_}
 use mathlib.Core.Path.{_≡_}
-use mathlib.Core.Logic.{_⊎_}
-use mathlib.Core.Bool.{Bool, true, cond}
+use mathlib.Core.Bool.{true, cond}
 use mathlib.Core.List.{List, [], _∷_, _++_}
 use lib.Count.{ones}
 use lib.ListN.{length}
@@ -14,11 +13,12 @@ use Rattle.offers.specs.declared.offer.OfferFields.{OfferFields}
 use Rattle.offers.specs.declared.signal.Signal.{Signal}
 use Rattle.contents.specs.Content as content
 use Rattle.contents.specs.declared.content.ContentFields.{ContentFields}
-use Rattle.bundle.specs.Layout.{countIn, idIn}
-use Rattle.bundle.specs.Rows as bundle
-use Rattle.host.specs.Record.{freshHost, hasBit, hasEnded}
-use Rattle.host.specs.Step.{served, entryAt, stepOf}
-use Rattle.host.specs.declared.record.Host.{Host}
+use Rattle.layout.specs.Layout.{countIn, idIn}
+use Rattle.layout.specs.Rows as bundle
+use Rattle.host_record.specs.Record.{freshHost, hasBit, hasEnded}
+use Rattle.make.specs.Answer.{served}
+use Rattle.host.specs.Step.{entryAt, stepOf}
+use Rattle.host_record.specs.declared.record.Host.{Host}
 use Rattle.update.specs.Trace.{Exchange, passesIn, completedIn}
 use Rattle.update.specs.Run.{boundOf}
 

@@ -4,16 +4,16 @@ use mathlib.Core.Bool.{cond}
 use mathlib.Core.List.{List, [], _∷_, _++_}
 use lib.Dec.{eqb}
 use lib.ListN.{length}
-use Rattle.bundle.specs.Layout.{countIn, entriesIn}
+use Rattle.layout.specs.Layout.{countIn, entriesIn}
 use Rattle.bundle.specs.Contents.{blocksIn}
 use Rattle.device.specs.Entries.{serveEntry, serveStaging}
 use Rattle.device.specs.Refusals.{Outcome}
 use Rattle.device.specs.declared.record.Device.{Device}
 use Rattle.device.specs.declared.answer.Channel.{Channel}
 use Rattle.device.specs.declared.answer.Channel.the-variants.{Offer, Content}
-use Rattle.host.specs.Record.{freshHost}
+use Rattle.host_record.specs.Record.{freshHost}
 use Rattle.host.specs.Step.{stepOf}
-use Rattle.host.specs.declared.record.Host.{Host}
+use Rattle.host_record.specs.declared.record.Host.{Host}
 use Rattle.update.specs.Trace.{Exchange}
 
 -- both ends, the last reply, and the list of packets sent with their replies

@@ -4,8 +4,9 @@ use mathlib.Core.Path.{_≡_}
 use mathlib.Core.Bool.{cond}
 use mathlib.Core.List.{List, []}
 use Rattle.bundle.specs.Contents.{Contents}
-use Rattle.host.specs.Inner.{InnerStep, innerOf}
-use Rattle.host.specs.declared.record.Host.{Host}
+use Rattle.make.specs.Made.{InnerStep}
+use Rattle.host.specs.Inner.{innerOf}
+use Rattle.host_record.specs.declared.record.Host.{Host}
 use Rattle.update.specs.declared.turn.BothEnds.{BothEnds}
 use Rattle.update.specs.Trace.{Exchange}
 use Rattle.update.specs.Run.{System, deliver}

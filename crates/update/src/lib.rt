@@ -6,12 +6,12 @@ ghost use Rattle.update.specs.Run.{lastOf};
 ghost use Rattle.update.specs.Answer.{rowOf, refusedBy, runOf, told};
 ghost use Rattle.update.specs.Demand.{Premise, Demand};
 use crate::turn::run_to_end;
-use bundle::BundleVerdict;
 use bundle::check;
 use device::record::Device;
-use host::answer::Report;
-use host::record::Host;
-use host::step::is_fine;
+use host_record::record::Host;
+use host_record::report::Report;
+use layout::BundleVerdict;
+use layout::row_number;
 
 pub mod turn; // turn.rt: one turn, and the turns until the host has ended
 
@@ -52,7 +52,7 @@ pub fn run(bundle: &[u8], token: u8, device: Device, staging: &mut [u8]) -> RunA
 {
     let checked = check(bundle);
     let verdict = checked.verdict;
-    if is_fine(verdict) {
+    if row_number(verdict) == 0 {
         if device.breaks_d1() {
             return refused(RunRefusal::D1, token, device);
         }

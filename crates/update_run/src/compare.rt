@@ -2,9 +2,9 @@
 use component::record::Component;
 use component::record::Staged;
 use device::record::Device;
-use host::answer::Progress;
-use host::answer::Report;
-use host::record::End;
+use host_record::record::End;
+use host_record::report::Progress;
+use host_record::report::Report;
 use session::owed::Owed;
 use session::stage::Stage;
 

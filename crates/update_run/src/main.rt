@@ -2,8 +2,9 @@
 // same by `run`, and whether both come to the same.
 use device::answer::Channel;
 use device::record::Device;
-use host::answer::Sent;
-use host::record::Host;
+use host::step::step;
+use host_record::record::Host;
+use make::answer::Sent;
 use script::buffer::fill;
 use script::buffer::read_first;
 use script::frame;
@@ -55,7 +56,7 @@ fn step_once(bundle: &[u8], t: Turn, staging: &mut [u8]) -> Turn {
     let h = t.host;
     let reply = t.reply;
     let device = t.device;
-    let a = h.step(bundle, heard(&reply, t.due));
+    let a = step(h, bundle, heard(&reply, t.due));
     let host = a.host;
     let packet = a.packet;
     let sent = a.sent;

@@ -1,9 +1,9 @@
 // What is printed of a packet, its reply, and a report.
-use bundle::report::row_number;
 use device::answer::Answer;
-use host::answer::Progress;
-use host::answer::Report;
-use host::record::End;
+use host_record::record::End;
+use host_record::report::Progress;
+use host_record::report::Report;
+use layout::row_number;
 use script::tell;
 use show::decimal;
 use show::payload::byte;

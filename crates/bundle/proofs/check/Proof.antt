@@ -7,11 +7,11 @@ use native.Mathlib.Omega.{arith}
 use borrow.Author.Tests.{ltb-false, ne-eqb}
 use lib.ListN.{length}
 use Rattle.wire.specs.Checks.{firstOf}
-use Rattle.bundle.specs.declared.Entry.{Entry}
-use Rattle.bundle.specs.Layout.{BUNDLE-LIMIT, OFFER-LIMIT, HEAD, countIn, tableEnd}
-use Rattle.bundle.specs.Rows.{served, badLength, badHead, badCount, cutTable, rowB5, rowB6, rowB7, bundleRow}
+use Rattle.layout.specs.declared.Entry.{Entry}
+use Rattle.layout.specs.Layout.{BUNDLE-LIMIT, OFFER-LIMIT, HEAD, countIn, tableEnd}
+use Rattle.layout.specs.Rows.{served, badLength, badHead, badCount, cutTable, rowB5, rowB6, rowB7, bundleRow}
 use Rattle.bundle.specs.Contents.{checkOf}
-use Rattle.bundle.proofs.head.Laws.{inside}
+use Rattle.bundle.proofs.Limits.{inside}
 use borrow.Author.Needs.{needs}
 use Rattle.bundle.proofs.check.Statement.{statement}
 use Rattle.bundle.proofs.check.Tie as tie
@@ -79,7 +79,7 @@ unfolding checkOf bundleRow firstOf
 returns c = rw (c .refused .ensures, sym (c .before .before .bad-length .ensures) ∙ c .before .if1 .taken)
 
 bad-head-requires : tie.Need-bad-head-requires
-bad-head-requires c κs = sized c .0
+bad-head-requires c κs = search needs
 
 refused-requires-2 : tie.Need-refused-requires-2
 refused-requires-2 c κs = search needs
@@ -91,7 +91,7 @@ returns-2 c =
     rw (c .refused2 .ensures, s1 (e), sym (c .before .before .bad-head .ensures) ∙ c .before .if2 .taken)
 
 bad-count-requires : tie.Need-bad-count-requires
-bad-count-requires c κs = sized (c .before .before) .0
+bad-count-requires c κs = search needs
 
 refused-requires-3 : tie.Need-refused-requires-3
 refused-requires-3 c κs = search needs
@@ -103,7 +103,7 @@ returns-3 c =
     rw (c .refused3 .ensures, s1 (e .before .before), s2 (e), sym (c .before .before .bad-count .ensures) ∙ c .before .if3 .taken)
 
 cut-table-requires : tie.Need-cut-table-requires
-cut-table-requires c κs = sized (c .before .before .before .before) .0
+cut-table-requires c κs = search needs
 
 refused-requires-4 : tie.Need-refused-requires-4
 refused-requires-4 c κs = search needs

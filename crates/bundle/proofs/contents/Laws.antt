@@ -22,10 +22,12 @@ use Rattle.records.specs.declared.Tally.the-variants.{Broken, Records}
 use Rattle.records.specs.Parse.{Parsed, whole, broken, recordsOf, blocksOf, tallyFrom}
 use Rattle.records.specs.Walk.{tallyOf}
 use Rattle.records.proofs.Parsing.{few-records}
-use Rattle.bundle.specs.Layout.{countIn, entriesIn, idIn}
-use Rattle.bundle.specs.Rows.{badOffer, isBad}
-use Rattle.bundle.specs.Contents.{blankEntry, entryIn}
-use Rattle.bundle.proofs.head.Laws.{neither, inside}
+use Rattle.layout.specs.Layout.{countIn, entriesIn, idIn}
+use Rattle.layout.specs.Rows.{badOffer, isBad}
+use Rattle.layout.specs.Layout.{blankEntry}
+use Rattle.bundle.specs.Contents.{entryIn}
+use Rattle.wire.proofs.Tests.{neither}
+use Rattle.bundle.proofs.Limits.{inside}
 use Rattle.bundle.proofs.table.Laws.{entryAt, length-entries, take-more}
 
 -- the offer

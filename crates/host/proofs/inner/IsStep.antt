@@ -17,25 +17,31 @@ use Rattle.records.specs.Parse.{Parsed, whole, broken, recordsOf, blocksOf}
 use Rattle.records.specs.Walk.{between, nextOf}
 use Rattle.records.specs.declared.Next.{Next}
 use Rattle.records.specs.declared.Next.the-variants as next
-use Rattle.bundle.specs.Layout.{ENTRY, OFFER-LIMIT, countIn, tableEnd, entriesIn, offsetIn, lengthIn, bodyIn}
-use Rattle.bundle.specs.Rows as bundle
-use Rattle.bundle.specs.declared.Entry.{Entry}
-use Rattle.bundle.specs.Contents.{Contents, blankEntry, entryIn, contentsBy, checkOf}
+use Rattle.layout.specs.Layout.{ENTRY, OFFER-LIMIT, countIn, tableEnd, entriesIn, offsetIn, lengthIn, bodyIn}
+use Rattle.layout.specs.Rows as bundle
+use Rattle.layout.specs.declared.Entry.{Entry}
+use Rattle.layout.specs.Layout.{blankEntry}
+use Rattle.bundle.specs.Contents.{Contents, entryIn, contentsBy, checkOf}
 use Rattle.bundle.proofs.Accepted.{Accepted, accepted}
-use Rattle.host.specs.declared.record.Host.{Host}
-use Rattle.host.specs.declared.record.Turn.{Turn}
-use Rattle.host.specs.declared.record.Place.{Place}
-use Rattle.host.specs.declared.record.HostStage.{HostStage}
-use Rattle.host.specs.declared.record.HostStage.the-variants.{Fresh, Opening, Listing, Offering, Waiting, Sending, Closing, Ended}
-use Rattle.host.specs.declared.record.End.{End}
-use Rattle.host.specs.declared.answer.Action.{Action}
-use Rattle.host.specs.declared.answer.Action.the-variants as action
-use Rattle.host.specs.declared.answer.Move.{Move}
-use Rattle.host.specs.Decide.{BUSY-LIMIT, ends, offerFrom, noted, completes, decideIn, decideOf}
-use Rattle.host.specs.Step.{PACKET-LIMIT, entryAt, blocksAt, recordsAt, turnBreaks, placeBreaks, stageBreaks, recordBreaks, badStage, breaksN1, lastOf, isLast, lastIn, noBlock, blockAt, blockBytes, packetOf, moved, stepOn, stepOf}
-use Rattle.host.specs.Inner.{listedAt, recordsOn, bodyEnd, recordStart, InnerStep, sending, madeBlock, madeOf, innerOf, CursorIn, InnerIsStep}
-use Rattle.host.proofs.Moves.{opening-cases, listing-cases, offering-cases, waiting-cases, closing-cases, sending-cases, offer-cases}
-use Rattle.host.proofs.Walks.{Goes, goes}
+use Rattle.host_record.specs.declared.record.Host.{Host}
+use Rattle.host_record.specs.declared.record.Turn.{Turn}
+use Rattle.host_record.specs.declared.record.Place.{Place}
+use Rattle.host_record.specs.declared.record.HostStage.{HostStage}
+use Rattle.host_record.specs.declared.record.HostStage.the-variants.{Fresh, Opening, Listing, Offering, Waiting, Sending, Closing, Ended}
+use Rattle.host_record.specs.declared.record.End.{End}
+use Rattle.decide.specs.declared.Action.{Action}
+use Rattle.decide.specs.declared.Action.the-variants as action
+use Rattle.decide.specs.declared.Move.{Move}
+use Rattle.host_record.specs.Fits.{BUSY-LIMIT}
+use Rattle.decide.specs.Decide.{ends, offerFrom, noted, completes, decideIn, decideOf, decisionOf}
+use Rattle.host_record.specs.Fits.{PACKET-LIMIT, turnBreaks, placeBreaks, stageBreaks, recordBreaks, lastOf}
+use Rattle.make.specs.Packet.{blockBytes}
+use Rattle.host.specs.Step.{entryAt, blocksAt, recordsAt, badStage, breaksN1, isLast, lastIn, noBlock, blockAt, packetOf, moved, stepOn, stepOf}
+use Rattle.host_record.specs.Fits.{listedAt, recordsOn}
+use Rattle.make.specs.Made.{bodyEnd, recordStart, InnerStep, sending, madeBlock, madeOf}
+use Rattle.host.specs.Inner.{innerOf, CursorIn, InnerIsStep}
+use Rattle.decide.proofs.Moves.{opening-cases, listing-cases, offering-cases, waiting-cases, closing-cases, sending-cases, offer-cases}
+use Rattle.records.proofs.Walks.{Goes, goes}
 
 -- a member of a list that is mapped
 map-at : {A B : Type 0} (f : A → B) (l : List A) (i : ℕ) (d : B) (e : A) → i < length l → getD (map f l) i d ≡ f (getD l i e)
@@ -219,7 +225,7 @@ module _ (b : List ℕ) (α : Accepted b) (s : bundle.bundleRow b ≡ bundle.ser
     move = decideOf (countIn b) (lastIn b (h .stage)) h reply
 
     inner-moves : breaksN1 b h ≡ false → innerOf b (checkOf b) cursor h reply ≡ madeOf b (checkOf b) cursor h (move .host) (move .action)
-    unfolding innerOf breaksN1
+    unfolding innerOf decisionOf breaksN1
     inner-moves w =
         let e = last-same (countIn b) (recordsOn (checkOf b)) (recordsAt b) records-is (h .stage) (neither (stageBreaks (countIn b) (recordsAt b) (h .stage)) _ w .0) in
         rw (breaks-is, w)
@@ -245,7 +251,7 @@ inner-is-step b h cursor reply bytes s w k =
 -- and so it is, cursor and all, where N1 holds
 pub inner-same : (b : List ℕ) (h : Host) (cursor : ℕ) (reply : List ℕ) → Bytes b → bundle.bundleRow b ≡ bundle.served
     → (badStage b (h .stage) ≡ false → CursorIn b (h .stage) cursor) → innerOf b (checkOf b) cursor h reply .step ≡ stepOf b h reply
-unfolding innerOf stepOf stepOn breaksN1
+unfolding innerOf decisionOf stepOf stepOn breaksN1
 inner-same b h cursor reply bytes s k = go (breaksN1 b h) refl
   where
     go : (t : Bool) → breaksN1 b h ≡ t → innerOf b (checkOf b) cursor h reply .step ≡ stepOf b h reply

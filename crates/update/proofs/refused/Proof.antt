@@ -1,6 +1,6 @@
 -- `refused` meets its contract: the report of a fresh host. Assumes nothing.
 use mathlib.Core.Path.{ap, _∙_}
-use Rattle.host.specs.Record.{Reported, reportOf}
+use Rattle.host_record.specs.Record.{Reported, reportOf}
 use Rattle.update.specs.Answer.{rowOf}
 use borrow.Author.Needs.{needs}
 use Rattle.update.proofs.refused.Statement.{statement}

@@ -2,10 +2,10 @@
 use mathlib.Core.Path.{_≡_, sym, ap, _∙_}
 use mathlib.Core.List.{[]}
 use borrow.Author.Tests.{eq-eqb, ne-eqb}
-use Rattle.bundle.specs.Rows as rows
+use Rattle.layout.specs.Rows as rows
 use Rattle.bundle.specs.Contents.{Contents}
-use Rattle.host.specs.Record.{Reported}
-use Rattle.host.proofs.step.Laws.{fine-row, bad-row, check-row}
+use Rattle.host_record.specs.Record.{Reported}
+use Rattle.bundle.proofs.Told.{fine-row, bad-row, check-row}
 use Rattle.update.specs.Answer.{served, ended}
 use Rattle.update.proofs.Answers.{bundle-refuses, d1-refuses, d2-refuses, no-row}
 use Rattle.update.proofs.Demand.{demand-three}
@@ -24,10 +24,10 @@ row-is c = sym (check-row (c .before .before .before .args .bundle .now)) ∙ sy
 served-is : (c : tie.Then1) → rows.bundleRow (c .before .before .before .before .before .args .bundle .now) ≡ rows.served
 served-is c =
     let k = c .before .before .check in
-    row-is (c .before .before) ∙ fine-row (k .result .verdict) (k .result .place) (sym (c .before .is-fine .ensures) ∙ c .if1 .taken)
+    row-is (c .before .before) ∙ fine-row (k .result .verdict) (k .result .place) (sym (c .before .row-number .ensures) ∙ c .if1 .taken)
 
-is-fine-requires : tie.Need-is-fine-requires
-is-fine-requires c κs = search needs
+row-number-requires : tie.Need-row-number-requires
+row-number-requires c κs = search needs
 
 breaks-d1-requires : tie.Need-breaks-d1-requires
 breaks-d1-requires c κs = search needs
@@ -84,7 +84,7 @@ returns-4 c =
     let a = c .before .before .before .before .before .before .args in
     let k = c .before .before .before .check in (
       c .refused3 .ensures (a .staging .now)
-          ∙ sym (bundle-refuses (a .bundle .now) (a .token) (a .device) (a .staging .now) _ _ (row-is (c .before .before .before) ∙ bad-row (k .result .verdict) (k .result .place) (sym (c .before .before .is-fine .ensures) ∙ c .before .if1 .left))),
+          ∙ sym (bundle-refuses (a .bundle .now) (a .token) (a .device) (a .staging .now) _ _ (row-is (c .before .before .before) ∙ bad-row (k .result .verdict) (k .result .place) (λ z. c .before .if1 .left (c .before .before .row-number .ensures ∙ z)))),
       demand-three (a .bundle .now) (a .token) (a .device) (a .staging .now) [],
     )
 
@@ -93,7 +93,7 @@ run-spec =
     tie.close
     (tie.spec
     check-requires
-    is-fine-requires
+    row-number-requires
     breaks-d1-requires
     refused-requires
     returns

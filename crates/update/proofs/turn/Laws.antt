@@ -12,8 +12,8 @@ use Rattle.wire.specs.Codes.{NOTIFY-ON-READY, INFO-START-ENTIRE-TRANSACTION, IN
 use Rattle.offers.specs.Kind.{Kind, offer, information, extended, kindIn}
 use Rattle.contents.specs.Content.{fieldsIn}
 use Rattle.contents.specs.declared.content.ContentFields.{ContentFields}
-use Rattle.bundle.specs.Layout.{countIn}
-use Rattle.bundle.specs.Rows as rows
+use Rattle.layout.specs.Layout.{countIn}
+use Rattle.layout.specs.Rows as rows
 use Rattle.bundle.specs.Contents.{checkOf}
 use Rattle.bundle.proofs.Accepted.{accepted}
 use Rattle.session.specs.Stage.{isOpen}
@@ -37,12 +37,13 @@ use Rattle.device.specs.declared.answer.Channel.the-variants.{Offer, Content}
 use Rattle.receiving.specs.declared.checks.ContentVerdict.{ContentVerdict}
 use Rattle.receiving.specs.declared.checks.ContentVerdict.the-variants.{Refuse, Take}
 use Rattle.wire.proofs.Chain.{either}
-use Rattle.host.specs.Record.{freshHost, hasEnded}
-use Rattle.host.specs.Decide.{decideOf}
-use Rattle.host.specs.Step.{Step, lastIn, stepOf}
+use Rattle.host_record.specs.Record.{freshHost, hasEnded}
+use Rattle.decide.specs.Decide.{decideOf}
+use Rattle.make.specs.Answer.{Step}
+use Rattle.host.specs.Step.{lastIn, stepOf}
 use Rattle.host.specs.Inner.{CursorIn}
-use Rattle.host.specs.declared.record.Host.{Host}
-use Rattle.host.specs.declared.answer.Move.{Move}
+use Rattle.host_record.specs.declared.record.Host.{Host}
+use Rattle.decide.specs.declared.Move.{Move}
 use Rattle.host.proofs.inner.IsStep.{inner-is-step}
 use Rattle.update.specs.declared.turn.BothEnds.{BothEnds}
 use Rattle.update.specs.Trace.{Exchange}

@@ -5,8 +5,8 @@ use native.Mathlib.Omega.{arith}
 use borrow.Author.Needs.{needs}
 use borrow.Author.Tests.{eq-eqb, ne-eqb}
 use lib.ListN.{length, drop}
-use Rattle.bundle.specs.Layout.{entriesIn, offsetIn, lengthIn}
-use Rattle.bundle.specs.Rows.{gap, rowB7}
+use Rattle.layout.specs.Layout.{entriesIn, offsetIn, lengthIn}
+use Rattle.layout.specs.Rows.{gap, rowB7}
 use Rattle.bundle.proofs.table.Laws.{entryAt}
 use Rattle.bundle.proofs.chain.Laws.{gap-here, gap-on, gap-end}
 use Rattle.bundle.proofs.chain.gap_place.Statement.{statement}

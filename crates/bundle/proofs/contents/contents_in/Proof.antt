@@ -1,7 +1,7 @@
 -- `contents::contents_in`: the entry's parts, each by its reader. Assumes nothing.
 use native.Mathlib.Omega.{arith}
 use lib.Seq.{getD-take, length-take-le}
-use Rattle.bundle.specs.Layout.{bodyIn}
+use Rattle.layout.specs.Layout.{bodyIn}
 use Rattle.bundle.proofs.contents.Laws.{good-id}
 use borrow.Author.Needs.{needs}
 use Rattle.bundle.proofs.contents.contents_in.Statement.{statement}

@@ -9,10 +9,11 @@ use lib.Dec.{eqb}
 use lib.ListN.{take, drop, replicate}
 use lib.Seq.{take-length}
 use Rattle.records.specs.Parse.{recordsOf}
-use Rattle.bundle.specs.declared.Entry.{Entry}
-use Rattle.bundle.specs.Layout.{OFFER-LIMIT, countIn, entriesIn, bodyIn}
-use Rattle.bundle.specs.Rows.{firstEntry, badOffer, badBody, rowB5, rowB8}
-use Rattle.bundle.specs.Contents.{blankEntry, entryIn}
+use Rattle.layout.specs.declared.Entry.{Entry}
+use Rattle.layout.specs.Layout.{OFFER-LIMIT, countIn, entriesIn, bodyIn}
+use Rattle.layout.specs.Rows.{firstEntry, badOffer, badBody, rowB5, rowB8}
+use Rattle.layout.specs.Layout.{blankEntry}
+use Rattle.bundle.specs.Contents.{entryIn}
 use Rattle.bundle.proofs.table.Laws.{entryAt, length-entries, first-here, first-on, first-end, none-bad}
 use Rattle.bundle.proofs.chain.Laws.{bodies-inside}
 use Rattle.bundle.proofs.contents.Laws.{bad-none, fill-more}

@@ -3,7 +3,7 @@ use mathlib.Core.Path.{_≡_, sym, ap, _∙_}
 use native.Mathlib.Omega.{arith}
 use lib.ListN.{length, take, drop}
 use Rattle.records.specs.Parse.{recordsOf, blocksOf}
-use Rattle.bundle.specs.Layout.{BUNDLE-LIMIT}
+use Rattle.layout.specs.Layout.{BUNDLE-LIMIT}
 use Rattle.bundle.proofs.contents.Laws.{tallied, counted, counted-is, counted-fits}
 use borrow.Author.Needs.{needs}
 use Rattle.bundle.proofs.contents.records_in.Statement.{statement}

@@ -4,8 +4,8 @@ use Prim.Native.Nat.{_+_, _-_}
 use native.Mathlib.Omega.{arith}
 use borrow.Author.Needs.{needs}
 use lib.ListN.{drop}
-use Rattle.bundle.specs.Layout.{entriesIn}
-use Rattle.bundle.specs.Rows.{firstEntry, badOffer, rowB5}
+use Rattle.layout.specs.Layout.{entriesIn}
+use Rattle.layout.specs.Rows.{firstEntry, badOffer, rowB5}
 use Rattle.bundle.proofs.table.Laws.{first-here, first-on, first-end}
 use Rattle.bundle.proofs.table.bad_offer_place.Statement.{statement}
 use Rattle.bundle.proofs.table.bad_offer_place.Tie as tie

@@ -1,7 +1,7 @@
 use mathlib.Core.Path.{_≡_}
 use Prim.Native.Nat.{_+_, _-_}
 use native.Mathlib.Omega.{arith}
-use Rattle.bundle.specs.Layout.{ENTRY}
+use Rattle.layout.specs.Layout.{ENTRY}
 use Rattle.bundle.proofs.table.Laws.{length-entry}
 -- `table::entry_at`: the part from the entry's place. Assumes nothing.
 use borrow.Author.Needs.{needs}

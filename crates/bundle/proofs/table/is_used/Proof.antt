@@ -7,7 +7,7 @@ use borrow.Author.Tests.{eq-eqb, ne-eqb}
 use lib.Dec.{eqb}
 use lib.ListN.{take, drop}
 use Rattle.wire.specs.Checks.{any}
-use Rattle.bundle.specs.Layout.{entriesIn, idIn}
+use Rattle.layout.specs.Layout.{entriesIn, idIn}
 use Rattle.bundle.proofs.table.Laws.{some-here, some-on, some-end}
 use Rattle.bundle.proofs.table.is_used.Statement.{statement}
 use Rattle.bundle.proofs.table.is_used.Tie as tie

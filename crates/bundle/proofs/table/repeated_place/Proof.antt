@@ -4,8 +4,8 @@ use Prim.Native.Nat.{_+_, _-_}
 use native.Mathlib.Omega.{arith}
 use borrow.Author.Needs.{needs}
 use lib.ListN.{drop}
-use Rattle.bundle.specs.Layout.{entriesIn}
-use Rattle.bundle.specs.Rows.{repeated, rowB6}
+use Rattle.layout.specs.Layout.{entriesIn}
+use Rattle.layout.specs.Rows.{repeated, rowB6}
 use Rattle.bundle.proofs.table.Laws.{idsTo, repeated-here, repeated-on, repeated-end}
 use Rattle.bundle.proofs.table.repeated_place.Statement.{statement}
 use Rattle.bundle.proofs.table.repeated_place.Tie as tie

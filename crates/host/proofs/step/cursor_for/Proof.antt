@@ -1,8 +1,9 @@
 -- `step::cursor_for`: by the stage; of a block, past its record. Assumes nothing.
 use mathlib.Core.Path.{ap, _∙_}
 use Rattle.bundle.specs.Contents.{Contents}
-use Rattle.host.specs.Inner.{listedAt, bodyEnd}
-use Rattle.host.specs.declared.fits.Body.{Body}
+use Rattle.host_record.specs.Fits.{listedAt}
+use Rattle.make.specs.Made.{bodyEnd}
+use Rattle.host_record.specs.declared.fits.Body.{Body}
 use Rattle.host.proofs.inner.IsStep.{cursor-found}
 use borrow.Author.Needs.{needs}
 use Rattle.host.proofs.step.cursor_for.Statement.{statement}

@@ -11,7 +11,7 @@ use Rattle.records.specs.Record.{Block}
 use Rattle.records.specs.Parse.{whole, recordsOf}
 use Rattle.records.specs.Walk.{between}
 use Rattle.host.specs.Step.{noBlock}
-use Rattle.host.proofs.Walks.{Goes, goes}
+use Rattle.records.proofs.Walks.{Goes, goes}
 use Rattle.host.proofs.step.place_after.Statement.{statement}
 use Rattle.host.proofs.step.place_after.Tie as tie
 

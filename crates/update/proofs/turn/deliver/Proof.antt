@@ -3,8 +3,8 @@ use mathlib.Core.Path.{_≡_, refl, subst⁻¹}
 use lib.ListN.{length, take}
 use Rattle.device.specs.Entries.{serveEntry, serveStaging}
 use Rattle.device.specs.declared.answer.Channel.the-variants as channel
-use Rattle.host.specs.Step.{sentBy}
-use Rattle.host.specs.declared.answer.Sent.{Sent}
+use Rattle.make.specs.Answer.{sentBy}
+use Rattle.make.specs.declared.answer.Sent.{Sent}
 use Rattle.update.specs.Run.{channelOf}
 use Rattle.update.specs.Turn.{Delivered}
 use Rattle.update.proofs.turn.Laws.{first-16, nothing-delivered, answer-delivered}

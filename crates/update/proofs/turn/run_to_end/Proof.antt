@@ -5,8 +5,8 @@ use borrow.Author.Needs.{needs}
 use borrow.Author.Tests.{not-true, not-false}
 use lib.ListN.{length}
 use Rattle.bundle.specs.Contents.{Contents, checkOf}
-use Rattle.host.specs.Record.{hasEnded}
-use Rattle.host.specs.declared.record.Host.{Host}
+use Rattle.host_record.specs.Record.{hasEnded}
+use Rattle.host_record.specs.declared.record.Host.{Host}
 use Rattle.update.specs.Turn.{Turned}
 use Rattle.update.proofs.turn.Laws.{Reached, leftOf, reached-start, turn-less, reached-turn, reached-end}
 use Rattle.update.proofs.turn.run_to_end.Statement.{statement}

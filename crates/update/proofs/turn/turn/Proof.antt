@@ -1,6 +1,6 @@
 -- `turn::turn` meets its contract: what the step tells is delivered. Assumes nothing.
 use mathlib.Core.Path.{subst}
-use Rattle.host.specs.Inner.{InnerStep}
+use Rattle.make.specs.Made.{InnerStep}
 use Rattle.update.specs.Turn.{Delivered}
 use borrow.Author.Needs.{needs}
 use Rattle.update.proofs.turn.turn.Statement.{statement}

@@ -1,0 +1,47 @@
+// What the host decides on a reply (document 01, "The host"): N1, or what to send and the next record.
+ghost use mathlib.Core.Path.{_≡_};
+ghost use Rattle.bundle.specs.Contents.{toldChecked};
+ghost use Rattle.decide.specs.Decide.{decisionOf};
+use crate::decide::decide;
+use host_record::fits::breaks;
+use host_record::fits::last_in;
+use host_record::record::Host;
+use host_record::record::Place;
+use layout::Checked;
+
+pub mod decide; // decide.rt: what the host does on a reply
+
+// What to send; no bundle bytes are needed to decide it.
+pub enum Action {
+    Nothing,
+    // With its code.
+    Information(u8),
+    Notify,
+    // The offer of this entry.
+    Offer(u32),
+    Block(Place),
+}
+
+pub struct Move {
+    pub action: Action,
+    pub host: Host,
+}
+
+// The row that refuses the record, or the move.
+pub enum Decided {
+    N1,
+    Moves(Move),
+}
+
+// Over the contents of a bundle: N1, or the move.
+pub fn decision(c: Checked, h: Host, reply: &[u8]) -> Decided
+    ensures { λ r. ⌜ r ≡ decisionOf (toldChecked c) h (now (reply .entry)) ⌝ }
+{
+    if breaks(c, h) {
+        return Decided::N1;
+    }
+    let stage = h.stage;
+    let last = last_in(c, stage);
+    let m = decide(h, c.count as u32, last, reply);
+    Decided::Moves(m)
+}

@@ -1,3 +1,0 @@
-pub mod Heard
-pub mod Moves
-pub mod Walks

@@ -1,0 +1,23 @@
+-- What deciding asks of a record: each number that may go up by one has room for it in its 32 bits, and the entry of a block has a bit in the mask. What
+-- N1 leaves has that room.
+use Prim.Native.Nat.{ℕ, _+_, _^_, _<_}
+use Rattle.host_record.specs.declared.record.Host.{Host}
+use Rattle.host_record.specs.declared.record.HostStage.{HostStage}
+use Rattle.host_record.specs.declared.record.HostStage.the-variants.{Fresh, Opening, Listing, Offering, Waiting, Sending, Closing, Ended}
+
+-- one more fits
+abbrev pub Spare : ℕ → Type 0
+Spare n = n + 1 < 2 ^ 32
+
+abbrev pub RoomIn : HostStage → Type 0
+RoomIn Fresh = Unit {0}
+RoomIn Opening = Unit {0}
+RoomIn Listing = Unit {0}
+RoomIn (Offering t) = Spare (t .entry)
+RoomIn (Waiting t) = Spare (t .entry)
+RoomIn (Sending p) = (p .entry < 32) × Spare (p .block)
+RoomIn Closing = Unit {0}
+RoomIn (Ended e) = Unit {0}
+
+abbrev pub Room : Host → Type 0
+Room h = Spare (h .packets) × Spare (h .passes)

@@ -1,0 +1,137 @@
+// Row N1: a record that does not fit the bundle, told by its contents in constant time. And whether a block is the last of its body.
+ghost use mathlib.Core.Path.{_≡_};
+ghost use mathlib.Core.Bool.{false};
+ghost use Prim.Native.Nat.{_+_, _^_, _<_, _≤_};
+ghost use lib.Dec.{leb};
+ghost use lib.ListN.{getD};
+ghost use Rattle.layout.specs.Layout.{blankEntry};
+ghost use Rattle.bundle.specs.Contents.{toldChecked};
+ghost use Rattle.host_record.specs.Room.{Spare, RoomIn, Room};
+ghost use Rattle.host_record.specs.Fits.{turnBreaks, placeBreaks, stageBreaks, recordBreaks, isLastOf, lastOf};
+ghost use Rattle.host_record.specs.Fits.{recordsOn};
+use crate::record::Host;
+use crate::record::HostStage;
+use crate::record::Place;
+use crate::record::Turn;
+use layout::Checked;
+use layout::Entry;
+
+// The most BUSY replies that one offer survives in one pass.
+pub const BUSY_LIMIT: u32 = 8;
+
+// The packets that a record may count.
+const PACKET_LIMIT: u32 = 0x80000000;
+
+// The body of an entry: where it starts and ends, and how many records it has.
+pub struct Body {
+    pub start: usize,
+    pub end: usize,
+    pub records: u32,
+}
+
+fn body_of(e: Entry) -> Body
+    ensures { λ r. ⌜ r ≡ record { start = e .offset; end = e .offset + e .length; records = e .records } ⌝ }
+{
+    let start = e.offset as usize;
+    Body {
+        start: start,
+        end: start + e.length as usize,
+        records: e.records,
+    }
+}
+
+// The body of entry i; past the table it is empty.
+pub fn body_at(table: [Entry; 7], i: u32) -> Body
+    ensures { λ r. ⌜ r ≡ record { start = getD table i blankEntry .offset; end = getD table i blankEntry .offset + getD table i blankEntry .length; records = getD table i blankEntry .records } ⌝ }
+    ensures { λ r. ⌜ (7 ≤ i → r .records ≡ 0) ⌝ }
+{
+    if i < 7 {
+        let e = table[i as usize];
+        body_of(e)
+    } else {
+        Body {
+            start: 0,
+            end: 0,
+            records: 0,
+        }
+    }
+}
+
+// N1: points at an entry that the bundle lacks, or counts over 8 BUSY.
+fn turn_breaks(n: u8, t: Turn) -> bool
+    ensures { λ r. ⌜ r ≡ turnBreaks n t ⌝ }
+{
+    (n as u32 <= t.entry) | (BUSY_LIMIT < t.busy)
+}
+
+// N1: points at an entry or a body record that the bundle lacks.
+fn place_breaks(c: Checked, p: Place) -> bool
+    ensures { λ r. ⌜ r ≡ placeBreaks (c .count) (recordsOn (toldChecked c)) p ⌝ }
+    ensures { λ r. ⌜ (r ≡ false → (p .entry < 32) × Spare (p .block)) ⌝ }
+{
+    let table = c.table;
+    let b = body_at(table, p.entry);
+    (c.count as u32 <= p.entry) | (b.records <= p.block)
+}
+
+fn stage_breaks(c: Checked, stage: HostStage) -> bool
+    ensures { λ r. ⌜ r ≡ stageBreaks (c .count) (recordsOn (toldChecked c)) stage ⌝ }
+    ensures { λ r. ⌜ (r ≡ false → RoomIn stage) ⌝ }
+{
+    match stage {
+        HostStage::Fresh => false,
+        HostStage::Opening => false,
+        HostStage::Listing => false,
+        HostStage::Offering(t) => turn_breaks(c.count, t),
+        HostStage::Waiting(t) => turn_breaks(c.count, t),
+        HostStage::Sending(p) => place_breaks(c, p),
+        HostStage::Closing => false,
+        HostStage::Ended(_) => false,
+    }
+}
+
+// A mask bit past n offers.
+fn mask_breaks(n: u8, mask: u32) -> bool
+    ensures { λ r. ⌜ r ≡ leb (2 ^ n) mask ⌝ }
+{
+    if n < 32 {
+        (1 << n as u32) <= mask
+    } else {
+        false
+    }
+}
+
+// N1: .. more passes than offers, 2^31 or more packets, or a mask bit past its offers. A record that passes has room to go on.
+pub fn breaks(c: Checked, h: Host) -> bool
+    ensures { λ r. ⌜ r ≡ recordBreaks (c .count) (recordsOn (toldChecked c)) h ⌝ }
+    ensures { λ r. ⌜ (r ≡ false → Room h × RoomIn (h .stage)) ⌝ }
+{
+    let stage = h.stage;
+    let points = stage_breaks(c, stage);
+    let masked = mask_breaks(c.count, h.mask);
+    points | (((c.count as u32) < h.passes) | ((PACKET_LIMIT <= h.packets) | masked))
+}
+
+// The block in hand is the last of its body.
+pub fn is_last(c: Checked, p: Place) -> bool
+    ensures { λ r. ⌜ r ≡ isLastOf (recordsOn (toldChecked c)) p ⌝ }
+{
+    let table = c.table;
+    let b = body_at(table, p.entry);
+    (p.block as usize) + 1 == b.records as usize
+}
+
+pub fn last_in(c: Checked, stage: HostStage) -> bool
+    ensures { λ r. ⌜ r ≡ lastOf (recordsOn (toldChecked c)) stage ⌝ }
+{
+    match stage {
+        HostStage::Fresh => false,
+        HostStage::Opening => false,
+        HostStage::Listing => false,
+        HostStage::Offering(_) => false,
+        HostStage::Waiting(_) => false,
+        HostStage::Sending(p) => is_last(c, p),
+        HostStage::Closing => false,
+        HostStage::Ended(_) => false,
+    }
+}

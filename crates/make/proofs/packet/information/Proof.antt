@@ -1,0 +1,20 @@
+-- `make::information`: what is built, over zeros. Assumes nothing.
+use mathlib.Core.Path.{ap, _∙_}
+use mathlib.Core.List.{List, _++_}
+use Prim.Native.Nat.{ℕ}
+use lib.ListN.{replicate}
+use borrow.Author.Needs.{needs}
+use Rattle.make.proofs.packet.information.Statement.{statement}
+use Rattle.make.proofs.packet.information.Tie as tie
+
+build-information-requires : tie.Need-build-information-requires
+build-information-requires c κs = search needs
+
+laid-requires : tie.Need-laid-requires
+laid-requires c κs = search needs
+
+returns : tie.Need-returns
+returns c = c .laid .ensures ∙ ap (λ (q : List ℕ). q ++ replicate 44 0) (c .before .build-information .ensures)
+
+pub information-spec : {M : Type 1} → statement M
+information-spec = tie.close (tie.spec build-information-requires laid-requires returns)

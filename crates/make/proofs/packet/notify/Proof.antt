@@ -1,0 +1,20 @@
+-- `make::notify`: what is built, over zeros. Assumes nothing.
+use mathlib.Core.Path.{ap, _∙_}
+use mathlib.Core.List.{List, _++_}
+use Prim.Native.Nat.{ℕ}
+use lib.ListN.{replicate}
+use borrow.Author.Needs.{needs}
+use Rattle.make.proofs.packet.notify.Statement.{statement}
+use Rattle.make.proofs.packet.notify.Tie as tie
+
+build-extended-requires : tie.Need-build-extended-requires
+build-extended-requires c κs = search needs
+
+laid-requires : tie.Need-laid-requires
+laid-requires c κs = search needs
+
+returns : tie.Need-returns
+returns c = c .laid .ensures ∙ ap (λ (q : List ℕ). q ++ replicate 44 0) (c .before .build-extended .ensures)
+
+pub notify-spec : {M : Type 1} → statement M
+notify-spec = tie.close (tie.spec build-extended-requires laid-requires returns)

@@ -1,0 +1,3 @@
+pub mod Packet
+pub mod Answer
+pub mod Made

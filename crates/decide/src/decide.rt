@@ -19,6 +19,9 @@ use offers::reply::read_offer_reply;
 use table::code_for;
 use wire::codes;
 
+// The length of a reply.
+const REPLY: usize = 16;
+
 // A packet is sent, and its reply awaited.
 fn sends(h: Host, stage: HostStage, action: Action) -> Move
     requires { ⌜ Spare (h .packets) ⌝ }
@@ -185,7 +188,7 @@ fn hears(row: usize, n: u32, t: Turn, h: Host, reply: &[u8]) -> Move
     requires { ⌜ Room h × Spare (t .entry) ⌝ }
     ensures { λ r. ⌜ r ≡ decided.hears row n t h (now (reply .entry)) ⌝ }
 {
-    if reply.len() != 16 {
+    if reply.len() != REPLY {
         return ends(h, End::Foreign);
     }
     let read = read_offer_reply(reply);
@@ -220,7 +223,7 @@ fn hears_block(n: u32, last: bool, p: Place, h: Host, reply: &[u8]) -> Move
     requires { ⌜ Room h × (p .entry < 32) × Spare (p .block) ⌝ }
     ensures { λ r. ⌜ r ≡ decided.hearsBlock n last p h (now (reply .entry)) ⌝ }
 {
-    if reply.len() != 16 {
+    if reply.len() != REPLY {
         return ends(h, End::Foreign);
     }
     let read = read_content_reply(reply);

@@ -1,8 +1,8 @@
 -- The packets of a host's actions over an accepted bundle: each is one that P2 allows, and what a list of packets reads in it. Assumes nothing.
 use mathlib.Core.Path.{_≡_, refl, sym, ap, subst, _∙_}
-use mathlib.Core.Bool.{Bool, true, false, cond, _&&_}
+use mathlib.Core.Bool.{Bool, true, false, _&&_}
 use mathlib.Core.List.{List, [], _∷_, _++_}
-use Prim.Native.Nat.{ℕ, zero, suc, _+_, _/_, _%_, _<_, _≤_}
+use Prim.Native.Nat.{ℕ, zero, suc, _+_, _<_, _≤_}
 use native.Mathlib.Nat.{mod-lt}
 use native.Mathlib.Omega.{arith}
 use borrow.Author.Tests.{ne-eqb, eq-eqb, lt-ltb, le-leb}
@@ -10,7 +10,7 @@ use lib.Dec.{eqb}
 use lib.ListN.{length, getD, set, length-append, length-take, length-replicate, length-set, drop-of-length-le}
 use lib.Seq.{getD-take, getD-set-other}
 use Rattle.wire.specs.Bytes.{Packet, Bytes, bytesAt}
-use Rattle.wire.specs.Codes.{KIND-INFORMATION, KIND-EXTENDED, FLAG-FIRST-BLOCK, FLAG-LAST-BLOCK}
+use Rattle.wire.specs.Codes.{KIND-INFORMATION, KIND-EXTENDED}
 use Rattle.wire.specs.Rows as packet
 use Rattle.wire.specs.Rows.{Told}
 use Rattle.wire.proofs.words.Laws.{round, split}
@@ -28,6 +28,7 @@ use Rattle.decide.specs.declared.Action.the-variants.{Nothing, Information, Not
 use Rattle.update.specs.Trace.{opensPass, about, completes}
 use Rattle.update.specs.Ends.{Built, anInformation, anExtended, anOffer, aContent, AllBuilt}
 use Rattle.decide.proofs.Moves.{isTaken}
+use Rattle.make.proofs.Flags.{flags-sound, flags-last}
 
 -- an action that the bundle has the bytes for
 abbrev pub Has : (b : List ℕ) → Action → Type 0
@@ -64,20 +65,6 @@ unfolding content.buildOf
 content-built c a =
     let w : content.buildOf c ≡ record { row = packet.served; value = content.contentBytes c } = rw a in
     subst Built (ap (λ (t : Told (List ℕ)). t .value) w) (aContent c (ap (λ (t : Told (List ℕ)). t .row) w))
-
--- the flags of a block, by whether it is first and last: no other bit
-pub flags-sound : (x y : Bool) → eqb ((cond x FLAG-FIRST-BLOCK 0 + cond y FLAG-LAST-BLOCK 0) % 64) 0 ≡ true
-flags-sound true true = refl
-flags-sound true false = refl
-flags-sound false true = refl
-flags-sound false false = refl
-
--- the bit that says that a block is the last
-pub flags-last : (x y : Bool) → eqb ((cond x FLAG-FIRST-BLOCK 0 + cond y FLAG-LAST-BLOCK 0) / 64 % 2) 1 ≡ y
-flags-last true true = refl
-flags-last true false = refl
-flags-last false true = refl
-flags-last false false = refl
 
 -- two tests in either order
 and-swap : (x y : Bool) → (x && y) ≡ (y && x)

@@ -26,7 +26,8 @@ use Rattle.host_record.specs.Record.{sequenceOf}
 use Rattle.host.specs.Step.{entryAt, isLast, flagsAt, blockAt, blockPacket}
 use Rattle.host_record.specs.declared.record.Place.{Place}
 use Rattle.update.specs.Claim.{offerAt}
-use Rattle.update.proofs.Packets.{offerPacket, offer-packet, offer-id, flags-sound, flags-last}
+use Rattle.make.proofs.Flags.{flags-sound, flags-last}
+use Rattle.update.proofs.Packets.{offerPacket, offer-packet, offer-id}
 
 -- an offer with another token
 abbrev pub withToken : OfferFields → ℕ → OfferFields

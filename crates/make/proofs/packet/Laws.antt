@@ -1,8 +1,8 @@
 -- The packets: the bytes that a copy leaves, and content that is built. Assumes nothing.
-use mathlib.Core.Path.{_≡_, refl, sym, ap, _∙_}
-use mathlib.Core.Bool.{Bool, true, false}
+use mathlib.Core.Path.{_≡_, sym, ap, _∙_}
+use mathlib.Core.Bool.{Bool}
 use mathlib.Core.List.{List, _++_}
-use Prim.Native.Nat.{ℕ, _+_, _-_, _%_, _≤_}
+use Prim.Native.Nat.{ℕ, _+_, _-_, _≤_}
 use native.Mathlib.Omega.{arith}
 use borrow.Author.Tests.{le-leb}
 use lib.Dec.{eqb}
@@ -17,13 +17,7 @@ use Rattle.contents.proofs.content.Laws.{drop-zeros}
 use Rattle.contents.specs.Content.{toldBuilt, buildOf}
 use Rattle.host_record.specs.Record.{sequenceOf}
 use Rattle.make.specs.Packet.{flagsOf, blockBytes}
-
--- the flags have no bit but the two
-flags-sound : (x y : Bool) → eqb (flagsOf x y % 64) 0 ≡ true
-flags-sound true true = refl
-flags-sound true false = refl
-flags-sound false true = refl
-flags-sound false false = refl
+use Rattle.make.proofs.Flags.{flags-sound}
 
 -- a record's data in the bytes
 part-length : (b : List ℕ) (start size : ℕ) → start + size ≤ length b → length (take size (drop start b)) ≡ size

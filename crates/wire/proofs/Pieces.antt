@@ -20,15 +20,18 @@ module _ {A : Type 0} (piece : A → List ℕ) (pieces : List A → List ℕ) (n
   pub piece-more : (i : ℕ) (l : List A) (d : A) → i < length l → pieces (take (i + 1) l) ≡ pieces (take i l) ++ piece (getD l i d)
   piece-more i l d h = rw add-one (piece-suc i l d h)
 
--- a copy into the bytes from `at` on: what is written up to its end
-pub put-more : (out s : List ℕ) (at n : ℕ) → length s ≡ n → at + n ≤ length out
-    → take (at + n) (take at out ++ (copyOf (take n (drop at out)) s ++ drop n (drop at out))) ≡ take at out ++ s
-put-more out s at n e h =
-    let k : length (take n (drop at out)) ≡ length s = simp (length-take, length-drop) (omega arith) in
+-- a copy of n bytes into the part from `at` on: the bytes stay as many, and what is written up to the part's end
+pub put-more : (out s last : List ℕ) (at n k : ℕ) → k ≡ n → length s ≡ n → at + n ≤ length out → last ≡ copyOf (take k (drop at out)) s
+    → (length (take at out ++ (last ++ drop k (drop at out))) ≡ length out) × (take (at + n) (take at out ++ (last ++ drop k (drop at out))) ≡ take at out ++ s)
+put-more out s last at n k p e h f =
+    let m : length (take k (drop at out)) ≡ length s = simp (length-take, length-drop) (omega arith) in
+    let q : last ≡ s = f ∙ copy-same (take k (drop at out)) s m in
     let l : length (take at out) ≡ at = length-take-le at out (omega arith) in
-    let m : length (take at out ++ s) ≡ at + n = length-append (take at out) s ∙ ap₂ (λ (x y : ℕ). x + y) l e in
-    ap (λ (t : List ℕ). take (at + n) (take at out ++ (t ++ drop n (drop at out)))) (copy-same (take n (drop at out)) s k)
-    ∙ ap (take (at + n)) (sym (append-assoc (take at out) s (drop n (drop at out)))) ∙ take-at (take at out ++ s) (drop n (drop at out)) (at + n) m
+    let o : length (take at out ++ s) ≡ at + n = length-append (take at out) s ∙ ap₂ (λ (x y : ℕ). x + y) l e in
+    (
+      rw q (simp (length-append, length-take, length-drop) (omega arith)),
+      rw (q, ← append-assoc (take at out) s (drop k (drop at out))) (take-at (take at out ++ s) (drop k (drop at out)) (at + n) o),
+    )
 
 -- a list of n that is read from bytes, each from `size` of them: one more
 module _ {A : Type 0} (size : ℕ) (one : List ℕ → A) (read : ℕ → List ℕ → List A) (none : (q : List ℕ) → read 0 q ≡ [])

@@ -83,15 +83,15 @@ parts-sized [] = refl
 parts-sized (c ∷ cs) = rw (length-append (partBytes c) (partsBytes cs)) (omega (arith, part-sized c, parts-sized cs))
 
 -- a record of seven components is bytes of the one length
-pub device-sized : (d : Device) → length (d .parts) ≡ 7 → length (deviceBytes d) ≡ DEVICE-SIZE
+pub device-length : (d : Device) → length (d .parts) ≡ 7 → length (deviceBytes d) ≡ DEVICE-SIZE
 unfolding deviceBytes
-device-sized d seven = simp length-append (omega (arith, parts-sized (d .parts), stage-sized (d .stage), owed-sized (d .owed)))
+device-length d seven = simp length-append (omega (arith, parts-sized (d .parts), stage-sized (d .stage), owed-sized (d .owed)))
 
 -- bytes of another length are no record's
 pub other-length : (b : List ℕ) → (length b ≡ DEVICE-SIZE → ⊥) → readDevice b ≡ blankDevice
 unfolding readDevice deviceIn
 other-length b h =
-    let e : length (deviceBytes (deviceIn b)) ≡ DEVICE-SIZE = device-sized (deviceIn b) (parts-seven (drop PARTS-START b)) in
+    let e : length (deviceBytes (deviceIn b)) ≡ DEVICE-SIZE = device-length (deviceIn b) (parts-seven (drop PARTS-START b)) in
     rw (same-sized (deviceBytes (deviceIn b)) b (λ s. h (sym s ∙ e)))
 
 -- the fields that stand in the bytes, where they are written again, and otherwise the blank record

@@ -2,12 +2,12 @@
 use mathlib.Core.Path.{_≡_, refl, sym, ap, ap₂, _∙_}
 use mathlib.Core.Bool.{Bool, true, false, cond}
 use mathlib.Core.List.{List, [], _∷_, _++_}
-use Prim.Native.Nat.{ℕ, zero, suc, _+_, _*_, _/_, _%_, _^_, _<_}
+use Prim.Native.Nat.{ℕ, zero, suc, _+_, _/_, _%_, _^_, _<_}
 use native.Mathlib.Omega.{arith}
 use lib.Dec.{eqb}
 use lib.ListN.{length, getD, drop}
 use lib.Seq.{drop-at}
-use Rattle.wire.specs.Bytes.{Bytes, Packet, number, bytesOf, bytesAt, same}
+use Rattle.wire.specs.Bytes.{Bytes, number, bytesOf, bytesAt, same}
 use Rattle.wire.specs.Checks.{firstOf}
 use Rattle.wire.specs.Version.{FitsVersion, versionAt, versionBytes}
 use Rattle.wire.specs.declared.version.Version.{Version}
@@ -17,7 +17,7 @@ use Rattle.wire.proofs.words.Laws.{round}
 use Rattle.wire.proofs.words.Sames.{same-refl, same-eq}
 use Rattle.image.specs.Region.{FitsRegion}
 use Rattle.image.specs.declared.region.Region.{Region}
-use Rattle.component.specs.Record.{FitsStaged, FitsComponent, blankComponent}
+use Rattle.component.specs.Record.{FitsStaged, FitsComponent}
 use Rattle.component.specs.Lists.{partAt}
 use Rattle.component.specs.Setup.{setupVerdict}
 use Rattle.component.specs.declared.record.Component.{Component}
@@ -30,7 +30,7 @@ use Rattle.device.specs.declared.record.Stage.{Stage}
 use Rattle.device.specs.declared.record.Stage.the-variants.{Idle, Offered, Receiving}
 use Rattle.device.specs.declared.record.Owed.{Owed}
 use Rattle.device.specs.declared.record.Owed.the-variants.{Nothing, Token}
-use Rattle.device_bytes.specs.Layout.{PART-SIZE, PARTS-START, stageBytes, owedBytes, stagedBytes, regionBytes, partBytes, partsBytes, deviceBytes, stageIn, owedIn, partIn, partsIn, deviceIn, readDevice}
+use Rattle.device_bytes.specs.Layout.{PART-SIZE, PARTS-START, stageBytes, owedBytes, stagedBytes, regionBytes, partBytes, partsBytes, deviceBytes, partIn, partsIn, deviceIn, readDevice}
 use Rattle.device_bytes.specs.Promises.{DeviceSized, DeviceReadsBack, OthersBreakD1}
 use Rattle.device_bytes.proofs.part.Laws.{part-sized}
 use Rattle.device_bytes.proofs.Record.{device-length, parts-seven}

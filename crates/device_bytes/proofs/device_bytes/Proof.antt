@@ -5,11 +5,6 @@ use Rattle.device_bytes.proofs.Record.{device-of}
 use borrow.Author.Needs.{needs}
 use Rattle.device_bytes.proofs.device_bytes.Statement.{statement}
 use Rattle.device_bytes.proofs.device_bytes.Tie as tie
-use Rattle.device_bytes.proofs.device_bytes.Reads as reads
-use Rattle.device_bytes.proofs.device_bytes.Lts as lts
-use Rattle.device_bytes.proofs.head.Reads as head-reads
-use Rattle.device_bytes.proofs.with_parts.Reads as with-parts-reads
-use Rattle.wire.proofs.words.copy.Reads as copy-reads
 
 head-requires : tie.Need-head-requires
 head-requires c κs = search needs

@@ -3,13 +3,6 @@ use Rattle.device_bytes.specs.Layout.{deviceIn}
 use borrow.Author.Needs.{needs}
 use Rattle.device_bytes.proofs.device_in.Statement.{statement}
 use Rattle.device_bytes.proofs.device_in.Tie as tie
-use Rattle.device_bytes.proofs.device_in.Reads as reads
-use Rattle.device_bytes.proofs.device_in.Lts as lts
-use Rattle.device_bytes.proofs.parts_in.Reads as parts-in-reads
-use Rattle.device_bytes.proofs.session.owed_in.Reads as owed-in-reads
-use Rattle.device_bytes.proofs.session.stage_in.Reads as stage-in-reads
-use Rattle.wire.proofs.words.word16_at.Reads as word16-at-reads
-use Rattle.wire.proofs.words.word32_at.Reads as word32-at-reads
 
 parts-in-requires : tie.Need-parts-in-requires
 parts-in-requires c κs = search needs

@@ -3,12 +3,6 @@ use Rattle.device_bytes.proofs.session.Laws.{head-of}
 use borrow.Author.Needs.{needs}
 use Rattle.device_bytes.proofs.head.Statement.{statement}
 use Rattle.device_bytes.proofs.head.Tie as tie
-use Rattle.device_bytes.proofs.head.Reads as reads
-use Rattle.device_bytes.proofs.head.Lts as lts
-use Rattle.device_bytes.proofs.session.owed_bytes.Reads as owed-bytes-reads
-use Rattle.device_bytes.proofs.session.stage_bytes.Reads as stage-bytes-reads
-use Rattle.wire.proofs.words.bytes16.Reads as bytes16-reads
-use Rattle.wire.proofs.words.bytes32.Reads as bytes32-reads
 
 bytes16-requires : tie.Need-bytes16-requires
 bytes16-requires c κs = search needs

@@ -8,9 +8,6 @@ use Rattle.device_bytes.specs.Layout.{PARTS-START, partsIn}
 use borrow.Author.Needs.{needs}
 use Rattle.device_bytes.proofs.parts_in.Statement.{statement}
 use Rattle.device_bytes.proofs.parts_in.Tie as tie
-use Rattle.device_bytes.proofs.parts_in.Reads as reads
-use Rattle.device_bytes.proofs.parts_in.Lts as lts
-use Rattle.device_bytes.proofs.part.part_in.Reads as part-in-reads
 
 abbrev Inv-loop : tie.InvT-loop
 Inv-loop b parts₀ i₀ parts i = (i ≤ 7) × (length parts ≡ 7) × (take i parts ≡ partsIn i (drop PARTS-START b))

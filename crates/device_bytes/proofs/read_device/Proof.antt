@@ -5,12 +5,6 @@ use Rattle.device_bytes.proofs.Record.{other-length, judged}
 use borrow.Author.Needs.{needs}
 use Rattle.device_bytes.proofs.read_device.Statement.{statement}
 use Rattle.device_bytes.proofs.read_device.Tie as tie
-use Rattle.device_bytes.proofs.read_device.Reads as reads
-use Rattle.device_bytes.proofs.read_device.Lts as lts
-use Rattle.device.proofs.record.Device.blank.Reads as blank-reads
-use Rattle.device_bytes.proofs.device_bytes.Reads as device-bytes-reads
-use Rattle.device_bytes.proofs.device_in.Reads as device-in-reads
-use Rattle.wire.proofs.words.same.Reads as same-reads
 
 blank-requires : tie.Need-blank-requires
 blank-requires c κs = search needs

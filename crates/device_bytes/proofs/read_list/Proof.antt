@@ -8,9 +8,6 @@ use Rattle.device_bytes.proofs.Record.{listed-read, list-read}
 use borrow.Author.Needs.{needs}
 use Rattle.device_bytes.proofs.read_list.Statement.{statement}
 use Rattle.device_bytes.proofs.read_list.Tie as tie
-use Rattle.device_bytes.proofs.read_list.Reads as reads
-use Rattle.device_bytes.proofs.read_list.Lts as lts
-use Rattle.device_bytes.proofs.list.listed_at.Reads as listed-at-reads
 
 abbrev Inv-loop : tie.InvT-loop
 Inv-loop b list₀ i₀ list i = (i ≤ 7) × (length list ≡ 7) × (take i list ≡ listIn i b)

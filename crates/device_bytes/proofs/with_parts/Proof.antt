@@ -1,6 +1,6 @@
 -- `with_parts` meets its contract. After i turns the first i components are written. Assumes nothing.
 use Rattle.device_bytes.proofs.Record.{part-written, written}
-use mathlib.Core.Path.{_≡_, refl, sym, ap, _∙_}
+use mathlib.Core.Path.{_≡_, sym}
 use mathlib.Core.List.{_++_, append-nil}
 use Prim.Native.Nat.{_+_, _*_, _-_, _≤_}
 use native.Mathlib.Omega.{arith}
@@ -9,10 +9,6 @@ use Rattle.device_bytes.specs.Layout.{PARTS-START, PART-SIZE, partsBytes
 use borrow.Author.Needs.{needs}
 use Rattle.device_bytes.proofs.with_parts.Statement.{statement}
 use Rattle.device_bytes.proofs.with_parts.Tie as tie
-use Rattle.device_bytes.proofs.with_parts.Reads as reads
-use Rattle.device_bytes.proofs.with_parts.Lts as lts
-use Rattle.device_bytes.proofs.part.part_bytes.Reads as part-bytes-reads
-use Rattle.wire.proofs.words.copy.Reads as copy-reads
 
 abbrev Inv-loop : tie.InvT-loop
 Inv-loop out₀ parts i₀ out i = (i ≤ 7) × (length out ≡ 140) × (take (PARTS-START + i * PART-SIZE) out ≡ take PARTS-START out₀ ++ partsBytes (take i parts))

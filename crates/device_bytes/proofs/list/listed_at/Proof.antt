@@ -1,5 +1,5 @@
 -- `list::listed_at` meets its contract: what is past the end is zero. Assumes nothing.
-use mathlib.Core.Path.{_≡_, sym, ap, _∙_}
+use mathlib.Core.Path.{ap, _∙_}
 use Rattle.device_bytes.specs.Layout.{listedIn}
 use lib.ListN.{length}
 use Rattle.wire.proofs.Pieces.{rest, rest-none}
@@ -7,9 +7,6 @@ use native.Mathlib.Omega.{arith}
 use borrow.Author.Needs.{needs}
 use Rattle.device_bytes.proofs.list.listed_at.Statement.{statement}
 use Rattle.device_bytes.proofs.list.listed_at.Tie as tie
-use Rattle.device_bytes.proofs.list.listed_at.Reads as reads
-use Rattle.device_bytes.proofs.list.listed_at.Lts as lts
-use Rattle.device_bytes.proofs.list.listed_in.Reads as listed-in-reads
 
 sub-listed-in : tie.Need-sub-listed-in
 sub-listed-in c = search needs

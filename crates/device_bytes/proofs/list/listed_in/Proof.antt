@@ -2,11 +2,6 @@
 use borrow.Author.Needs.{needs}
 use Rattle.device_bytes.proofs.list.listed_in.Statement.{statement}
 use Rattle.device_bytes.proofs.list.listed_in.Tie as tie
-use Rattle.device_bytes.proofs.list.listed_in.Reads as reads
-use Rattle.device_bytes.proofs.list.listed_in.Lts as lts
-use Rattle.device_bytes.proofs.part.region_in.Reads as region-in-reads
-use Rattle.device_bytes.proofs.part.version_at.Reads as version-at-reads
-use Rattle.wire.proofs.words.byte_at.Reads as byte-at-reads
 
 version-at-requires : tie.Need-version-at-requires
 version-at-requires c κs = search needs

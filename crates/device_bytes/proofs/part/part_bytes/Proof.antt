@@ -3,11 +3,6 @@ use Rattle.device_bytes.proofs.part.Laws.{part-of}
 use borrow.Author.Needs.{needs}
 use Rattle.device_bytes.proofs.part.part_bytes.Statement.{statement}
 use Rattle.device_bytes.proofs.part.part_bytes.Tie as tie
-use Rattle.device_bytes.proofs.part.part_bytes.Reads as reads
-use Rattle.device_bytes.proofs.part.part_bytes.Lts as lts
-use Rattle.device_bytes.proofs.part.staged_bytes.Reads as staged-bytes-reads
-use Rattle.wire.proofs.version.Version.bytes.Reads as bytes-reads
-use Rattle.wire.proofs.words.bytes32.Reads as bytes32-reads
 
 bytes-requires : tie.Need-bytes-requires
 bytes-requires c κs = search needs

@@ -2,9 +2,6 @@
 use borrow.Author.Needs.{needs}
 use Rattle.device_bytes.proofs.part.region_in.Statement.{statement}
 use Rattle.device_bytes.proofs.part.region_in.Tie as tie
-use Rattle.device_bytes.proofs.part.region_in.Reads as reads
-use Rattle.device_bytes.proofs.part.region_in.Lts as lts
-use Rattle.wire.proofs.words.word32_at.Reads as word32-at-reads
 
 -- src/part.rt:73:29
 word32-at-requires : tie.Need-word32-at-requires

@@ -2,9 +2,6 @@
 use borrow.Author.Needs.{needs}
 use Rattle.device_bytes.proofs.part.staged_bytes.Statement.{statement}
 use Rattle.device_bytes.proofs.part.staged_bytes.Tie as tie
-use Rattle.device_bytes.proofs.part.staged_bytes.Reads as reads
-use Rattle.device_bytes.proofs.part.staged_bytes.Lts as lts
-use Rattle.wire.proofs.version.Version.bytes.Reads as bytes-reads
 
 -- src/part.rt:16:28
 enum-told : tie.Need-enum-told

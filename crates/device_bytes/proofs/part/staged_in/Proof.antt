@@ -1,10 +1,7 @@
 -- `part::staged_in` meets its contract: by its test. Assumes nothing.
 use borrow.Author.Tests.{eq-eqb, ne-eqb}
-use borrow.Author.Needs.{needs}
 use Rattle.device_bytes.proofs.part.staged_in.Statement.{statement}
 use Rattle.device_bytes.proofs.part.staged_in.Tie as tie
-use Rattle.device_bytes.proofs.part.staged_in.Reads as reads
-use Rattle.device_bytes.proofs.part.staged_in.Lts as lts
 
 returns : tie.Need-returns
 returns c = rw (eq-eqb _ _ (c .if1 .taken))

@@ -2,10 +2,6 @@
 use borrow.Author.Needs.{needs}
 use Rattle.device_bytes.proofs.part.version_at.Statement.{statement}
 use Rattle.device_bytes.proofs.part.version_at.Tie as tie
-use Rattle.device_bytes.proofs.part.version_at.Reads as reads
-use Rattle.device_bytes.proofs.part.version_at.Lts as lts
-use Rattle.wire.proofs.version.Version.read.Reads as read-reads
-use Rattle.wire.proofs.words.byte_at.Reads as byte-at-reads
 
 -- src/part.rt:61:9
 byte-at-requires : tie.Need-byte-at-requires

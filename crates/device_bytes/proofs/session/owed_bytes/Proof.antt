@@ -2,8 +2,6 @@
 use borrow.Author.Needs.{needs}
 use Rattle.device_bytes.proofs.session.owed_bytes.Statement.{statement}
 use Rattle.device_bytes.proofs.session.owed_bytes.Tie as tie
-use Rattle.device_bytes.proofs.session.owed_bytes.Reads as reads
-use Rattle.device_bytes.proofs.session.owed_bytes.Lts as lts
 
 -- src/session.rt:27:26
 enum-told : tie.Need-enum-told

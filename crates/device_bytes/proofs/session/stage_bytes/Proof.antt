@@ -2,9 +2,6 @@
 use borrow.Author.Needs.{needs}
 use Rattle.device_bytes.proofs.session.stage_bytes.Statement.{statement}
 use Rattle.device_bytes.proofs.session.stage_bytes.Tie as tie
-use Rattle.device_bytes.proofs.session.stage_bytes.Reads as reads
-use Rattle.device_bytes.proofs.session.stage_bytes.Lts as lts
-use Rattle.wire.proofs.words.bytes16.Reads as bytes16-reads
 
 -- src/session.rt:14:24
 enum-told : tie.Need-enum-told

@@ -3,10 +3,6 @@ use native.Mathlib.Numerals.{unary-clauses}
 use borrow.Author.Needs.{needs}
 use Rattle.wire.proofs.words.word32_at.Statement.{statement}
 use Rattle.wire.proofs.words.word32_at.Tie as tie
-use Rattle.wire.proofs.words.word32_at.Reads as reads
-use Rattle.wire.proofs.words.word32_at.Lts as lts
-use Rattle.wire.proofs.words.byte_at.Reads as byte-at-reads
-use Rattle.wire.proofs.words.word32.Reads as word32-reads
 
 -- src/words.rt:44:9
 byte-at-requires : tie.Need-byte-at-requires

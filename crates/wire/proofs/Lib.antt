@@ -1,2 +1,4 @@
 pub mod Tests
 pub mod Chain
+pub mod Pieces
+pub mod Bounds

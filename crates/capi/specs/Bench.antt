@@ -4,13 +4,14 @@ use mathlib.Core.Path.{_≡_}
 use mathlib.Core.Bool.{true, false}
 use mathlib.Core.List.{List, [], _∷_, _++_}
 use lib.ListN.{replicate}
-use Rattle.bundle.specs.Rows.{served}
-use Rattle.bundle.specs.Contents.{Contents, blankEntry}
-use Rattle.bundle.specs.declared.Entry.{Entry}
+use Rattle.layout.specs.Rows.{served}
+use Rattle.bundle.specs.Contents.{Contents}
+use Rattle.layout.specs.Layout.{blankEntry}
+use Rattle.layout.specs.declared.Entry.{Entry}
 use Rattle.offers.specs.Offer.{blankOffer}
-use Rattle.host.specs.declared.record.Host.{Host}
-use Rattle.host.specs.declared.record.HostStage.the-variants.{Sending, Ended}
-use Rattle.host.specs.declared.record.End.the-variants as end
+use Rattle.host_record.specs.declared.record.Host.{Host}
+use Rattle.host_record.specs.declared.record.HostStage.the-variants.{Sending, Ended}
+use Rattle.host_record.specs.declared.record.End.the-variants as end
 use Rattle.host_bytes.specs.Layout.{hostBytes, contentsBytes}
 use Rattle.capi.specs.declared.types.COffer.{COffer}
 use Rattle.capi.specs.Numbers.{SERVED}

@@ -4,11 +4,14 @@ use mathlib.Core.Bool.{cond, _&&_}
 use mathlib.Core.List.{List, flatten}
 use lib.Dec.{leb}
 use lib.ListN.{length}
-use Rattle.bundle.specs.Layout.{OFFER-LIMIT}
+use Rattle.layout.specs.Layout.{OFFER-LIMIT}
 use Rattle.bundle.specs.Contents.{Contents, checkOf}
-use Rattle.host.specs.declared.record.Host.{Host}
-use Rattle.host.specs.Record.{Reported, reportOf, freshHost}
-use Rattle.host.specs.Step.{Row, served, B, N, PACKET-LIMIT, Step, stepOf}
+use Rattle.host_record.specs.declared.record.Host.{Host}
+use Rattle.host_record.specs.Record.{Reported, reportOf, freshHost}
+use Rattle.make.specs.Answer.{Row, served, B}
+use Rattle.host.specs.Step.{stepOf}
+use Rattle.make.specs.Answer.{N, Step}
+use Rattle.host_record.specs.Fits.{PACKET-LIMIT}
 use Rattle.host.specs.Inner.{innerOf}
 use Rattle.host_bytes.specs.Layout.{HOST-SIZE, CONTENTS-SIZE, hostBytes, readHost, lostHost, contentsBytes, contentsIn, cursorIn, withCursor}
 use Rattle.capi.specs.declared.types.CCheck.{CCheck}

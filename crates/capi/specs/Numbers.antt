@@ -7,9 +7,10 @@ use lib.ListN.{length, replicate}
 use Rattle.wire.specs.Rows as wire
 use Rattle.component.specs.Setup as setup
 use Rattle.device.specs.Refusals as device
-use Rattle.bundle.specs.Rows as bundle
-use Rattle.host.specs.Step as host
-use Rattle.host.specs.Record.{Ending, running, done, H1, H2, H3, H4}
+use Rattle.layout.specs.Rows as bundle
+use Rattle.make.specs.Answer as host
+use Rattle.host_record.specs.Record.{Ending, done, H1, H2, H3, H4}
+use Rattle.host_record.specs.Record.{running}
 
 -- no refusal
 abbrev pub SERVED : ℕ

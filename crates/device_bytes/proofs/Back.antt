@@ -23,13 +23,15 @@ use Rattle.component.specs.Setup.{setupVerdict}
 use Rattle.component.specs.declared.record.Component.{Component}
 use Rattle.component.specs.declared.record.Staged.{Staged}
 use Rattle.component.specs.declared.record.Staged.the-variants as staged
-use Rattle.device.specs.Record.{FitsStage, FitsOwed, FitsDevice, blankDevice}
+use Rattle.session.specs.Stage.{FitsStage}
+use Rattle.session.specs.Owed.{FitsOwed}
+use Rattle.device.specs.Record.{FitsDevice, blankDevice}
 use Rattle.device.specs.Refusals.{breaksD1}
 use Rattle.device.specs.declared.record.Device.{Device}
-use Rattle.device.specs.declared.record.Stage.{Stage}
-use Rattle.device.specs.declared.record.Stage.the-variants.{Idle, Offered, Receiving}
-use Rattle.device.specs.declared.record.Owed.{Owed}
-use Rattle.device.specs.declared.record.Owed.the-variants.{Nothing, Token}
+use Rattle.session.specs.declared.stage.Stage.{Stage}
+use Rattle.session.specs.declared.stage.Stage.the-variants.{Idle, Offered, Receiving}
+use Rattle.session.specs.declared.owed.Owed.{Owed}
+use Rattle.session.specs.declared.owed.Owed.the-variants.{Nothing, Token}
 use Rattle.device_bytes.specs.Layout.{PART-SIZE, PARTS-START, stageBytes, owedBytes, stagedBytes, regionBytes, partBytes, partsBytes, deviceBytes, partIn, partsIn, deviceIn, readDevice}
 use Rattle.device_bytes.specs.Promises.{DeviceSized, DeviceReadsBack, OthersBreakD1}
 use Rattle.device_bytes.proofs.part.Laws.{part-sized}

@@ -12,10 +12,10 @@ use Rattle.component.specs.declared.record.Listed.{Listed}
 use Rattle.component.specs.declared.record.Staged.{Staged}
 use Rattle.component.specs.declared.record.Staged.the-variants as staged
 use Rattle.device.specs.declared.record.Device.{Device}
-use Rattle.device.specs.declared.record.Stage.{Stage}
-use Rattle.device.specs.declared.record.Stage.the-variants.{Idle, Offered, Receiving}
-use Rattle.device.specs.declared.record.Owed.{Owed}
-use Rattle.device.specs.declared.record.Owed.the-variants.{Nothing, Token}
+use Rattle.session.specs.declared.stage.Stage.{Stage}
+use Rattle.session.specs.declared.stage.Stage.the-variants.{Idle, Offered, Receiving}
+use Rattle.session.specs.declared.owed.Owed.{Owed}
+use Rattle.session.specs.declared.owed.Owed.the-variants.{Nothing, Token}
 use Rattle.device.specs.Record.{blankDevice}
 
 -- the lengths: a record, the part of it for each component, and what stands before these

@@ -9,9 +9,10 @@ use Rattle.wire.specs.Bytes.{number, bytesOf, bytesAt, copyOf}
 use Rattle.wire.proofs.Pieces.{put-more, piece-written, read-more, read-all}
 use Rattle.wire.proofs.words.Laws.{round}
 use Rattle.offers.specs.Offer.{blankOffer}
-use Rattle.bundle.specs.Rows.{served}
-use Rattle.bundle.specs.Contents.{Contents, blankEntry}
-use Rattle.bundle.specs.declared.Entry.{Entry}
+use Rattle.layout.specs.Rows.{served}
+use Rattle.bundle.specs.Contents.{Contents}
+use Rattle.layout.specs.Layout.{blankEntry}
+use Rattle.layout.specs.declared.Entry.{Entry}
 use Rattle.host_bytes.specs.Layout.{BODY-SIZE, CURSOR-START, CONTENTS-SIZE, bodyBytes, bodiesBytes, contentsBytes, bodyIn, bodiesIn, contentsIn, cursorIn}
 
 -- one body more is written

@@ -12,18 +12,28 @@ use Rattle.wire.proofs.Bounds.{no-bytes, word-fits}
 use Rattle.records.specs.Walk.{nextOf}
 use Rattle.records.specs.declared.Next.{Next}
 use Rattle.records.specs.declared.Next.the-variants as next
-use Rattle.bundle.specs.Layout.{BUNDLE-LIMIT, OFFER-LIMIT, countIn, entriesIn}
-use Rattle.bundle.specs.Rows.{bundleRow, served}
-use Rattle.bundle.specs.Contents.{Contents, blankEntry, entryIn, checkOf}
-use Rattle.bundle.specs.declared.Entry.{Entry}
+use Rattle.layout.specs.Layout.{BUNDLE-LIMIT, OFFER-LIMIT, countIn, entriesIn}
+use Rattle.layout.specs.Rows.{bundleRow}
+use Rattle.layout.specs.Rows.{served}
+use Rattle.bundle.specs.Contents.{Contents, entryIn, checkOf}
+use Rattle.layout.specs.Layout.{blankEntry}
+use Rattle.layout.specs.declared.Entry.{Entry}
 use Rattle.bundle.proofs.Accepted.{Accepted, accepted}
-use Rattle.host.specs.Decide.{decideOf}
-use Rattle.host.specs.Step.{N, recordBreaks, lastOf, blockBytes, refusedBy, stepOf}
-use Rattle.host.specs.Inner.{recordsOn, bodyEnd, recordStart, InnerStep, sending, madeBlock, madeOf, innerOf, CursorIn}
-use Rattle.host.specs.declared.record.Host.{Host}
-use Rattle.host.specs.declared.record.Place.{Place}
-use Rattle.host.specs.declared.answer.Action.{Action}
-use Rattle.host.specs.declared.answer.Action.the-variants as action
+use Rattle.decide.specs.Decide.{decideOf}
+use Rattle.make.specs.Answer.{N}
+use Rattle.host_record.specs.Fits.{recordBreaks}
+use Rattle.host_record.specs.Fits.{lastOf}
+use Rattle.make.specs.Packet.{blockBytes}
+use Rattle.make.specs.Answer.{refusedBy}
+use Rattle.host.specs.Step.{stepOf}
+use Rattle.host_record.specs.Fits.{recordsOn}
+use Rattle.make.specs.Made.{bodyEnd, recordStart, InnerStep, madeBlock, madeOf}
+use Rattle.make.specs.Made.{sending}
+use Rattle.host.specs.Inner.{innerOf, CursorIn}
+use Rattle.host_record.specs.declared.record.Host.{Host}
+use Rattle.host_record.specs.declared.record.Place.{Place}
+use Rattle.decide.specs.declared.Action.{Action}
+use Rattle.decide.specs.declared.Action.the-variants as action
 use Rattle.host.proofs.inner.IsStep.{inner-is-step}
 use Rattle.host_bytes.specs.Layout.{contentsBytes, contentsIn, cursorIn}
 use Rattle.host_bytes.specs.Promises.{KeptContentsStep}

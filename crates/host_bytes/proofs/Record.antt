@@ -11,14 +11,14 @@ use Rattle.wire.specs.Bytes.{Bytes, number, bytesOf, bytesAt, same}
 use Rattle.wire.proofs.Bounds.{cons-bytes, join-bytes, no-bytes, word-bytes, word-fits}
 use Rattle.wire.proofs.words.Laws.{round}
 use Rattle.wire.proofs.words.Sames.{same-refl, same-eq}
-use Rattle.bundle.specs.Layout.{countIn}
-use Rattle.host.specs.Record.{FitsEnd, FitsHostStage, FitsHost}
+use Rattle.layout.specs.Layout.{countIn}
+use Rattle.host_record.specs.Record.{FitsEnd, FitsHostStage, FitsHost}
 use Rattle.host.specs.Step.{breaksN1}
-use Rattle.host.specs.declared.record.Host.{Host}
-use Rattle.host.specs.declared.record.HostStage.{HostStage}
-use Rattle.host.specs.declared.record.HostStage.the-variants.{Fresh, Opening, Listing, Offering, Waiting, Sending, Closing, Ended}
-use Rattle.host.specs.declared.record.End.{End}
-use Rattle.host.specs.declared.record.End.the-variants as end
+use Rattle.host_record.specs.declared.record.Host.{Host}
+use Rattle.host_record.specs.declared.record.HostStage.{HostStage}
+use Rattle.host_record.specs.declared.record.HostStage.the-variants.{Fresh, Opening, Listing, Offering, Waiting, Sending, Closing, Ended}
+use Rattle.host_record.specs.declared.record.End.{End}
+use Rattle.host_record.specs.declared.record.End.the-variants as end
 use Rattle.host_bytes.specs.Layout.{HOST-SIZE, endBytes, stageBytes, flagByte, hostBytes, endIn, stageIn, hostIn, lostHost, readHost}
 use Rattle.host_bytes.specs.Promises.{HostSized, HostReadsBack, OthersBreakN1}
 

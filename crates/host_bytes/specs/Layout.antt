@@ -7,14 +7,14 @@ use lib.Dec.{eqb}
 use lib.ListN.{getD, take, drop}
 use Rattle.wire.specs.Bytes.{number, bytesOf, bytesAt, same}
 use Rattle.offers.specs.Offer.{blankOffer}
-use Rattle.bundle.specs.Rows.{served}
+use Rattle.layout.specs.Rows.{served}
 use Rattle.bundle.specs.Contents.{Contents}
-use Rattle.bundle.specs.declared.Entry.{Entry}
-use Rattle.host.specs.declared.record.Host.{Host}
-use Rattle.host.specs.declared.record.HostStage.{HostStage}
-use Rattle.host.specs.declared.record.HostStage.the-variants.{Fresh, Opening, Listing, Offering, Waiting, Sending, Closing, Ended}
-use Rattle.host.specs.declared.record.End.{End}
-use Rattle.host.specs.declared.record.End.the-variants as end
+use Rattle.layout.specs.declared.Entry.{Entry}
+use Rattle.host_record.specs.declared.record.Host.{Host}
+use Rattle.host_record.specs.declared.record.HostStage.{HostStage}
+use Rattle.host_record.specs.declared.record.HostStage.the-variants.{Fresh, Opening, Listing, Offering, Waiting, Sending, Closing, Ended}
+use Rattle.host_record.specs.declared.record.End.{End}
+use Rattle.host_record.specs.declared.record.End.the-variants as end
 
 -- the length of a record
 abbrev pub HOST-SIZE : ℕ

@@ -4,10 +4,10 @@ use mathlib.Core.Path.{_≡_}
 use mathlib.Core.Bool.{true, false}
 use mathlib.Core.List.{List}
 use Rattle.wire.specs.Bytes.{Bytes, Packet}
-use Rattle.bundle.specs.Rows as bundle
+use Rattle.layout.specs.Rows as bundle
 use Rattle.bundle.specs.Contents.{checkOf}
-use Rattle.host.specs.declared.record.Host.{Host}
-use Rattle.host.specs.Record.{FitsHost}
+use Rattle.host_record.specs.declared.record.Host.{Host}
+use Rattle.host_record.specs.Record.{FitsHost}
 use Rattle.host.specs.Step.{breaksN1, stepOf}
 use Rattle.host.specs.Inner.{innerOf, CursorIn}
 use Rattle.host_bytes.specs.Layout.{HOST-SIZE, hostBytes, readHost, contentsBytes, contentsIn, cursorIn}

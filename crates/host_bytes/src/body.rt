@@ -3,7 +3,7 @@ ghost use mathlib.Core.Path.{_≡_};
 ghost use lib.ListN.{drop};
 ghost use Rattle.offers.specs.Offer.{blankOffer};
 ghost use Rattle.host_bytes.specs.Layout.{bodyBytes, bodyIn};
-use bundle::Entry;
+use layout::Entry;
 use offers::offer::OfferFields;
 use wire::version::Version;
 use wire::words;

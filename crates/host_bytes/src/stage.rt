@@ -3,10 +3,10 @@ ghost use mathlib.Core.Path.{_≡_};
 ghost use mathlib.Core.List.{_∷_, _++_};
 ghost use Rattle.wire.specs.Bytes.{bytesOf};
 ghost use Rattle.host_bytes.specs.Layout.{endBytes, stageBytes, endIn, stageIn};
-use host::record::End;
-use host::record::HostStage;
-use host::record::Place;
-use host::record::Turn;
+use host_record::record::End;
+use host_record::record::HostStage;
+use host_record::record::Place;
+use host_record::record::Turn;
 use wire::words;
 
 // A number of a stage, and two words after it.

@@ -29,6 +29,7 @@ rowOf D1 = D 1
 rowOf D2 = D 2
 rowOf D3 = D 3
 
+-- a row refuses the call
 abbrev pub isRefused : Row → Bool
 isRefused served = false
 isRefused (D k) = true

@@ -49,6 +49,7 @@ pub enum Channel {
 }
 
 impl Refusal {
+    // A row refuses the call.
     pub fn is_refused(self) -> bool
         ensures { λ r. ⌜ r ≡ isRefused (rowOf self) ⌝ }
     {

@@ -182,6 +182,9 @@ pub record ContentLeft : Type 0 where
   pub content : CContent
   pub left : List ℕ
 
+abbrev pub toldContent : CContent → List ℕ → ContentLeft
+toldContent content left = record { content = content; left = left }
+
 abbrev pub contentBy : Told ContentFields → ContentLeft
 contentBy t = record {
   content = record {
@@ -204,6 +207,9 @@ readContentCall packet bytes =
 pub record VersionsLeft : Type 0 where
   pub reply : CVersionReply
   pub left : List ℕ
+
+abbrev pub toldVersions : CVersionReply → List ℕ → VersionsLeft
+toldVersions reply left = record { reply = reply; left = left }
 
 abbrev pub versionsBy : Told VersionReply → VersionsLeft
 versionsBy t = record {

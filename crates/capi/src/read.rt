@@ -1,7 +1,8 @@
 // Reading each packet from C (document 01, "Packets", rows P1 and P2).
 ghost use mathlib.Core.Path.{_≡_};
 ghost use Rattle.offers.specs.Offer.{blankOffer};
-ghost use Rattle.capi.specs.Packets.{partsOf, flagOf, offerOf, noSignal, signalOf, readOfferCall, readOfferReplyCall, toldContent, readContentCall, readContentReplyCall};
+ghost use Rattle.offers.specs.Kind.{toldRead};
+ghost use Rattle.capi.specs.Packets.{partsOf, flagOf, offerOf, noSignal, signalOf, packetOf, readOfferCall, readOfferReplyCall, toldContent, readContentCall, readContentReplyCall};
 use crate::numbers::DATA_SIZE;
 use crate::numbers::KIND_EXTENDED;
 use crate::numbers::KIND_INFORMATION;
@@ -99,11 +100,9 @@ fn no_signal() -> CSignal
     CSignal { code: 0, token: 0 }
 }
 
-#[no_mangle]
-pub extern "C" fn cfu_read_offer(packet: &[u8]) -> COfferPacket
-    ensures { λ r. ⌜ r ≡ readOfferCall (now (packet .entry)) ⌝ }
+fn packet_fields(read: OfferPacket) -> COfferPacket
+    ensures { λ r. ⌜ r ≡ packetOf (toldRead read .row) (toldRead read .value) ⌝ }
 {
-    let read = read_offer_packet(packet);
     match read {
         OfferPacket::Refused => COfferPacket {
             number: ROW_P + 1,
@@ -130,6 +129,14 @@ pub extern "C" fn cfu_read_offer(packet: &[u8]) -> COfferPacket
             signal: signal_fields(s),
         },
     }
+}
+
+#[no_mangle]
+pub extern "C" fn cfu_read_offer(packet: &[u8]) -> COfferPacket
+    ensures { λ r. ⌜ r ≡ readOfferCall (now (packet .entry)) ⌝ }
+{
+    let read = read_offer_packet(packet);
+    packet_fields(read)
 }
 
 #[no_mangle]

@@ -1,3 +1,4 @@
+use Rattle.capi.specs.Packets.{readContentReplyCall}
 use borrow.Author.Needs.{needs}
 use Rattle.capi.proofs.read.cfu_read_content_reply.Statement.{statement}
 use Rattle.capi.proofs.read.cfu_read_content_reply.Tie as tie
@@ -16,7 +17,8 @@ packet-number-requires c κs = search needs
 
 -- src/read.rt:179:1
 returns : tie.Need-returns
-returns c = ?
+unfolding readContentReplyCall
+returns c = rw (← c .before .before .read-content-reply .ensures, c .packet-number .ensures)
 
 pub cfu-read-content-reply-spec : {M : Type 1} → statement M
 cfu-read-content-reply-spec =

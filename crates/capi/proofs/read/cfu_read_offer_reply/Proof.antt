@@ -1,3 +1,4 @@
+use Rattle.capi.specs.Packets.{readOfferReplyCall}
 use borrow.Author.Needs.{needs}
 use Rattle.capi.proofs.read.cfu_read_offer_reply.Statement.{statement}
 use Rattle.capi.proofs.read.cfu_read_offer_reply.Tie as tie
@@ -16,7 +17,8 @@ packet-number-requires c κs = search needs
 
 -- src/read.rt:135:1
 returns : tie.Need-returns
-returns c = ?
+unfolding readOfferReplyCall
+returns c = rw (← c .before .before .read-offer-reply .ensures, c .packet-number .ensures)
 
 pub cfu-read-offer-reply-spec : {M : Type 1} → statement M
 cfu-read-offer-reply-spec =

@@ -20,7 +20,7 @@ flag-requires-2 c κs = search needs
 
 -- src/read.rt:47:1
 returns : tie.Need-returns
-returns c = ?
+returns c = rw (c .before .before .parts .ensures, c .before .flag .ensures, c .flag2 .ensures)
 
 pub offer-fields-spec : {M : Type 1} → statement M
 offer-fields-spec = tie.close (tie.spec parts-requires flag-requires flag-requires-2 returns)

@@ -21,7 +21,7 @@ variant-requires c κs = search needs
 
 -- src/read.rt:31:1
 returns : tie.Need-returns
-returns c = ?
+returns c = rw (c .before .before .major .ensures, c .before .minor .ensures, c .variant .ensures)
 
 pub parts-spec : {M : Type 1} → statement M
 parts-spec = tie.close (tie.spec major-requires minor-requires variant-requires returns)

@@ -5,7 +5,7 @@ ghost use lib.ListN.{replicate};
 ghost use Rattle.wire.specs.Rows.{P};
 ghost use Rattle.offers.specs.Offer.{toldBuilt, buildOf};
 ghost use Rattle.capi.specs.Device.{leaves};
-ghost use Rattle.capi.specs.Packets.{fieldsOf, flagsFit, buildOfferCall, buildInformationCall, buildExtendedCall, buildOfferReplyCall, buildContentCall, buildContentReplyCall};
+ghost use Rattle.capi.specs.Packets.{buildVersionReplyCall, fieldsOf, flagsFit, buildOfferCall, buildInformationCall, buildExtendedCall, buildOfferReplyCall, buildContentCall, buildContentReplyCall};
 use crate::lent::leave;
 use crate::numbers::DATA_SIZE;
 use crate::numbers::SERVED;
@@ -24,6 +24,10 @@ use offers::reply::build_offer_reply;
 use offers::signal::Signal;
 use offers::signal::build_extended;
 use offers::signal::build_information;
+use versions::VersionReply;
+use versions::build_version_reply;
+use versions_bytes::COMPONENTS_SIZE;
+use versions_bytes::read_components;
 use wire::address::RegionAddress;
 use wire::verdict::Verdict;
 use wire::version::Version;
@@ -59,6 +63,29 @@ fn built_offer(o: COffer) -> BuiltOffer
             packet: [0u8; 16],
         }
     }
+}
+
+#[no_mangle]
+pub extern "C" fn cfu_build_version_reply(
+    count: u8,
+    protocol: u8,
+    components: &[u8],
+    packet: &mut [u8],
+) -> u32
+    ensures { λ r. ⌜ leaves r (now (packet .exit)) ≡ buildVersionReplyCall count protocol (now (components .entry)) (now (packet .entry)) ⌝ }
+{
+    if components.len() != COMPONENTS_SIZE {
+        return WRONG_LIST;
+    }
+    let es = read_components(components);
+    let built = build_version_reply(VersionReply {
+        count,
+        protocol,
+        components: es,
+    });
+    let p = built.packet;
+    let verdict = built.verdict;
+    leave(packet, packet_number(verdict), &p)
 }
 
 #[no_mangle]

@@ -2,7 +2,7 @@
 ghost use mathlib.Core.Path.{_≡_};
 ghost use Rattle.offers.specs.Offer.{blankOffer};
 ghost use Rattle.offers.specs.Kind.{toldRead};
-ghost use Rattle.capi.specs.Packets.{partsOf, flagOf, offerOf, noSignal, signalOf, packetOf, readOfferCall, readOfferReplyCall, toldContent, readContentCall, readContentReplyCall};
+ghost use Rattle.capi.specs.Packets.{toldVersions, readVersionReplyCall, partsOf, flagOf, offerOf, noSignal, signalOf, packetOf, readOfferCall, readOfferReplyCall, toldContent, readContentCall, readContentReplyCall};
 use crate::numbers::DATA_SIZE;
 use crate::numbers::KIND_EXTENDED;
 use crate::numbers::KIND_INFORMATION;
@@ -19,6 +19,7 @@ use crate::types::COfferPacket;
 use crate::types::COfferReply;
 use crate::types::CSignal;
 use crate::types::CVersion;
+use crate::types::CVersionReply;
 use contents::content::read_content;
 use contents::reply::read_content_reply;
 use offers::kind::OfferPacket;
@@ -26,8 +27,36 @@ use offers::kind::read_offer_packet;
 use offers::offer::OfferFields;
 use offers::reply::read_offer_reply;
 use offers::signal::Signal;
+use versions::read_version_reply;
+use versions_bytes::COMPONENTS_SIZE;
+use versions_bytes::components_bytes;
 use wire::version::Version;
 use wire::words;
+
+// The components are left in the lent bytes.
+#[no_mangle]
+pub extern "C" fn cfu_read_version_reply(packet: &[u8], components: &mut [u8]) -> CVersionReply
+    ensures { λ r. ⌜ toldVersions r (now (components .exit)) ≡ readVersionReplyCall (now (packet .entry)) (now (components .entry)) ⌝ }
+{
+    if components.len() != COMPONENTS_SIZE {
+        return CVersionReply {
+            number: WRONG_OUTPUT,
+            count: 0,
+            protocol: 0,
+        };
+    }
+    let read = read_version_reply(packet);
+    let verdict = read.verdict;
+    let reply = read.reply;
+    let es = reply.components;
+    let b = components_bytes(es);
+    words::copy(components, &b);
+    CVersionReply {
+        number: packet_number(verdict),
+        count: reply.count,
+        protocol: reply.protocol,
+    }
+}
 
 fn parts(v: Version) -> CVersion
     ensures { λ r. ⌜ r ≡ partsOf v ⌝ }

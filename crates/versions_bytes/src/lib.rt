@@ -1,5 +1,6 @@
 // The components of a version reply as bytes: seven times version, id, platform.
 ghost use mathlib.Core.Path.{_≡_};
+ghost use lib.ListN.{drop};
 ghost use Rattle.versions_bytes.specs.Layout.{runningBytes, componentsBytes, runningIn, componentsIn};
 use versions::Running;
 use wire::version::Version;
@@ -50,17 +51,26 @@ fn running_in(q: &[u8]) -> Running
     }
 }
 
+// The one from a place on; past the end of the bytes all is zero.
+fn running_at(q: &[u8], at: usize) -> Running
+    ensures { λ r. ⌜ r ≡ runningIn (drop at (now (q .entry))) ⌝ }
+{
+    let n = q.len();
+    if n < at {
+        return running_in(&q[n..]);
+    }
+    running_in(&q[at..])
+}
+
 // What the bytes lack, up to seven components, is zero.
 pub fn read_components(q: &[u8]) -> [Running; 7]
     ensures { λ r. ⌜ r ≡ componentsIn 7 (now (q .entry)) ⌝ }
 {
-    let first = running_in(q);
+    let first = running_at(q, 0);
     let mut components = [first; 7];
     let mut i = 0;
     while i < 7 {
-        let from = i * RUNNING_SIZE;
-        let at = if from < q.len() { from } else { q.len() };
-        components[i] = running_in(&q[at..]);
+        components[i] = running_at(q, i * RUNNING_SIZE);
         i += 1;
     }
     components

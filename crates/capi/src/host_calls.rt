@@ -6,8 +6,10 @@ ghost use mathlib.Core.List.{List, flatten};
 ghost use Prim.Native.Nat.{ℕ};
 ghost use lib.Dec.{leb};
 ghost use lib.ListN.{length};
-ghost use Rattle.bundle.specs.Layout.{OFFER-LIMIT};
-ghost use Rattle.host.specs.Step.{N, PACKET-LIMIT, sentBy, told};
+ghost use Rattle.layout.specs.Layout.{OFFER-LIMIT};
+ghost use Rattle.make.specs.Answer.{N, sentBy};
+ghost use Rattle.host_record.specs.Fits.{PACKET-LIMIT};
+ghost use Rattle.make.specs.Answer.{told};
 ghost use Rattle.host_bytes.specs.Layout.{HOST-SIZE, readHost, lostHost};
 ghost use Rattle.capi.specs.Numbers.{SERVED, stepNumber};
 ghost use Rattle.capi.specs.Device.{leaves};
@@ -27,11 +29,8 @@ use crate::types::CCheck;
 use crate::types::CReport;
 use crate::types::CStep;
 use bundle::check;
-use bundle::limits::OFFER_LIMIT;
-use host::answer::Sent;
-use host::answer::StepAnswer;
 use host::inner::inner_step;
-use host::record::Host;
+use host::step::step;
 use host_bytes::CONTENTS_SIZE;
 use host_bytes::CURSOR_START;
 use host_bytes::HOST_SIZE;
@@ -41,6 +40,10 @@ use host_bytes::lost_host;
 use host_bytes::read_contents;
 use host_bytes::read_cursor;
 use host_bytes::read_host;
+use host_record::record::Host;
+use layout::limits::OFFER_LIMIT;
+use make::answer::Sent;
+use make::answer::StepAnswer;
 use wire::words;
 
 // The check of a bundle; its contents are left for cfu_host_step_checked.
@@ -134,7 +137,7 @@ pub extern "C" fn cfu_host_step(
         return refused(WRONG_OUTPUT);
     }
     let h = read_host(host);
-    let s = h.step(bundle, reply);
+    let s = step(h, bundle, reply);
     stepped(s, host, packet)
 }
 

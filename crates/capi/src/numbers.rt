@@ -3,17 +3,17 @@ ghost use mathlib.Core.Path.{_≡_};
 ghost use Rattle.wire.specs.Rows as wire;
 ghost use Rattle.component.specs.Setup as setup;
 ghost use Rattle.device.specs.Refusals as refusals;
-ghost use Rattle.bundle.specs.Rows as rows;
-ghost use Rattle.host.specs.Step as step;
-ghost use Rattle.host.specs.Record.{endingOf, toldProgress};
+ghost use Rattle.layout.specs.Rows as rows;
+ghost use Rattle.make.specs.Answer as step;
+ghost use Rattle.host_record.specs.Record.{endingOf, toldProgress};
 ghost use Rattle.capi.specs.Numbers.{packetNumber, setupNumber, deviceNumber, bundleNumber, stepNumber, stepEntry, endingNumber, endingStatus};
-use bundle::BundleVerdict;
-use bundle::report::row_number;
 use component::setup::SetupVerdict;
 use device::answer::Refusal;
-use host::answer::Progress;
-use host::answer::StepRefusal;
-use host::record::End;
+use host_record::record::End;
+use host_record::report::Progress;
+use layout::BundleVerdict;
+use layout::row_number;
+use make::answer::StepRefusal;
 use wire::verdict::Verdict;
 
 // No refusal.

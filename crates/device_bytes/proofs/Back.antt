@@ -27,6 +27,7 @@ use Rattle.session.specs.Stage.{FitsStage}
 use Rattle.session.specs.Owed.{FitsOwed}
 use Rattle.device.specs.Record.{FitsDevice, blankDevice}
 use Rattle.device.specs.Refusals.{breaksD1}
+use Rattle.session.specs.Sound as sound
 use Rattle.device.specs.declared.record.Device.{Device}
 use Rattle.session.specs.declared.stage.Stage.{Stage}
 use Rattle.session.specs.declared.stage.Stage.the-variants.{Idle, Offered, Receiving}
@@ -164,7 +165,7 @@ device-fits b h = record {
 
 -- the blank record breaks D1: it has no component
 blank-breaks : breaksD1 blankDevice ≡ true
-unfolding breaksD1 setupVerdict firstOf
+unfolding sound.breaksD1 setupVerdict firstOf
 blank-breaks = refl
 
 -- bytes that are no record's are read as a record that D1 refuses

@@ -16,7 +16,7 @@ use Rattle.device.specs.Record.{blankDevice}
 use Rattle.device.specs.declared.record.Device.{Device}
 use Rattle.device_bytes.specs.Layout.{DEVICE-SIZE, PART-SIZE, PARTS-START, LISTED-SIZE, stageBytes, owedBytes, partBytes, partsBytes, deviceBytes, partIn, partsIn, deviceIn, readDevice, listedIn, listIn}
 use Rattle.device_bytes.proofs.part.Laws.{part-sized}
-use Rattle.device_bytes.proofs.session.Laws.{stage-sized, owed-sized}
+use Rattle.device_bytes.proofs.stage.Laws.{stage-sized, owed-sized}
 
 -- one component more is written
 pub part-written : (out front s last : List ℕ) (parts : List Component) (i k : ℕ) → i < 7 → length parts ≡ 7 → length out ≡ DEVICE-SIZE → k ≡ PART-SIZE

@@ -7,17 +7,17 @@ ghost use Rattle.device_bytes.specs.Layout.{DEVICE-SIZE, PARTS-START, st
 use crate::list::listed_at;
 use crate::part::part_bytes;
 use crate::part::part_in;
-use crate::session::owed_bytes;
-use crate::session::owed_in;
-use crate::session::stage_bytes;
-use crate::session::stage_in;
+use crate::stage::owed_bytes;
+use crate::stage::owed_in;
+use crate::stage::stage_bytes;
+use crate::stage::stage_in;
 use component::record::Component;
 use component::record::Listed;
 use device::record::Device;
 use wire::words;
 
 mod part; // part.rt: a component
-mod session; // session.rt: the stage, and the ready-reply that is owed
+mod stage; // stage.rt: the stage, and the ready-reply that is owed
 mod list; // list.rt: a component of the list that set-up takes
 
 // The lengths of a record, of the part of it for each component and of what stands before these, of a list, and of the part of it for each component.

@@ -8,11 +8,11 @@ use crate::body::body_at;
 use crate::body::body_bytes;
 use crate::stage::stage_bytes;
 use crate::stage::stage_in;
+use host_record::record::Host;
+use host_record::record::HostStage;
 use layout::BundleVerdict;
 use layout::Checked;
 use layout::Entry;
-use host_record::record::Host;
-use host_record::record::HostStage;
 use wire::words;
 
 mod stage; // stage.rt: what the host awaits, and how a session ends

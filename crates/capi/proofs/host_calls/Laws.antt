@@ -10,11 +10,11 @@ use lib.ListN.{length, take, drop}
 use lib.Seq.{take-all, length-take-le}
 use Rattle.wire.specs.Bytes.{bytesOf, copyOf}
 use Rattle.wire.proofs.Pieces.{put-more}
-use Rattle.bundle.specs.Rows.{numberOf}
-use Rattle.host.specs.Step.{rowOf}
-use Rattle.host.specs.declared.answer.StepRefusal.{StepRefusal}
-use Rattle.host.specs.declared.answer.StepRefusal.the-variants.{Served, Bundle, N1}
-use Rattle.host.specs.declared.record.Host.{Host}
+use Rattle.layout.specs.Rows.{numberOf}
+use Rattle.make.specs.Answer.{rowOf}
+use Rattle.make.specs.declared.answer.StepRefusal.{StepRefusal}
+use Rattle.make.specs.declared.answer.StepRefusal.the-variants.{Served, Bundle, N1}
+use Rattle.host_record.specs.declared.record.Host.{Host}
 use Rattle.host_bytes.specs.Layout.{CURSOR-START, CONTENTS-SIZE, hostBytes, withCursor}
 use Rattle.capi.specs.Numbers.{stepNumber}
 use Rattle.capi.specs.Device.{Left, leaves}

@@ -12,9 +12,9 @@ use Rattle.device.specs.declared.answer.Refusal.{Refusal}
 use Rattle.device.specs.declared.answer.Refusal.the-variants.{Served, D1, D2, D3}
 use Rattle.device.specs.declared.record.Device.{Device}
 use Rattle.device_bytes.specs.Layout.{deviceBytes}
-use Rattle.bundle.specs.Rows as bundle
-use Rattle.bundle.specs.declared.BundleVerdict.{BundleVerdict}
-use Rattle.bundle.specs.declared.BundleVerdict.the-variants as verdict
+use Rattle.layout.specs.Rows as bundle
+use Rattle.layout.specs.declared.BundleVerdict.{BundleVerdict}
+use Rattle.layout.specs.declared.BundleVerdict.the-variants as verdict
 use Rattle.capi.specs.Numbers.{setupNumber, deviceNumber, bundleNumber}
 use Rattle.capi.specs.Device.{keptBy, madeBy}
 

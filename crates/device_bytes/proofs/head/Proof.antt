@@ -1,5 +1,5 @@
 -- `head` meets its contract: the fields' bytes, in their order. Assumes nothing.
-use Rattle.device_bytes.proofs.session.Laws.{head-of}
+use Rattle.device_bytes.proofs.stage.Laws.{head-of}
 use borrow.Author.Needs.{needs}
 use Rattle.device_bytes.proofs.head.Statement.{statement}
 use Rattle.device_bytes.proofs.head.Tie as tie

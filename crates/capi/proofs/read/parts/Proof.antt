@@ -7,19 +7,15 @@ use Rattle.wire.proofs.version.Version.major.Reads as major-reads
 use Rattle.wire.proofs.version.Version.minor.Reads as minor-reads
 use Rattle.wire.proofs.version.Version.variant.Reads as variant-reads
 
--- src/read.rt:35:16
 major-requires : tie.Need-major-requires
 major-requires c κs = search needs
 
--- src/read.rt:36:16
 minor-requires : tie.Need-minor-requires
 minor-requires c κs = search needs
 
--- src/read.rt:37:18
 variant-requires : tie.Need-variant-requires
 variant-requires c κs = search needs
 
--- src/read.rt:31:1
 returns : tie.Need-returns
 returns c = rw (c .before .before .major .ensures, c .before .minor .ensures, c .variant .ensures)
 

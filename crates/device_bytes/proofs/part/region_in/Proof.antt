@@ -3,15 +3,12 @@ use borrow.Author.Needs.{needs}
 use Rattle.device_bytes.proofs.part.region_in.Statement.{statement}
 use Rattle.device_bytes.proofs.part.region_in.Tie as tie
 
--- src/part.rt:73:29
 word32-at-requires : tie.Need-word32-at-requires
 word32-at-requires c κs = search needs
 
--- src/part.rt:74:14
 word32-at-requires-2 : tie.Need-word32-at-requires-2
 word32-at-requires-2 c κs = search needs
 
--- src/part.rt:69:1
 returns : tie.Need-returns
 returns c = rw (c .before .word32-at .ensures, c .word32-at2 .ensures)
 

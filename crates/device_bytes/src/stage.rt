@@ -1,8 +1,8 @@
 // The session of a device's record as seven bytes: the stage, and the ready-reply that is owed.
 ghost use mathlib.Core.Path.{_≡_};
 ghost use Rattle.device_bytes.specs.Layout.{stageBytes, owedBytes, stageIn, owedIn};
-use session::stage::Offered;
 use session::owed::Owed;
+use session::stage::Offered;
 use session::stage::Receiving;
 use session::stage::Stage;
 use wire::words;

@@ -2,7 +2,7 @@
 use mathlib.Core.Path.{_≡_, refl, sym, ap, ap₂, subst, fun-ext, _∙_}
 use mathlib.Core.Bool.{Bool, true, false, cond}
 use mathlib.Core.List.{List, [], _∷_, _++_, map}
-use Prim.Native.Nat.{ℕ, zero, suc, _+_, _-_, _^_, _<_, _≤_}
+use Prim.Native.Nat.{ℕ, zero, suc, _+_, _-_}
 use native.Mathlib.Omega.{arith}
 use borrow.Author.Tests.{ltb-true, ltb-false}
 use lib.Dec.{eqb, ltb}
@@ -12,27 +12,25 @@ use Rattle.wire.proofs.Bounds.{no-bytes, word-fits}
 use Rattle.records.specs.Walk.{nextOf}
 use Rattle.records.specs.declared.Next.{Next}
 use Rattle.records.specs.declared.Next.the-variants as next
-use Rattle.layout.specs.Layout.{BUNDLE-LIMIT, OFFER-LIMIT, countIn, entriesIn}
+use Rattle.layout.specs.Layout.{OFFER-LIMIT, countIn, entriesIn}
 use Rattle.layout.specs.Rows.{bundleRow}
 use Rattle.layout.specs.Rows.{served}
 use Rattle.bundle.specs.Contents.{Contents, entryIn, checkOf}
 use Rattle.layout.specs.Layout.{blankEntry}
 use Rattle.layout.specs.declared.Entry.{Entry}
 use Rattle.bundle.proofs.Accepted.{Accepted, accepted}
-use Rattle.decide.specs.Decide.{decideOf}
-use Rattle.make.specs.Answer.{N}
+use Rattle.decide.specs.Decide.{decideOf, decisionOf}
 use Rattle.host_record.specs.Fits.{recordBreaks}
 use Rattle.host_record.specs.Fits.{lastOf}
 use Rattle.make.specs.Packet.{blockBytes}
-use Rattle.make.specs.Answer.{refusedBy}
-use Rattle.host.specs.Step.{stepOf}
-use Rattle.host_record.specs.Fits.{recordsOn}
-use Rattle.make.specs.Made.{bodyEnd, recordStart, InnerStep, madeBlock, madeOf}
+use Rattle.make.specs.Made.{bodyEnd, recordStart, madeBlock, madeOf}
 use Rattle.make.specs.Made.{sending}
-use Rattle.host.specs.Inner.{innerOf, CursorIn}
+use Rattle.host.specs.Inner.{innerBy, innerOf}
 use Rattle.host_record.specs.declared.record.Host.{Host}
 use Rattle.host_record.specs.declared.record.Place.{Place}
 use Rattle.decide.specs.declared.Action.{Action}
+use Rattle.decide.specs.declared.Decided.{Decided}
+use Rattle.decide.specs.declared.Decided.the-variants as decided
 use Rattle.decide.specs.declared.Action.the-variants as action
 use Rattle.host.proofs.inner.IsStep.{inner-is-step}
 use Rattle.host_bytes.specs.Layout.{contentsBytes, contentsIn, cursorIn}
@@ -61,17 +59,22 @@ module _ (b : List ℕ) (c : Contents) (cursor : ℕ) where
   made-bare before after (action.Offer entry) = refl
   made-bare before after (action.Block p) = simp (listed (c .table)) (block-bare before after p (nextOf b (recordStart c cursor p) (bodyEnd c p)))
 
+  -- nor does a decision
+  decision-bare : (h : Host) (reply : List ℕ) → decisionOf (bare c) h reply ≡ decisionOf c h reply
+  unfolding decisionOf
+  decision-bare h reply =
+      ap
+      (λ (records : ℕ → ℕ). cond (recordBreaks (c .count) records h) decided.N1 (decided.Moves (decideOf (c .count) (lastOf records (h .stage)) h reply)))
+      (fun-ext (λ i. ap (λ (e : Entry). e .records) (listed (c .table) i)))
+
+  by-bare : (h : Host) (d : Decided) → innerBy b (bare c) cursor h d ≡ innerBy b c cursor h d
+  by-bare h decided.N1 = refl
+  by-bare h (decided.Moves m) = made-bare h (m .host) (m .action)
+
   -- nor does the inner step
   inner-bare : (h : Host) (reply : List ℕ) → innerOf b (bare c) cursor h reply ≡ innerOf b c cursor h reply
   unfolding innerOf
-  inner-bare h reply =
-      let r : recordsOn (bare c) ≡ recordsOn c = fun-ext (λ i. ap (λ (e : Entry). e .records) (listed (c .table) i)) in
-      ap
-      (λ (records : ℕ → ℕ). cond (recordBreaks (c .count) records h) (record { step = refusedBy (N 1) h; cursor = cursor })
-      (madeOf b (bare c) cursor h (decideOf (c .count) (lastOf records (h .stage)) h reply .host) (decideOf (c .count) (lastOf records (h .stage)) h reply .action)))
-      r
-      ∙ ap (λ (s : InnerStep). cond (recordBreaks (c .count) (recordsOn c) h) (record { step = refusedBy (N 1) h; cursor = cursor }) s)
-      (made-bare h (decideOf (c .count) (lastOf (recordsOn c) (h .stage)) h reply .host) (decideOf (c .count) (lastOf (recordsOn c) (h .stage)) h reply .action))
+  inner-bare h reply = ap (λ (d : Decided). innerBy b (bare c) cursor h d) (decision-bare h reply) ∙ by-bare h (decisionOf c h reply)
 
 -- no entry fits
 blank-fits : (m k : ℕ) → FitsBody (getD (replicate m blankEntry) k blankEntry)

@@ -45,7 +45,11 @@ fn replies_of(due: bool, reply: [u8; 16], ready: Owed) -> [u8; 32]
     let none = [0u8; 16];
     match ready {
         Owed::Nothing => {
-            if due { joined(reply, none) } else { joined(none, none) }
+            if due {
+                joined(reply, none)
+            } else {
+                joined(none, none)
+            }
         }
         Owed::Token(token) => {
             let b = build_offer_reply(OfferReply {
@@ -53,7 +57,11 @@ fn replies_of(due: bool, reply: [u8; 16], ready: Owed) -> [u8; 32]
                 reason: 0,
                 status: codes::OFFER_READY,
             });
-            if due { joined(reply, b) } else { joined(b, none) }
+            if due {
+                joined(reply, b)
+            } else {
+                joined(b, none)
+            }
         }
     }
 }
@@ -63,12 +71,8 @@ fn count_of(due: bool, reply: [u8; 16], ready: Owed) -> u32
     ensures { λ r. ⌜ r ≡ length (dueSent due reply ++ readySent ready) ⌝ }
 {
     match ready {
-        Owed::Nothing => {
-            if due { 1 } else { 0 }
-        }
-        Owed::Token(_) => {
-            if due { 2 } else { 1 }
-        }
+        Owed::Nothing => { if due { 1 } else { 0 } }
+        Owed::Token(_) => { if due { 2 } else { 1 } }
     }
 }
 

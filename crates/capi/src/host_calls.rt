@@ -32,6 +32,7 @@ use host::answer::Sent;
 use host::answer::StepAnswer;
 use host::inner::inner_step;
 use host::record::Host;
+use host::record::PACKET_LIMIT;
 use host_bytes::CONTENTS_SIZE;
 use host_bytes::CURSOR_START;
 use host_bytes::HOST_SIZE;
@@ -178,8 +179,6 @@ pub extern "C" fn cfu_host_step_checked(
     let s = a.step;
     stepped(s, host, packet)
 }
-
-const PACKET_LIMIT: u32 = 0x80000000;
 
 // N1 for a record that counts more packets than any host may.
 fn report_number(packets: u32) -> u32

@@ -1,11 +1,10 @@
 -- Building and reading each packet from C (document 01, "Packets", rows P1 and P2).
-use Prim.Native.Nat.{ℕ, zero, suc, _*_}
+use Prim.Native.Nat.{ℕ}
 use mathlib.Core.Bool.{Bool, true, false, cond, _&&_}
-use mathlib.Core.List.{List, [], _∷_, _++_}
+use mathlib.Core.List.{List}
 use lib.Dec.{eqb, leb}
-use lib.ListN.{getD, drop, replicate}
-use Rattle.wire.specs.Bytes.{number, bytesOf, bytesAt}
-use Rattle.wire.specs.Version.{versionOf, versionAt, versionBytes, majorOf, minorOf, variantOf}
+use lib.ListN.{replicate}
+use Rattle.wire.specs.Version.{versionOf, majorOf, minorOf, variantOf}
 use Rattle.wire.specs.Rows.{Row, P, Told}
 use Rattle.wire.specs.declared.version.Version.{Version}
 use Rattle.offers.specs.Offer as offer
@@ -20,7 +19,6 @@ use Rattle.contents.specs.Reply as contentReply
 use Rattle.contents.specs.declared.content.ContentFields.{ContentFields}
 use Rattle.contents.specs.declared.reply.ContentReply.{ContentReply}
 use Rattle.versions.specs.Reply as versions
-use Rattle.versions.specs.declared.Running.{Running}
 use Rattle.versions.specs.declared.VersionReply.{VersionReply}
 use Rattle.versions_bytes.specs.Layout.{COMPONENTS-SIZE, componentsBytes, componentsIn}
 use Rattle.capi.specs.declared.types.CVersion.{CVersion}

@@ -31,6 +31,7 @@ use crate::types::CStep;
 use bundle::check;
 use host::inner::inner_step;
 use host::step::step;
+use host_record::record::PACKET_LIMIT;
 use host_bytes::CONTENTS_SIZE;
 use host_bytes::CURSOR_START;
 use host_bytes::HOST_SIZE;
@@ -181,8 +182,6 @@ pub extern "C" fn cfu_host_step_checked(
     let s = a.step;
     stepped(s, host, packet)
 }
-
-const PACKET_LIMIT: u32 = 0x80000000;
 
 // N1 for a record that counts more packets than any host may.
 fn report_number(packets: u32) -> u32

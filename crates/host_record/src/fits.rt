@@ -10,6 +10,7 @@ ghost use Rattle.host_record.specs.Room.{Spare, RoomIn, Room};
 ghost use Rattle.host_record.specs.Fits.{turnBreaks, placeBreaks, stageBreaks, recordBreaks, isLastOf, lastOf, recordsOn};
 use crate::record::Host;
 use crate::record::HostStage;
+use crate::record::PACKET_LIMIT;
 use crate::record::Place;
 use crate::record::Turn;
 use layout::Checked;
@@ -17,9 +18,6 @@ use layout::Entry;
 
 // The most BUSY replies that one offer survives in one pass.
 pub const BUSY_LIMIT: u32 = 8;
-
-// The packets that a record may count.
-const PACKET_LIMIT: u32 = 0x80000000;
 
 // The body of an entry: where it starts and ends, and how many records it has.
 pub struct Body {

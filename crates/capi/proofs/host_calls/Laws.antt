@@ -10,7 +10,6 @@ use lib.ListN.{length, take, drop}
 use lib.Seq.{take-all, length-take-le}
 use Rattle.wire.specs.Bytes.{bytesOf, copyOf}
 use Rattle.wire.proofs.Pieces.{put-more}
-use Rattle.layout.specs.Rows.{numberOf}
 use Rattle.make.specs.Answer.{rowOf}
 use Rattle.make.specs.declared.answer.StepRefusal.{StepRefusal}
 use Rattle.make.specs.declared.answer.StepRefusal.the-variants.{Served, Bundle, N1}

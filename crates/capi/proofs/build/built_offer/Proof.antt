@@ -2,10 +2,6 @@
 use borrow.Author.Needs.{needs}
 use Rattle.capi.proofs.build.built_offer.Statement.{statement}
 use Rattle.capi.proofs.build.built_offer.Tie as tie
-use Rattle.capi.proofs.build.built_offer.Reads as reads
-use Rattle.capi.proofs.build.built_offer.Lts as lts
-use Rattle.capi.proofs.build.fields.Reads as fields-reads
-use Rattle.offers.proofs.offer.build_offer.Reads as build-offer-reads
 
 fields-requires : tie.Need-fields-requires
 fields-requires c κs = search needs

@@ -8,12 +8,6 @@ use borrow.Author.Tests.{eq-eqb, ne-eqb}
 use borrow.Author.Needs.{needs}
 use Rattle.capi.proofs.build.cfu_build_content.Statement.{statement}
 use Rattle.capi.proofs.build.cfu_build_content.Tie as tie
-use Rattle.capi.proofs.build.cfu_build_content.Reads as reads
-use Rattle.capi.proofs.build.cfu_build_content.Lts as lts
-use Rattle.capi.proofs.lent.leave.Reads as leave-reads
-use Rattle.capi.proofs.numbers.packet_number.Reads as packet-number-reads
-use Rattle.contents.proofs.content.build_content.Reads as build-content-reads
-use Rattle.wire.proofs.words.copy.Reads as copy-reads
 
 returns : tie.Need-returns
 unfolding buildContentCall

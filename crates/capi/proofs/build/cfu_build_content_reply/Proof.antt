@@ -3,10 +3,6 @@ use Rattle.capi.specs.Packets.{buildContentReplyCall}
 use borrow.Author.Needs.{needs}
 use Rattle.capi.proofs.build.cfu_build_content_reply.Statement.{statement}
 use Rattle.capi.proofs.build.cfu_build_content_reply.Tie as tie
-use Rattle.capi.proofs.build.cfu_build_content_reply.Reads as reads
-use Rattle.capi.proofs.build.cfu_build_content_reply.Lts as lts
-use Rattle.capi.proofs.lent.leave.Reads as leave-reads
-use Rattle.contents.proofs.reply.build_content_reply.Reads as build-content-reply-reads
 
 build-content-reply-requires : tie.Need-build-content-reply-requires
 build-content-reply-requires c κs = search needs

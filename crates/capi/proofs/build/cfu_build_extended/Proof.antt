@@ -3,10 +3,6 @@ use Rattle.capi.specs.Packets.{buildExtendedCall}
 use borrow.Author.Needs.{needs}
 use Rattle.capi.proofs.build.cfu_build_extended.Statement.{statement}
 use Rattle.capi.proofs.build.cfu_build_extended.Tie as tie
-use Rattle.capi.proofs.build.cfu_build_extended.Reads as reads
-use Rattle.capi.proofs.build.cfu_build_extended.Lts as lts
-use Rattle.capi.proofs.lent.leave.Reads as leave-reads
-use Rattle.offers.proofs.signal.build_extended.Reads as build-extended-reads
 
 build-extended-requires : tie.Need-build-extended-requires
 build-extended-requires c κs = search needs

@@ -3,10 +3,6 @@ use Rattle.capi.specs.Packets.{buildInformationCall}
 use borrow.Author.Needs.{needs}
 use Rattle.capi.proofs.build.cfu_build_information.Statement.{statement}
 use Rattle.capi.proofs.build.cfu_build_information.Tie as tie
-use Rattle.capi.proofs.build.cfu_build_information.Reads as reads
-use Rattle.capi.proofs.build.cfu_build_information.Lts as lts
-use Rattle.capi.proofs.lent.leave.Reads as leave-reads
-use Rattle.offers.proofs.signal.build_information.Reads as build-information-reads
 
 build-information-requires : tie.Need-build-information-requires
 build-information-requires c κs = search needs

@@ -4,11 +4,6 @@ use Rattle.capi.proofs.lent.Laws.{built-left}
 use borrow.Author.Needs.{needs}
 use Rattle.capi.proofs.build.cfu_build_offer.Statement.{statement}
 use Rattle.capi.proofs.build.cfu_build_offer.Tie as tie
-use Rattle.capi.proofs.build.cfu_build_offer.Reads as reads
-use Rattle.capi.proofs.build.cfu_build_offer.Lts as lts
-use Rattle.capi.proofs.build.built_offer.Reads as built-offer-reads
-use Rattle.capi.proofs.lent.leave.Reads as leave-reads
-use Rattle.capi.proofs.numbers.packet_number.Reads as packet-number-reads
 
 built-offer-requires : tie.Need-built-offer-requires
 built-offer-requires c κs = search needs

@@ -3,10 +3,6 @@ use Rattle.capi.specs.Packets.{buildOfferReplyCall}
 use borrow.Author.Needs.{needs}
 use Rattle.capi.proofs.build.cfu_build_offer_reply.Statement.{statement}
 use Rattle.capi.proofs.build.cfu_build_offer_reply.Tie as tie
-use Rattle.capi.proofs.build.cfu_build_offer_reply.Reads as reads
-use Rattle.capi.proofs.build.cfu_build_offer_reply.Lts as lts
-use Rattle.capi.proofs.lent.leave.Reads as leave-reads
-use Rattle.offers.proofs.reply.build_offer_reply.Reads as build-offer-reply-reads
 
 build-offer-reply-requires : tie.Need-build-offer-reply-requires
 build-offer-reply-requires c κs = search needs

@@ -1,17 +1,12 @@
+-- `cfu_build_version_reply` meets its contract: the components are read, and the built packet is left. Assumes nothing.
 use Rattle.capi.proofs.lent.Laws.{built-left}
-use lib.ListN.{length, replicate}
-use mathlib.Core.Path.{_≡_, refl, sym, ap, _∙_}
+use lib.ListN.{length}
+use mathlib.Core.Path.{_≡_}
 use Rattle.capi.specs.Packets.{buildVersionReplyCall}
 use borrow.Author.Tests.{eq-eqb, ne-eqb}
 use borrow.Author.Needs.{needs}
 use Rattle.capi.proofs.build.cfu_build_version_reply.Statement.{statement}
 use Rattle.capi.proofs.build.cfu_build_version_reply.Tie as tie
-use Rattle.capi.proofs.build.cfu_build_version_reply.Reads as reads
-use Rattle.capi.proofs.build.cfu_build_version_reply.Lts as lts
-use Rattle.capi.proofs.lent.leave.Reads as leave-reads
-use Rattle.capi.proofs.numbers.packet_number.Reads as packet-number-reads
-use Rattle.versions.proofs.build_version_reply.Reads as build-version-reply-reads
-use Rattle.versions_bytes.proofs.read_components.Reads as read-components-reads
 
 returns : tie.Need-returns
 unfolding buildVersionReplyCall

@@ -2,9 +2,6 @@
 use borrow.Author.Needs.{needs}
 use Rattle.capi.proofs.build.fields.Statement.{statement}
 use Rattle.capi.proofs.build.fields.Tie as tie
-use Rattle.capi.proofs.build.fields.Reads as reads
-use Rattle.capi.proofs.build.fields.Lts as lts
-use Rattle.wire.proofs.version.Version.new.Reads as new-reads
 
 new-requires : tie.Need-new-requires
 new-requires c κs = search needs

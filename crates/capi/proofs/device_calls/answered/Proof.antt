@@ -1,19 +1,12 @@
+-- `device_calls::answered` meets its contract: the replies are copied, and the record is stored where the call is served. Assumes nothing.
 use Rattle.capi.specs.Device.{Left}
 use Rattle.capi.proofs.device_calls.Laws.{stored-by}
 use Rattle.wire.proofs.words.Copies.{copy-same}
-use lib.ListN.{length, replicate}
-use mathlib.Core.Path.{_≡_, refl, sym, ap, _∙_}
+use lib.ListN.{length}
+use mathlib.Core.Path.{_≡_, sym, ap, _∙_}
 use borrow.Author.Needs.{needs}
 use Rattle.capi.proofs.device_calls.answered.Statement.{statement}
 use Rattle.capi.proofs.device_calls.answered.Tie as tie
-use Rattle.capi.proofs.device_calls.answered.Reads as reads
-use Rattle.capi.proofs.device_calls.answered.Lts as lts
-use Rattle.capi.proofs.device_calls.count_of.Reads as count-of-reads
-use Rattle.capi.proofs.device_calls.replies_of.Reads as replies-of-reads
-use Rattle.capi.proofs.lent.store.Reads as store-reads
-use Rattle.capi.proofs.numbers.device_number.Reads as device-number-reads
-use Rattle.device_bytes.proofs.device_bytes.Reads as device-bytes-reads
-use Rattle.wire.proofs.words.copy.Reads as copy-reads
 
 replies-of-requires : tie.Need-replies-of-requires
 replies-of-requires c κs = search needs

@@ -1,13 +1,9 @@
+-- `cfu_device_content` meets its contract: C1, C3, or the answer. Assumes nothing.
 use Rattle.capi.specs.Device.{contentCall, contentCallStaging}
 use borrow.Author.Tests.{eq-eqb, ne-eqb}
 use borrow.Author.Needs.{needs}
 use Rattle.capi.proofs.device_calls.cfu_device_content.Statement.{statement}
 use Rattle.capi.proofs.device_calls.cfu_device_content.Tie as tie
-use Rattle.capi.proofs.device_calls.cfu_device_content.Reads as reads
-use Rattle.capi.proofs.device_calls.cfu_device_content.Lts as lts
-use Rattle.capi.proofs.device_calls.answered.Reads as answered-reads
-use Rattle.device.proofs.record.Device.content.Reads as content-reads
-use Rattle.device_bytes.proofs.read_device.Reads as read-device-reads
 
 returns : tie.Need-returns
 unfolding contentCall contentCallStaging

@@ -1,13 +1,9 @@
+-- `cfu_device_offer` meets its contract: C1, C3, or the answer. Assumes nothing.
 use Rattle.capi.specs.Device.{offerCall}
 use borrow.Author.Tests.{eq-eqb, ne-eqb}
 use borrow.Author.Needs.{needs}
 use Rattle.capi.proofs.device_calls.cfu_device_offer.Statement.{statement}
 use Rattle.capi.proofs.device_calls.cfu_device_offer.Tie as tie
-use Rattle.capi.proofs.device_calls.cfu_device_offer.Reads as reads
-use Rattle.capi.proofs.device_calls.cfu_device_offer.Lts as lts
-use Rattle.capi.proofs.device_calls.answered.Reads as answered-reads
-use Rattle.device.proofs.record.Device.offer.Reads as offer-reads
-use Rattle.device_bytes.proofs.read_device.Reads as read-device-reads
 
 returns : tie.Need-returns
 unfolding offerCall

@@ -1,18 +1,12 @@
+-- `cfu_device_reset` meets its contract: C1, or the reset. Assumes nothing.
 use Rattle.capi.proofs.device_calls.Laws.{stored-by}
-use lib.ListN.{length, replicate}
-use mathlib.Core.Path.{_≡_, refl, sym, ap, _∙_}
+use lib.ListN.{length}
+use mathlib.Core.Path.{_≡_, sym, _∙_}
 use Rattle.capi.specs.Device.{resetCall}
 use borrow.Author.Tests.{eq-eqb, ne-eqb}
 use borrow.Author.Needs.{needs}
 use Rattle.capi.proofs.device_calls.cfu_device_reset.Statement.{statement}
 use Rattle.capi.proofs.device_calls.cfu_device_reset.Tie as tie
-use Rattle.capi.proofs.device_calls.cfu_device_reset.Reads as reads
-use Rattle.capi.proofs.device_calls.cfu_device_reset.Lts as lts
-use Rattle.capi.proofs.lent.store.Reads as store-reads
-use Rattle.capi.proofs.numbers.device_number.Reads as device-number-reads
-use Rattle.device.proofs.record.Device.reset.Reads as reset-reads
-use Rattle.device_bytes.proofs.device_bytes.Reads as device-bytes-reads
-use Rattle.device_bytes.proofs.read_device.Reads as read-device-reads
 
 returns : tie.Need-returns
 unfolding resetCall

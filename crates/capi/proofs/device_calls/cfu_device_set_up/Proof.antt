@@ -1,18 +1,12 @@
+-- `cfu_device_set_up` meets its contract: C1, C2, or set-up. Assumes nothing.
 use Rattle.capi.proofs.device_calls.Laws.{stored-made}
-use lib.ListN.{length, replicate}
-use mathlib.Core.Path.{_≡_, refl, sym, ap, _∙_}
+use lib.ListN.{length}
+use mathlib.Core.Path.{_≡_, sym, _∙_}
 use Rattle.capi.specs.Device.{setUpCall}
 use borrow.Author.Tests.{eq-eqb, ne-eqb}
 use borrow.Author.Needs.{needs}
 use Rattle.capi.proofs.device_calls.cfu_device_set_up.Statement.{statement}
 use Rattle.capi.proofs.device_calls.cfu_device_set_up.Tie as tie
-use Rattle.capi.proofs.device_calls.cfu_device_set_up.Reads as reads
-use Rattle.capi.proofs.device_calls.cfu_device_set_up.Lts as lts
-use Rattle.capi.proofs.lent.store.Reads as store-reads
-use Rattle.capi.proofs.numbers.setup_number.Reads as setup-number-reads
-use Rattle.device.proofs.setup.set_up.Reads as set-up-reads
-use Rattle.device_bytes.proofs.device_bytes.Reads as device-bytes-reads
-use Rattle.device_bytes.proofs.read_list.Reads as read-list-reads
 
 returns : tie.Need-returns
 unfolding setUpCall

@@ -1,16 +1,11 @@
-use lib.ListN.{length, replicate}
-use mathlib.Core.Path.{_≡_, refl, sym, ap, _∙_}
+-- `cfu_device_version_reply` meets its contract: C1, or the reply, which is left. Assumes nothing.
+use lib.ListN.{length}
+use mathlib.Core.Path.{_≡_}
 use Rattle.capi.specs.Device.{versionsCall}
 use borrow.Author.Tests.{eq-eqb, ne-eqb}
 use borrow.Author.Needs.{needs}
 use Rattle.capi.proofs.device_calls.cfu_device_version_reply.Statement.{statement}
 use Rattle.capi.proofs.device_calls.cfu_device_version_reply.Tie as tie
-use Rattle.capi.proofs.device_calls.cfu_device_version_reply.Reads as reads
-use Rattle.capi.proofs.device_calls.cfu_device_version_reply.Lts as lts
-use Rattle.capi.proofs.lent.leave.Reads as leave-reads
-use Rattle.capi.proofs.numbers.device_number.Reads as device-number-reads
-use Rattle.device.proofs.record.Device.version_reply.Reads as version-reply-reads
-use Rattle.device_bytes.proofs.read_device.Reads as read-device-reads
 
 returns : tie.Need-returns
 unfolding versionsCall

@@ -1,8 +1,7 @@
+-- `device_calls::count_of` meets its contract: by what is due and what is owed. Assumes nothing.
 use borrow.Author.Needs.{needs}
 use Rattle.capi.proofs.device_calls.count_of.Statement.{statement}
 use Rattle.capi.proofs.device_calls.count_of.Tie as tie
-use Rattle.capi.proofs.device_calls.count_of.Reads as reads
-use Rattle.capi.proofs.device_calls.count_of.Lts as lts
 
 enum-told : tie.Need-enum-told
 enum-told c = search needs

@@ -1,13 +1,11 @@
+-- `device_calls::joined` meets its contract: two copies, one after the other. Assumes nothing.
 use Rattle.capi.proofs.device_calls.Laws.{joined-as}
-use mathlib.Core.Path.{_≡_, refl, sym, ap, _∙_}
+use mathlib.Core.Path.{_≡_, refl}
 use native.Mathlib.Omega.{arith}
 use lib.ListN.{length, replicate, length-append}
 use borrow.Author.Needs.{needs}
 use Rattle.capi.proofs.device_calls.joined.Statement.{statement}
 use Rattle.capi.proofs.device_calls.joined.Tie as tie
-use Rattle.capi.proofs.device_calls.joined.Reads as reads
-use Rattle.capi.proofs.device_calls.joined.Lts as lts
-use Rattle.wire.proofs.words.copy.Reads as copy-reads
 
 sub-copy : tie.Need-sub-copy
 sub-copy c = search needs

@@ -1,14 +1,11 @@
+-- `device_calls::replies_of` meets its contract: by what is due and what is owed. Assumes nothing.
 use Rattle.device.specs.Refusals.{readyBytes}
 use Rattle.capi.proofs.device_calls.Laws.{none-sent, one-sent, two-sent}
-use lib.ListN.{length, replicate}
-use mathlib.Core.Path.{_≡_, refl, sym, ap, _∙_}
+use lib.ListN.{length}
+use mathlib.Core.Path.{_≡_, refl, _∙_}
 use borrow.Author.Needs.{needs}
 use Rattle.capi.proofs.device_calls.replies_of.Statement.{statement}
 use Rattle.capi.proofs.device_calls.replies_of.Tie as tie
-use Rattle.capi.proofs.device_calls.replies_of.Reads as reads
-use Rattle.capi.proofs.device_calls.replies_of.Lts as lts
-use Rattle.capi.proofs.device_calls.joined.Reads as joined-reads
-use Rattle.offers.proofs.reply.build_offer_reply.Reads as build-offer-reply-reads
 
 enum-told : tie.Need-enum-told
 enum-told c = search needs

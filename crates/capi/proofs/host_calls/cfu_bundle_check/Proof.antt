@@ -1,17 +1,12 @@
+-- `cfu_bundle_check` meets its contract: C3, or the check, whose contents are left. Assumes nothing.
 use Rattle.wire.proofs.words.Copies.{copy-same}
-use lib.ListN.{length, replicate}
-use mathlib.Core.Path.{_≡_, refl, sym, ap, _∙_}
+use lib.ListN.{length}
+use mathlib.Core.Path.{_≡_, sym, _∙_}
 use Rattle.capi.specs.Host.{checkCall}
 use borrow.Author.Tests.{eq-eqb, ne-eqb}
 use borrow.Author.Needs.{needs}
 use Rattle.capi.proofs.host_calls.cfu_bundle_check.Statement.{statement}
 use Rattle.capi.proofs.host_calls.cfu_bundle_check.Tie as tie
-use Rattle.capi.proofs.host_calls.cfu_bundle_check.Reads as reads
-use Rattle.capi.proofs.host_calls.cfu_bundle_check.Lts as lts
-use Rattle.bundle.proofs.check.Reads as check-reads
-use Rattle.capi.proofs.numbers.bundle_number.Reads as bundle-number-reads
-use Rattle.host_bytes.proofs.contents_bytes.Reads as contents-bytes-reads
-use Rattle.wire.proofs.words.copy.Reads as copy-reads
 
 returns : tie.Need-returns
 unfolding checkCall

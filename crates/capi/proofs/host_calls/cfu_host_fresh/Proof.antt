@@ -1,18 +1,14 @@
+-- `cfu_host_fresh` meets its contract: C1, or the fresh record. Assumes nothing.
 use Rattle.host_bytes.specs.Layout.{hostBytes}
 use Rattle.capi.specs.Device.{leaves}
 use Rattle.capi.proofs.lent.Laws.{stored}
-use lib.ListN.{length, replicate}
-use mathlib.Core.Path.{_≡_, refl, sym, ap, _∙_}
+use lib.ListN.{length}
+use mathlib.Core.Path.{_≡_, sym, ap, _∙_}
 use Rattle.capi.specs.Host.{freshCall}
 use borrow.Author.Tests.{eq-eqb, ne-eqb}
 use borrow.Author.Needs.{needs}
 use Rattle.capi.proofs.host_calls.cfu_host_fresh.Statement.{statement}
 use Rattle.capi.proofs.host_calls.cfu_host_fresh.Tie as tie
-use Rattle.capi.proofs.host_calls.cfu_host_fresh.Reads as reads
-use Rattle.capi.proofs.host_calls.cfu_host_fresh.Lts as lts
-use Rattle.capi.proofs.lent.store.Reads as store-reads
-use Rattle.host.proofs.record.Host.fresh.Reads as fresh-reads
-use Rattle.host_bytes.proofs.host_bytes.Reads as host-bytes-reads
 
 returns : tie.Need-returns
 unfolding freshCall

@@ -1,15 +1,9 @@
+-- `cfu_host_report` meets its contract: C1, or the report. Assumes nothing.
 use Rattle.capi.specs.Host.{reportCall}
 use borrow.Author.Tests.{eq-eqb, ne-eqb}
 use borrow.Author.Needs.{needs}
 use Rattle.capi.proofs.host_calls.cfu_host_report.Statement.{statement}
 use Rattle.capi.proofs.host_calls.cfu_host_report.Tie as tie
-use Rattle.capi.proofs.host_calls.cfu_host_report.Reads as reads
-use Rattle.capi.proofs.host_calls.cfu_host_report.Lts as lts
-use Rattle.capi.proofs.host_calls.report_number.Reads as report-number-reads
-use Rattle.capi.proofs.numbers.ending_number.Reads as ending-number-reads
-use Rattle.capi.proofs.numbers.ending_status.Reads as ending-status-reads
-use Rattle.host.proofs.record.Host.report.Reads as report-reads
-use Rattle.host_bytes.proofs.read_host.Reads as read-host-reads
 
 returns : tie.Need-returns
 unfolding reportCall

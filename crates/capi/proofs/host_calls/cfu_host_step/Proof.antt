@@ -1,14 +1,9 @@
+-- `cfu_host_step` meets its contract: C1, C3, or the step. Assumes nothing.
 use Rattle.capi.specs.Host.{stepCall}
 use borrow.Author.Tests.{eq-eqb, ne-eqb}
 use borrow.Author.Needs.{needs}
 use Rattle.capi.proofs.host_calls.cfu_host_step.Statement.{statement}
 use Rattle.capi.proofs.host_calls.cfu_host_step.Tie as tie
-use Rattle.capi.proofs.host_calls.cfu_host_step.Reads as reads
-use Rattle.capi.proofs.host_calls.cfu_host_step.Lts as lts
-use Rattle.capi.proofs.host_calls.refused.Reads as refused-reads
-use Rattle.capi.proofs.host_calls.stepped.Reads as stepped-reads
-use Rattle.host.proofs.record.Host.step.Reads as step-reads
-use Rattle.host_bytes.proofs.read_host.Reads as read-host-reads
 
 refused-requires : tie.Need-refused-requires
 refused-requires c κs = search needs

@@ -1,21 +1,12 @@
+-- `cfu_host_step_checked` meets its contract: C1, C3, or the inner step, whose cursor is kept. Assumes nothing.
 use Rattle.capi.proofs.host_calls.Laws.{cursor-kept}
-use lib.ListN.{length, replicate}
-use mathlib.Core.Path.{_≡_, refl, sym, ap, _∙_}
+use lib.ListN.{length}
+use mathlib.Core.Path.{_≡_, refl}
 use Rattle.capi.specs.Host.{stepCheckedCall, stepCheckedContents}
 use borrow.Author.Tests.{eq-eqb, ne-eqb}
 use borrow.Author.Needs.{needs}
 use Rattle.capi.proofs.host_calls.cfu_host_step_checked.Statement.{statement}
 use Rattle.capi.proofs.host_calls.cfu_host_step_checked.Tie as tie
-use Rattle.capi.proofs.host_calls.cfu_host_step_checked.Reads as reads
-use Rattle.capi.proofs.host_calls.cfu_host_step_checked.Lts as lts
-use Rattle.capi.proofs.host_calls.host_over.Reads as host-over-reads
-use Rattle.capi.proofs.host_calls.refused.Reads as refused-reads
-use Rattle.capi.proofs.host_calls.stepped.Reads as stepped-reads
-use Rattle.host.proofs.inner.inner_step.Reads as inner-step-reads
-use Rattle.host_bytes.proofs.read_contents.Reads as read-contents-reads
-use Rattle.host_bytes.proofs.read_cursor.Reads as read-cursor-reads
-use Rattle.wire.proofs.words.bytes64.Reads as bytes64-reads
-use Rattle.wire.proofs.words.copy.Reads as copy-reads
 
 refused-requires : tie.Need-refused-requires
 refused-requires c κs = search needs

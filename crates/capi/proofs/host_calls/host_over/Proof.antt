@@ -1,10 +1,7 @@
+-- `host_calls::host_over` meets its contract: the test, and each answer. Assumes nothing.
 use borrow.Author.Needs.{needs}
 use Rattle.capi.proofs.host_calls.host_over.Statement.{statement}
 use Rattle.capi.proofs.host_calls.host_over.Tie as tie
-use Rattle.capi.proofs.host_calls.host_over.Reads as reads
-use Rattle.capi.proofs.host_calls.host_over.Lts as lts
-use Rattle.host_bytes.proofs.lost_host.Reads as lost-host-reads
-use Rattle.host_bytes.proofs.read_host.Reads as read-host-reads
 
 read-host-requires : tie.Need-read-host-requires
 read-host-requires c κs = search needs

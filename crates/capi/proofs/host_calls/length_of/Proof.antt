@@ -1,11 +1,10 @@
-use lib.ListN.{length, replicate}
-use mathlib.Core.Path.{_≡_, refl, sym, ap, _∙_}
+-- `host_calls::length_of` meets its contract: by what is sent. Assumes nothing.
+use lib.ListN.{length}
+use mathlib.Core.Path.{_≡_}
 use Rattle.capi.proofs.host_calls.Laws.{sent-none, sent-short, sent-long}
 use borrow.Author.Needs.{needs}
 use Rattle.capi.proofs.host_calls.length_of.Statement.{statement}
 use Rattle.capi.proofs.host_calls.length_of.Tie as tie
-use Rattle.capi.proofs.host_calls.length_of.Reads as reads
-use Rattle.capi.proofs.host_calls.length_of.Lts as lts
 
 enum-told : tie.Need-enum-told
 enum-told c = search needs

@@ -1,9 +1,8 @@
+-- `host_calls::report_number` meets its contract: the test, and each answer. Assumes nothing.
 use borrow.Author.Tests.{le-leb, lt-leb}
 use borrow.Author.Needs.{needs}
 use Rattle.capi.proofs.host_calls.report_number.Statement.{statement}
 use Rattle.capi.proofs.host_calls.report_number.Tie as tie
-use Rattle.capi.proofs.host_calls.report_number.Reads as reads
-use Rattle.capi.proofs.host_calls.report_number.Lts as lts
 
 add-result : tie.Need-add-result
 add-result c = search needs

@@ -1,19 +1,12 @@
+-- `host_calls::stepped` meets its contract: the packet is copied, and the record is stored where the step is served. Assumes nothing.
 use Rattle.capi.specs.Device.{Left}
 use Rattle.capi.proofs.host_calls.Laws.{stored-step}
 use Rattle.wire.proofs.words.Copies.{copy-same}
-use lib.ListN.{length, replicate}
-use mathlib.Core.Path.{_≡_, refl, sym, ap, _∙_}
+use lib.ListN.{length}
+use mathlib.Core.Path.{_≡_, sym, ap, _∙_}
 use borrow.Author.Needs.{needs}
 use Rattle.capi.proofs.host_calls.stepped.Statement.{statement}
 use Rattle.capi.proofs.host_calls.stepped.Tie as tie
-use Rattle.capi.proofs.host_calls.stepped.Reads as reads
-use Rattle.capi.proofs.host_calls.stepped.Lts as lts
-use Rattle.capi.proofs.host_calls.length_of.Reads as length-of-reads
-use Rattle.capi.proofs.lent.store.Reads as store-reads
-use Rattle.capi.proofs.numbers.step_entry.Reads as step-entry-reads
-use Rattle.capi.proofs.numbers.step_number.Reads as step-number-reads
-use Rattle.host_bytes.proofs.host_bytes.Reads as host-bytes-reads
-use Rattle.wire.proofs.words.copy.Reads as copy-reads
 
 slice-aggregate-copy : tie.Need-slice-aggregate-copy
 slice-aggregate-copy c = search needs

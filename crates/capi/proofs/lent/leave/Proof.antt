@@ -3,9 +3,6 @@ use borrow.Author.Tests.{eq-eqb, ne-eqb}
 use borrow.Author.Needs.{needs}
 use Rattle.capi.proofs.lent.leave.Statement.{statement}
 use Rattle.capi.proofs.lent.leave.Tie as tie
-use Rattle.capi.proofs.lent.leave.Reads as reads
-use Rattle.capi.proofs.lent.leave.Lts as lts
-use Rattle.wire.proofs.words.copy.Reads as copy-reads
 
 copy-requires : tie.Need-copy-requires
 copy-requires c κs = search needs

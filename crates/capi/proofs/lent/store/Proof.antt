@@ -1,10 +1,8 @@
+-- `lent::store` meets its contract: the test, and each answer. Assumes nothing.
 use borrow.Author.Tests.{eq-eqb, ne-eqb}
 use borrow.Author.Needs.{needs}
 use Rattle.capi.proofs.lent.store.Statement.{statement}
 use Rattle.capi.proofs.lent.store.Tie as tie
-use Rattle.capi.proofs.lent.store.Reads as reads
-use Rattle.capi.proofs.lent.store.Lts as lts
-use Rattle.wire.proofs.words.copy.Reads as copy-reads
 
 copy-requires : tie.Need-copy-requires
 copy-requires c κs = search needs

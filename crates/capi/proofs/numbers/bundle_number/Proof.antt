@@ -1,11 +1,9 @@
+-- `numbers::bundle_number` meets its contract: by the number of the row. Assumes nothing.
 use Rattle.capi.proofs.numbers.Laws.{number-of}
 use borrow.Author.Tests.{eq-eqb, ne-eqb}
 use borrow.Author.Needs.{needs}
 use Rattle.capi.proofs.numbers.bundle_number.Statement.{statement}
 use Rattle.capi.proofs.numbers.bundle_number.Tie as tie
-use Rattle.capi.proofs.numbers.bundle_number.Reads as reads
-use Rattle.capi.proofs.numbers.bundle_number.Lts as lts
-use Rattle.bundle.proofs.report.row_number.Reads as row-number-reads
 
 row-number-requires : tie.Need-row-number-requires
 row-number-requires c κs = search needs

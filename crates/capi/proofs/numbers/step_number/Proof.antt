@@ -1,9 +1,7 @@
+-- `numbers::step_number` meets its contract: by the refusal. Assumes nothing.
 use borrow.Author.Needs.{needs}
 use Rattle.capi.proofs.numbers.step_number.Statement.{statement}
 use Rattle.capi.proofs.numbers.step_number.Tie as tie
-use Rattle.capi.proofs.numbers.step_number.Reads as reads
-use Rattle.capi.proofs.numbers.step_number.Lts as lts
-use Rattle.bundle.proofs.report.row_number.Reads as row-number-reads
 
 enum-told : tie.Need-enum-told
 enum-told c = search needs

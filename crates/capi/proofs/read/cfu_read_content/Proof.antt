@@ -1,3 +1,4 @@
+-- `cfu_read_content` meets its contract: the fields, and the data that is left. Assumes nothing.
 use mathlib.Core.Path.{_≡_, sym, _∙_}
 use Rattle.wire.proofs.words.Copies.{copy-same}
 use lib.ListN.{length}
@@ -6,11 +7,6 @@ use borrow.Author.Tests.{eq-eqb, ne-eqb}
 use borrow.Author.Needs.{needs}
 use Rattle.capi.proofs.read.cfu_read_content.Statement.{statement}
 use Rattle.capi.proofs.read.cfu_read_content.Tie as tie
-use Rattle.capi.proofs.read.cfu_read_content.Reads as reads
-use Rattle.capi.proofs.read.cfu_read_content.Lts as lts
-use Rattle.capi.proofs.numbers.packet_number.Reads as packet-number-reads
-use Rattle.contents.proofs.content.read_content.Reads as read-content-reads
-use Rattle.wire.proofs.words.copy.Reads as copy-reads
 
 returns : tie.Need-returns
 unfolding readContentCall

@@ -1,11 +1,8 @@
+-- `cfu_read_content_reply` meets its contract: the fields. Assumes nothing.
 use Rattle.capi.specs.Packets.{readContentReplyCall}
 use borrow.Author.Needs.{needs}
 use Rattle.capi.proofs.read.cfu_read_content_reply.Statement.{statement}
 use Rattle.capi.proofs.read.cfu_read_content_reply.Tie as tie
-use Rattle.capi.proofs.read.cfu_read_content_reply.Reads as reads
-use Rattle.capi.proofs.read.cfu_read_content_reply.Lts as lts
-use Rattle.capi.proofs.numbers.packet_number.Reads as packet-number-reads
-use Rattle.contents.proofs.reply.read_content_reply.Reads as read-content-reply-reads
 
 read-content-reply-requires : tie.Need-read-content-reply-requires
 read-content-reply-requires c κs = search needs

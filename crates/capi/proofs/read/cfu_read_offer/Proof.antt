@@ -1,11 +1,8 @@
+-- `cfu_read_offer` meets its contract: the packet that is read, in numbers. Assumes nothing.
 use Rattle.capi.specs.Packets.{readOfferCall}
 use borrow.Author.Needs.{needs}
 use Rattle.capi.proofs.read.cfu_read_offer.Statement.{statement}
 use Rattle.capi.proofs.read.cfu_read_offer.Tie as tie
-use Rattle.capi.proofs.read.cfu_read_offer.Reads as reads
-use Rattle.capi.proofs.read.cfu_read_offer.Lts as lts
-use Rattle.capi.proofs.read.packet_fields.Reads as packet-fields-reads
-use Rattle.offers.proofs.kind.read_offer_packet.Reads as read-offer-packet-reads
 
 read-offer-packet-requires : tie.Need-read-offer-packet-requires
 read-offer-packet-requires c κs = search needs

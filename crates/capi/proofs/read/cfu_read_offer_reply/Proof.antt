@@ -1,11 +1,8 @@
+-- `cfu_read_offer_reply` meets its contract: the fields. Assumes nothing.
 use Rattle.capi.specs.Packets.{readOfferReplyCall}
 use borrow.Author.Needs.{needs}
 use Rattle.capi.proofs.read.cfu_read_offer_reply.Statement.{statement}
 use Rattle.capi.proofs.read.cfu_read_offer_reply.Tie as tie
-use Rattle.capi.proofs.read.cfu_read_offer_reply.Reads as reads
-use Rattle.capi.proofs.read.cfu_read_offer_reply.Lts as lts
-use Rattle.capi.proofs.numbers.packet_number.Reads as packet-number-reads
-use Rattle.offers.proofs.reply.read_offer_reply.Reads as read-offer-reply-reads
 
 read-offer-reply-requires : tie.Need-read-offer-reply-requires
 read-offer-reply-requires c κs = search needs

@@ -1,17 +1,12 @@
+-- `cfu_read_version_reply` meets its contract: the fields, and the components that are left. Assumes nothing.
 use Rattle.wire.proofs.words.Copies.{copy-same}
-use lib.ListN.{length, replicate}
-use mathlib.Core.Path.{_≡_, refl, sym, ap, _∙_}
+use lib.ListN.{length}
+use mathlib.Core.Path.{_≡_, sym, _∙_}
 use Rattle.capi.specs.Packets.{readVersionReplyCall}
 use borrow.Author.Tests.{eq-eqb, ne-eqb}
 use borrow.Author.Needs.{needs}
 use Rattle.capi.proofs.read.cfu_read_version_reply.Statement.{statement}
 use Rattle.capi.proofs.read.cfu_read_version_reply.Tie as tie
-use Rattle.capi.proofs.read.cfu_read_version_reply.Reads as reads
-use Rattle.capi.proofs.read.cfu_read_version_reply.Lts as lts
-use Rattle.capi.proofs.numbers.packet_number.Reads as packet-number-reads
-use Rattle.versions.proofs.read_version_reply.Reads as read-version-reply-reads
-use Rattle.versions_bytes.proofs.components_bytes.Reads as components-bytes-reads
-use Rattle.wire.proofs.words.copy.Reads as copy-reads
 
 returns : tie.Need-returns
 unfolding readVersionReplyCall

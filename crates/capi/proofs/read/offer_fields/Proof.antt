@@ -1,10 +1,7 @@
+-- `read::offer_fields` meets its contract: each field. Assumes nothing.
 use borrow.Author.Needs.{needs}
 use Rattle.capi.proofs.read.offer_fields.Statement.{statement}
 use Rattle.capi.proofs.read.offer_fields.Tie as tie
-use Rattle.capi.proofs.read.offer_fields.Reads as reads
-use Rattle.capi.proofs.read.offer_fields.Lts as lts
-use Rattle.capi.proofs.read.flag.Reads as flag-reads
-use Rattle.capi.proofs.read.parts.Reads as parts-reads
 
 parts-requires : tie.Need-parts-requires
 parts-requires c κs = search needs

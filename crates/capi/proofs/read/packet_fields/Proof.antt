@@ -1,12 +1,7 @@
+-- `read::packet_fields` meets its contract: by the kind. Assumes nothing.
 use borrow.Author.Needs.{needs}
 use Rattle.capi.proofs.read.packet_fields.Statement.{statement}
 use Rattle.capi.proofs.read.packet_fields.Tie as tie
-use Rattle.capi.proofs.read.packet_fields.Reads as reads
-use Rattle.capi.proofs.read.packet_fields.Lts as lts
-use Rattle.capi.proofs.read.no_offer.Reads as no-offer-reads
-use Rattle.capi.proofs.read.no_signal.Reads as no-signal-reads
-use Rattle.capi.proofs.read.offer_fields.Reads as offer-fields-reads
-use Rattle.capi.proofs.read.signal_fields.Reads as signal-fields-reads
 
 enum-told : tie.Need-enum-told
 enum-told c = search needs

@@ -1,11 +1,7 @@
+-- `read::parts` meets its contract: each part of the version. Assumes nothing.
 use borrow.Author.Needs.{needs}
 use Rattle.capi.proofs.read.parts.Statement.{statement}
 use Rattle.capi.proofs.read.parts.Tie as tie
-use Rattle.capi.proofs.read.parts.Reads as reads
-use Rattle.capi.proofs.read.parts.Lts as lts
-use Rattle.wire.proofs.version.Version.major.Reads as major-reads
-use Rattle.wire.proofs.version.Version.minor.Reads as minor-reads
-use Rattle.wire.proofs.version.Version.variant.Reads as variant-reads
 
 major-requires : tie.Need-major-requires
 major-requires c κs = search needs

@@ -231,7 +231,7 @@ static uint32_t show_device(const struct device *d)
  */
 static uint32_t exchange(struct device *d, const uint8_t *packet, size_t length, uint8_t *reply, size_t *reply_len)
 {
-    uint8_t due[CFU_REPLIES_SIZE];
+    uint8_t due[CFU_REPLIES_SIZE] = {0};
     cfu_replies r = length == CFU_SHORT_SIZE
                         ? cfu_device_offer(d->record, sizeof d->record, d->staging, d->staging_len, packet, length, due, sizeof due)
                         : cfu_device_content(d->record, sizeof d->record, d->staging, d->staging_len, packet, length, due, sizeof due);
@@ -318,6 +318,11 @@ static void tell_offer_packet(struct progress *p, const struct bundle *b, const 
 {
     cfu_offer_packet sent = cfu_read_offer(packet, CFU_SHORT_SIZE);
     cfu_offer_reply got = cfu_read_offer_reply(reply, reply_len);
+    const char *answer = got.number == CFU_SERVED ? WORDS(OFFER_STATUS, got.status) : "no reply";
+    if (sent.kind == CFU_KIND_INFORMATION && sent.signal.code == CFU_INFO_START_OFFER_LIST) {
+        end_line(p);
+        printf("pass %u\n", (unsigned)pass);
+    }
     if (p->packets) {
         print_bytes("->", packet, CFU_SHORT_SIZE);
         if (sent.kind == CFU_KIND_OFFER)
@@ -327,19 +332,15 @@ static void tell_offer_packet(struct progress *p, const struct bundle *b, const 
         else
             printf("extended: notify on ready\n");
         print_bytes("<-", reply, reply_len);
-        printf("%s\n", got.number == CFU_SERVED ? WORDS(OFFER_STATUS, got.status) : "no reply");
-    }
-    if (sent.kind == CFU_KIND_INFORMATION && sent.signal.code == CFU_INFO_START_OFFER_LIST) {
-        end_line(p);
-        printf("pass %u\n", (unsigned)pass);
+        printf("%s\n", answer);
     }
     if (sent.kind != CFU_KIND_OFFER)
         return;
     for (p->entry = 1; p->entry < b->count && offer_of(b, p->entry).id != sent.offer.id;)
         p->entry++;
     end_line(p);
-    printf("  offer %u: %s", (unsigned)p->entry, WORDS(OFFER_STATUS, got.status));
-    if (got.status == CFU_OFFER_SKIP)
+    printf("  offer %u: %s", (unsigned)p->entry, answer);
+    if (got.number == CFU_SERVED && got.status == CFU_OFFER_SKIP)
         printf(": what it needs is not there");
     if (got.status == CFU_OFFER_REJECT)
         printf(": %s", WORDS(REASONS, got.reason));

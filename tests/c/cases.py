@@ -126,7 +126,7 @@ def rows(command, work, name, data, text):
     got, out, err = ran(command, [path])
     printed = out.splitlines()
     expected = text.splitlines()
-    head = printed[0].endswith(expected[0])
+    head = printed[:1] and printed[0].endswith(expected[0])
     offers = [re.sub(r"^  offer \d: component (\d+) to (\S+?),.* (records \d+)$", r"\1 \2 \3", item) for item in printed[1:len(expected)]]
     checked(name, got in (ALL, NOT_ALL, ENDED) and head and offers == expected[1:] and err == "", f"status {got}; {err}{out}")
 

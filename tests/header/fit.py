@@ -142,6 +142,25 @@ def expected_numbers():
     return out
 
 
+# Places and sizes that the header's comments give, and the constants that they are
+
+LAYOUTS = (
+    (r"the list that set-up takes: seven times (\d+) ", ["LISTED_SIZE"]),
+    (r"the components of a version reply: seven times (\d+) ", ["RUNNING_SIZE"]),
+    (r"\n \* +(\d+)  seven times (\d+) bytes: id \(1\), running version", ["PARTS_START", "PART_SIZE"]),
+    (r"the 16 bytes of the bundle at (\d+) \+ (\d+) i", ["HEAD", "ENTRY"]),
+)
+
+
+def hold_layouts(text):
+    known = spec_constants("capi", "device_bytes", "host_bytes", "bundle")
+    for pattern, names in LAYOUTS:
+        match = re.search(pattern, text)
+        given = [int(number) for number in match.groups()] if match else None
+        if given != [known[name] for name in names]:
+            misfit(f"{', '.join(names)}: the header's comment has {given}, specs has {[known[name] for name in names]}")
+
+
 # What the header declares, and what crates/capi/src exports, in C's words
 
 WIDTHS = {"u8": "uint8_t", "u16": "uint16_t", "u32": "uint32_t", "u64": "uint64_t", "usize": "size_t"}
@@ -234,7 +253,9 @@ def hold(what, ours, theirs):
 
 def main():
     header = sys.argv[1] if len(sys.argv) > 1 else os.path.join(TOP, "include", "cfu.h")
-    numbers, structs, functions = declared(open(header, encoding="utf-8").read())
+    text = open(header, encoding="utf-8").read()
+    numbers, structs, functions = declared(text)
+    hold_layouts(text)
     their_functions, their_structs = exported()
     hold("function", functions, their_functions)
     hold("struct", structs, their_structs)

@@ -53,13 +53,12 @@ fn served(device: Device, channel: Channel, staging: &mut [u8], packet: &[u8]) -
 }
 
 // The host asks which versions run.
-fn versions(device: Device) -> Device {
+fn tell_versions(device: Device) {
     let answer = device.version_reply();
     let packet = answer.packet;
     text(b"versions ");
     show::bytes(&packet);
     text(b"\n");
-    device
 }
 
 // The device was reset: staged versions run.
@@ -70,20 +69,20 @@ fn restarted(device: Device) -> Device {
     next
 }
 
-// A frame of no channel is passed over.
-fn unknown(device: Device) -> Device {
-    text(b"unknown channel\n");
-    device
-}
-
 // One frame, by its channel.
 fn turn(device: Device, staging: &mut [u8], channel: u8, packet: &[u8]) -> Device {
     match channel {
         b'O' => served(device, Channel::Offer, staging, packet),
         b'C' => served(device, Channel::Content, staging, packet),
-        b'V' => versions(device),
+        b'V' => {
+            tell_versions(device);
+            device
+        }
         b'R' => restarted(device),
-        _ => unknown(device),
+        _ => {
+            text(b"unknown channel\n");
+            device
+        }
     }
 }
 
@@ -92,23 +91,22 @@ fn wide(n: u8) -> usize {
     n as usize
 }
 
-// The loop: a frame comes, what is due goes out, and the next record is kept. It ends where the input ends.
-fn serve(start: Device, staging: &mut [u8]) {
+// The loop: a frame comes into the buffer, what is due goes out, and the next record is kept. It ends where the input ends.
+fn serve(start: Device, staging: &mut [u8], packet: &mut [u8]) {
     let mut device = start;
     let mut turns: u64 = 0;
     while turns < TURNS {
         let mut head = [0u8; 2];
-        let mut packet = [0u8; 255];
         let got = io::read_full(STDIN_FILENO, &mut head);
         if got == 0 {
             return;
         }
         let n = wide(head[1]);
-        if (got < 2) | !read_first(&mut packet, n) {
+        if (got < 2) | !read_first(packet, n) {
             text(b"cut frame\n");
             return;
         }
-        device = turn(device, staging, head[0], show::first(&packet, n));
+        device = turn(device, staging, head[0], show::first(packet, n));
         turns += 1;
     }
 }
@@ -116,6 +114,7 @@ fn serve(start: Device, staging: &mut [u8]) {
 // Set-up, and then the loop.
 fn main() {
     let mut staging = [0u8; 128];
+    let mut packet = [0u8; 255];
     let device = bench(&staging);
-    serve(device, &mut staging);
+    serve(device, &mut staging, &mut packet);
 }

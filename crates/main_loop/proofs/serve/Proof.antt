@@ -1,4 +1,4 @@
--- `serve` is safe, ends with the last turn at the latest, and keeps the buffer's length. Assumes nothing.
+-- `serve` is safe, ends with the last turn at the latest, and keeps the length of both buffers. Assumes nothing.
 use mathlib.Core.Path.{_≡_, refl}
 use Prim.Native.Nat.{ℕ, _≤_, _-_}
 use borrow.Author.Needs.{needs}
@@ -11,13 +11,13 @@ abbrev TURNS : ℕ
 TURNS = 0xFFFFFFFFFFFFFFFF
 
 abbrev Inv-loop : tie.InvT-loop
-Inv-loop staging₀ device₀ turns₀ t9 staging device turns = (length staging ≡ length staging₀) × (turns ≤ TURNS)
+Inv-loop staging₀ packet₀ device₀ turns₀ t9 staging packet device turns = (length staging ≡ length staging₀) × (length packet ≡ length packet₀) × (turns ≤ TURNS)
 
 abbrev μ-loop : tie.MeasureT-loop
-μ-loop staging₀ device₀ turns₀ t9 staging device turns = TURNS - turns
+μ-loop staging₀ packet₀ device₀ turns₀ t9 staging packet device turns = TURNS - turns
 
 loop-holds : tie.Need-loop-holds Inv-loop μ-loop
-loop-holds c = (refl, search needs)
+loop-holds c = (refl, refl, search needs)
 
 slice-aggregate-read-full : tie.Need-slice-aggregate-read-full Inv-loop μ-loop
 slice-aggregate-read-full c = search needs
@@ -28,6 +28,9 @@ read-full-requires c κs = search needs
 same-length : tie.Need-same-length Inv-loop μ-loop
 same-length c = search needs
 
+same-length-2 : tie.Need-same-length-2 Inv-loop μ-loop
+same-length-2 c = search needs
+
 returns : tie.Need-returns Inv-loop μ-loop
 returns c = search needs
 
@@ -36,9 +39,6 @@ array-read-wide c = search needs
 
 wide-requires : tie.Need-wide-requires Inv-loop μ-loop
 wide-requires c κs = search needs
-
-slice-aggregate-read-first : tie.Need-slice-aggregate-read-first Inv-loop μ-loop
-slice-aggregate-read-first c = search needs
 
 read-first-requires : tie.Need-read-first-requires Inv-loop μ-loop
 read-first-requires c κs = search needs
@@ -49,17 +49,17 @@ slice-aggregate-text c = search needs
 text-requires : tie.Need-text-requires Inv-loop μ-loop
 text-requires c κs = search needs
 
-same-length-2 : tie.Need-same-length-2 Inv-loop μ-loop
-same-length-2 c = search needs
+same-length-3 : tie.Need-same-length-3 Inv-loop μ-loop
+same-length-3 c = search needs
+
+same-length-4 : tie.Need-same-length-4 Inv-loop μ-loop
+same-length-4 c = search needs
 
 returns-2 : tie.Need-returns-2 Inv-loop μ-loop
 returns-2 c = search needs
 
 array-read-turn : tie.Need-array-read-turn Inv-loop μ-loop
 array-read-turn c = search needs
-
-slice-aggregate-first : tie.Need-slice-aggregate-first Inv-loop μ-loop
-slice-aggregate-first c = search needs
 
 first-requires : tie.Need-first-requires Inv-loop μ-loop
 first-requires c κs = search needs
@@ -76,8 +76,11 @@ loop-less c = search needs
 loop-again : tie.Need-loop-again Inv-loop μ-loop
 loop-again c = search needs
 
-same-length-3 : tie.Need-same-length-3 Inv-loop μ-loop
-same-length-3 c = search needs
+same-length-5 : tie.Need-same-length-5 Inv-loop μ-loop
+same-length-5 c = search needs
+
+same-length-6 : tie.Need-same-length-6 Inv-loop μ-loop
+same-length-6 c = search needs
 
 returns-3 : tie.Need-returns-3 Inv-loop μ-loop
 returns-3 c = search needs
@@ -92,21 +95,22 @@ serve-spec =
     slice-aggregate-read-full
     read-full-requires
     same-length
+    same-length-2
     returns
     array-read-wide
     wide-requires
-    slice-aggregate-read-first
     read-first-requires
     slice-aggregate-text
     text-requires
-    same-length-2
+    same-length-3
+    same-length-4
     returns-2
     array-read-turn
-    slice-aggregate-first
     first-requires
     turn-requires
     add-turns
     loop-less
     loop-again
-    same-length-3
+    same-length-5
+    same-length-6
     returns-3)

@@ -72,6 +72,9 @@ def variants(name):
     return re.findall(r"^    ([A-Z]\d+),", found[0], re.M)
 
 
+# The rooms that say what a lent buffer holds.
+LENT = ("capi", "*_bytes")
+
 NUMBERS = files("capi/specs/Numbers.antt")
 PACKETS = files("capi/specs/Packets.antt")
 
@@ -109,7 +112,7 @@ def expected_numbers():
     def say(name, place, number):
         out.setdefault(name, []).append((place, number))
 
-    lent = spec_constants("capi", "device_bytes", "host_bytes")
+    lent = spec_constants(*LENT)
     for name in ("DEVICE_SIZE", "LIST_SIZE", "HOST_SIZE", "CONTENTS_SIZE", "REPLIES_SIZE", "SHORT_SIZE", "LONG_SIZE", "DATA_SIZE", "COMPONENTS_SIZE", "SERVED"):
         say(name, "specs", lent[name])
     for name in ("VERSIONS_SIZE", "PACKET_SIZE"):
@@ -132,7 +135,7 @@ def expected_numbers():
             if not name.startswith("KIND_") and not name.endswith("BITS"):
                 say(name, f"wire, {place}", number)
     aliases = {theirs: name for name, theirs in own.items()} | {"PACKET_SIZE": "LONG_SIZE"}
-    for name, number in source_constants("capi", "device_bytes", "host_bytes").items():
+    for name, number in source_constants(*LENT).items():
         name = aliases.get(name, name)
         letter = re.fullmatch(r"ROW_([A-Z])", name)
         if letter:
@@ -153,7 +156,7 @@ LAYOUTS = (
 
 
 def hold_layouts(text):
-    known = spec_constants("capi", "device_bytes", "host_bytes", "bundle")
+    known = spec_constants(*LENT, "bundle")
     for pattern, names in LAYOUTS:
         match = re.search(pattern, text)
         given = [int(number) for number in match.groups()] if match else None

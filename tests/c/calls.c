@@ -267,6 +267,7 @@ static void packet_calls(void)
     CHECK(cfu_build_offer_reply(0xA5, 0xE0, 2, shorter + EDGE, 15) == CFU_C3);
 
     CLEAR(bytes, 0x66);
+    CLEAR(longer, 0x33);
     CHECK(cfu_build_content(0xC0, 3, 0x1234, 0x89ABCDEF, AT(bytes), AT(longer)) == CFU_SERVED);
     CHECK(SAME(longer, 0xC0, 3, 0x34, 0x12, 0xEF, 0xCD, 0xAB, 0x89, 0x66, 0x66, 0x66));
     cfu_content c = cfu_read_content(AT(longer), AT(bytes));

@@ -11,13 +11,11 @@ ghost use Rattle.host.specs.Inner.{recordsOn};
 use crate::decide::BUSY_LIMIT;
 use crate::record::Host;
 use crate::record::HostStage;
+use crate::record::PACKET_LIMIT;
 use crate::record::Place;
 use crate::record::Turn;
 use bundle::Checked;
 use bundle::Entry;
-
-// The packets that a record may count.
-const PACKET_LIMIT: u32 = 0x80000000;
 
 // The body of an entry: where it starts and ends, and how many records it has.
 pub struct Body {

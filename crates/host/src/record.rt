@@ -4,6 +4,9 @@ ghost use Rattle.host.specs.Record.{freshHost, endingIn, toldProgress, t
 use crate::answer::Progress;
 use crate::answer::Report;
 
+// The packets that a record may count.
+pub const PACKET_LIMIT: u32 = 0x80000000;
+
 // The offer in hand, and the BUSY replies that it had in this pass.
 pub struct Turn {
     pub entry: u32,

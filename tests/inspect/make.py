@@ -235,4 +235,5 @@ def main():
             out.write(text)
 
 
-main()
+if __name__ == "__main__":
+    main()

@@ -1,0 +1,593 @@
+/*
+ * update.c: updates a simulated device from a bundle file, over the C interface include/cfu.h (document 01, "The device", "The host", E12 and E13).
+ *
+ * Device and host stand in one process, and `exchange` stands for the bus between them. On a PC the host's half stays and `exchange` sends the packet over HID;
+ * in a device the body of `exchange` is what the main loop does with a packet that has come.
+ *
+ * Ends with status
+ *     0  done: every offer of the bundle was completed
+ *     1  done, but the device did not take every offer
+ *     2  the command line is wrong
+ *     3  the file cannot be read
+ *     4  the bundle is refused (B1 to B8)
+ *     5  the device is refused at set-up (S1 to S4)
+ *     6  the host ended the update (H1 to H4)
+ *     7  a call refused what this program lent to it (C1 to C3, D1 to D3, N1, P1, P2)
+ */
+#define _POSIX_C_SOURCE 200809L /* isatty, fileno */
+
+#include "cfu.h"
+
+#include <errno.h>
+#include <stdarg.h>
+#include <stdbool.h>
+#include <stdio.h>
+#include <stdlib.h>
+#include <string.h>
+#include <unistd.h>
+
+enum status { ALL_COMPLETED, NOT_ALL_TAKEN, WRONG_COMMAND, NO_FILE, BUNDLE_REFUSED, SET_UP_REFUSED, UPDATE_ENDED, CALL_REFUSED };
+
+static const char USAGE[] =
+    "usage: update [options] BUNDLE\n"
+    "Updates a simulated device from a bundle file, prints what happened, and resets the device.\n"
+    "\n"
+    "  --platform NUMBER           the device's platform (0x0042)\n"
+    "  --component ID:VERSION:BASE:LENGTH\n"
+    "                              a component, its running version as major.minor.variant, and its region of the staging memory; up to seven times\n"
+    "                              (1:1.2.0:0:64 and 2:1.1.0:64:64)\n"
+    "  --staging BYTES             the device's staging memory (up to the end of the last region)\n"
+    "  --token NUMBER              the host's token (0xA5)\n"
+    "  --packets                   print each packet and each reply\n"
+    "  --help                      print this\n"
+    "\n"
+    "Numbers are decimal, or hexadecimal behind 0x. The end's status:\n"
+    "  0  done: every offer of the bundle was completed\n"
+    "  1  done, but the device did not take every offer\n"
+    "  2  the command line is wrong\n"
+    "  3  the file cannot be read\n"
+    "  4  the bundle is refused (B1 to B8)\n"
+    "  5  the device is refused at set-up (S1 to S4)\n"
+    "  6  the host ended the update (H1 to H4)\n"
+    "  7  a call refused what this program lent to it (C1 to C3, D1 to D3, N1, P1, P2)\n";
+
+/* ---- Words for numbers ---- */
+
+struct words {
+    uint32_t number;
+    const char *words;
+};
+
+/* The rows of the build document. */
+static const struct words ROWS[] = {
+    {CFU_C1, "a record is not of its size"},
+    {CFU_C2, "a list or data to be read is not of its size"},
+    {CFU_C3, "a buffer for what comes out is not of its size"},
+    {CFU_S1, "the staging memory is over 65,536 bytes"},
+    {CFU_S2, "a device has 1 to 7 components"},
+    {CFU_S3, "a component's id is not 1 to 223, or two have the same"},
+    {CFU_S4, "a region is under 8 bytes, reaches past the staging memory, or overlaps another"},
+    {CFU_D1, "the device's record breaks its rules"},
+    {CFU_D2, "the staging memory has not the length that it had at set-up"},
+    {CFU_D3, "the packet has not the length of its kind"},
+    {CFU_P1, "the packet has not the length of its kind"},
+    {CFU_P2, "a value does not fit its field"},
+    {CFU_N1, "the host's record does not fit the bundle"},
+    {CFU_B1, "a bundle has 8 to 65,536 bytes"},
+    {CFU_B2, "the head is not that of a bundle: byte 1 must be 1, bytes 2 to 7 zero"},
+    {CFU_B3, "a bundle has 1 to 7 offers"},
+    {CFU_B4, "the file ends inside the table of offers"},
+    {CFU_B5, "the offer's bytes 0, 1, 3 and 13 must be zero, byte 12 must be 2, and the id 1 to 223"},
+    {CFU_B6, "an earlier entry offers the same component"},
+    {CFU_B7, "the body does not start where the one before it ends, or the last does not end with the file"},
+    {CFU_B8, "the body is empty, or has a record that is cut, empty or over 52 bytes"},
+    {CFU_H1, "the device refused a block"},
+    {CFU_H2, "the reply is not 16 bytes, or answers another packet"},
+    {CFU_H3, "the reply has a status that does not answer what was sent"},
+    {CFU_H4, "the device was busy nine times for one offer"},
+};
+
+static const struct words OFFER_STATUS[] = {
+    {CFU_OFFER_SKIP, "SKIP"},   {CFU_OFFER_ACCEPT, "ACCEPT"}, {CFU_OFFER_REJECT, "REJECT"},
+    {CFU_OFFER_BUSY, "BUSY"},   {CFU_OFFER_READY, "READY"},   {CFU_OFFER_UNSUPPORTED, "unsupported"},
+};
+
+static const struct words REASONS[] = {
+    {CFU_REJECT_OLD_FW, "the running version is not older"},
+    {CFU_REJECT_INV_COMPONENT, "no such component on this platform"},
+    {CFU_REJECT_SWAP_PENDING, "the component awaits a reset"},
+    {CFU_REJECT_WRONG_PROTOCOL, "the protocol is not 2"},
+    {CFU_REJECT_WRONG_SEGMENT, "the segment is not 0"},
+};
+
+static const struct words CONTENT_STATUS[] = {
+    {CFU_SUCCESS, "taken"},
+    {CFU_ERROR_VERIFY, "the image is for another component"},
+    {CFU_ERROR_CRC, "the image's CRC is wrong"},
+    {CFU_ERROR_VERSION, "the image's version is below the running one"},
+    {CFU_ERROR_INVALID_ADDR, "the block reaches past the region"},
+    {CFU_ERROR_NO_OFFER, "no offer was accepted"},
+    {CFU_ERROR_INVALID, "the block's length, flags or sequence are wrong"},
+};
+
+static const struct words INFORMATION[] = {
+    {CFU_INFO_START_ENTIRE_TRANSACTION, "start entire transaction"},
+    {CFU_INFO_START_OFFER_LIST, "start offer list"},
+    {CFU_INFO_END_OFFER_LIST, "end offer list"},
+};
+
+#define WORDS(table, number) words_for(table, sizeof(table) / sizeof(table)[0], number)
+
+static const char *words_for(const struct words *table, size_t count, uint32_t number)
+{
+    for (size_t i = 0; i < count; i++)
+        if (table[i].number == number)
+            return table[i].words;
+    return "unknown";
+}
+
+/* The row's own name: a letter and a number. */
+static void print_row(FILE *out, uint32_t number)
+{
+    fprintf(out, "%c%u", (int)(number >> 8), (unsigned)(number & 0xFF));
+}
+
+static int refused(uint32_t number, uint32_t entry, int status)
+{
+    printf("refused ");
+    print_row(stdout, number);
+    if (entry != 0)
+        printf(", entry %u", (unsigned)entry);
+    printf(": %s\n", WORDS(ROWS, number));
+    return status;
+}
+
+/* ---- Versions and numbers in bytes ---- */
+
+static uint32_t number_in(const uint8_t *bytes, unsigned size)
+{
+    uint32_t number = 0;
+    while (size-- > 0)
+        number = number << 8 | bytes[size];
+    return number;
+}
+
+static void put_number(uint8_t *bytes, unsigned size, uint32_t number)
+{
+    for (unsigned i = 0; i < size; i++)
+        bytes[i] = (uint8_t)(number >> 8 * i);
+}
+
+static cfu_version version_in(const uint8_t *bytes)
+{
+    cfu_version v = {bytes[3], (uint16_t)number_in(bytes + 1, 2), bytes[0]};
+    return v;
+}
+
+static void print_version(cfu_version v)
+{
+    printf("%u.%u.%u", (unsigned)v.major, (unsigned)v.minor, (unsigned)v.variant);
+}
+
+/* ---- The device ---- */
+
+struct component {
+    uint8_t id;
+    cfu_version running;
+    uint32_t base, length;
+};
+
+struct device {
+    uint16_t platform;
+    uint8_t count;
+    struct component list[CFU_COMPONENT_LIMIT];
+    uint8_t record[CFU_DEVICE_SIZE];
+    uint8_t *staging;
+    size_t staging_len;
+};
+
+static uint32_t set_up(struct device *d)
+{
+    uint8_t list[CFU_LIST_SIZE] = {0};
+    for (uint8_t i = 0; i < d->count; i++) {
+        uint8_t *at = list + 13 * i;
+        at[0] = d->list[i].id;
+        at[1] = d->list[i].running.variant;
+        put_number(at + 2, 2, d->list[i].running.minor);
+        at[4] = d->list[i].running.major;
+        put_number(at + 5, 4, d->list[i].base);
+        put_number(at + 9, 4, d->list[i].length);
+    }
+    memset(d->record, 0, sizeof d->record);
+    return cfu_device_set_up(d->record, sizeof d->record, d->platform, list, sizeof list, d->count, d->staging, d->staging_len);
+}
+
+/* What runs comes from the version reply; what is pending only the device itself knows, from its record. */
+static uint32_t show_device(const struct device *d)
+{
+    uint8_t packet[CFU_LONG_SIZE], components[CFU_COMPONENTS_SIZE];
+    uint32_t number = cfu_device_version_reply(d->record, sizeof d->record, packet, sizeof packet);
+    if (number != CFU_SERVED)
+        return number;
+    cfu_version_reply reply = cfu_read_version_reply(packet, sizeof packet, components, sizeof components);
+    if (reply.number != CFU_SERVED)
+        return reply.number;
+    for (unsigned i = 0; i < reply.count; i++) {
+        const uint8_t *running = components + 7 * i, *part = d->record + 14 + 18 * i;
+        printf("  component %u runs ", (unsigned)running[4]);
+        print_version(version_in(running));
+        if (part[13] == 1) {
+            printf(", pending ");
+            print_version(version_in(part + 14));
+        }
+        printf("\n");
+    }
+    return CFU_SERVED;
+}
+
+/*
+ * The bus: hands a packet to the device and brings its reply. A device that has served this host alone since its code 0 owes no ready-reply, so that one reply
+ * comes for each packet; where none comes, a length of 0 lets the host end by H2.
+ */
+static uint32_t exchange(struct device *d, const uint8_t *packet, size_t length, uint8_t *reply, size_t *reply_len)
+{
+    uint8_t due[CFU_REPLIES_SIZE] = {0};
+    cfu_replies r = length == CFU_SHORT_SIZE
+                        ? cfu_device_offer(d->record, sizeof d->record, d->staging, d->staging_len, packet, length, due, sizeof due)
+                        : cfu_device_content(d->record, sizeof d->record, d->staging, d->staging_len, packet, length, due, sizeof due);
+    *reply_len = r.count > 0 ? CFU_SHORT_SIZE : 0;
+    memcpy(reply, due, CFU_SHORT_SIZE);
+    return r.number;
+}
+
+/* ---- The bundle ---- */
+
+struct bundle {
+    uint8_t bytes[CFU_BUNDLE_LIMIT + 1]; /* one byte more tells a file that is too long, without reading on */
+    size_t length;
+    uint8_t contents[CFU_CONTENTS_SIZE];
+    uint32_t count;
+};
+
+static bool read_file(const char *name, struct bundle *b)
+{
+    FILE *file = fopen(name, "rb");
+    if (file != NULL) {
+        b->length = fread(b->bytes, 1, sizeof b->bytes, file);
+        bool fine = !ferror(file);
+        int why = errno;
+        fclose(file);
+        if (fine)
+            return true;
+        errno = why;
+    }
+    fprintf(stderr, "update: %s: %s\n", name, strerror(errno));
+    return false;
+}
+
+static cfu_offer offer_of(const struct bundle *b, uint32_t entry)
+{
+    return cfu_read_offer(b->bytes + 8 + 24 * (entry - 1), CFU_SHORT_SIZE).offer;
+}
+
+/* The count of records that the check wrote into the contents. */
+static uint32_t records_of(const struct bundle *b, uint32_t entry)
+{
+    return number_in(b->contents + 1 + 12 * (entry - 1) + 8, 4);
+}
+
+static void show_bundle(const char *name, const struct bundle *b)
+{
+    printf("bundle %s: bytes %lu, offers %u\n", name, (unsigned long)b->length, (unsigned)b->count);
+    for (uint32_t i = 1; i <= b->count; i++) {
+        cfu_offer o = offer_of(b, i);
+        printf("  offer %u: component %u to ", (unsigned)i, (unsigned)o.id);
+        print_version(o.version);
+        if (o.need != 0)
+            printf(", needs component %u at %u.%u", (unsigned)o.need, (unsigned)(o.least >> 16), (unsigned)(o.least & 0xFFFF));
+        printf(", platform 0x%04X, records %u\n", (unsigned)o.platform, (unsigned)records_of(b, i));
+    }
+}
+
+/* ---- What is told on the way ---- */
+
+struct progress {
+    bool packets;  /* print each packet */
+    bool terminal; /* one line that is written over */
+    uint32_t entry;
+    bool open; /* that line is not ended yet */
+};
+
+static void print_bytes(const char *mark, const uint8_t *bytes, size_t length)
+{
+    printf("%s", mark);
+    for (size_t i = 0; i < length; i++)
+        printf(" %02X", (unsigned)bytes[i]);
+    printf("  ");
+}
+
+/* Ends the line that is written over, so that another can follow. */
+static void end_line(struct progress *p)
+{
+    if (p->open)
+        printf("\n");
+    p->open = false;
+}
+
+static void tell_offer_packet(struct progress *p, const struct bundle *b, const uint8_t *packet, const uint8_t *reply, size_t reply_len, uint32_t pass)
+{
+    cfu_offer_packet sent = cfu_read_offer(packet, CFU_SHORT_SIZE);
+    cfu_offer_reply got = cfu_read_offer_reply(reply, reply_len);
+    const char *answer = got.number == CFU_SERVED ? WORDS(OFFER_STATUS, got.status) : "no reply";
+    if (sent.kind == CFU_KIND_INFORMATION && sent.signal.code == CFU_INFO_START_OFFER_LIST) {
+        end_line(p);
+        printf("pass %u\n", (unsigned)pass);
+    }
+    if (p->packets) {
+        print_bytes("->", packet, CFU_SHORT_SIZE);
+        if (sent.kind == CFU_KIND_OFFER)
+            printf("offer for component %u\n", (unsigned)sent.offer.id);
+        else if (sent.kind == CFU_KIND_INFORMATION)
+            printf("information: %s\n", WORDS(INFORMATION, sent.signal.code));
+        else
+            printf("extended: notify on ready\n");
+        print_bytes("<-", reply, reply_len);
+        printf("%s\n", answer);
+    }
+    if (sent.kind != CFU_KIND_OFFER)
+        return;
+    for (p->entry = 1; p->entry < b->count && offer_of(b, p->entry).id != sent.offer.id;)
+        p->entry++;
+    end_line(p);
+    printf("  offer %u: %s", (unsigned)p->entry, answer);
+    if (got.number == CFU_SERVED && got.status == CFU_OFFER_SKIP)
+        printf(": what it needs is not there");
+    if (got.status == CFU_OFFER_REJECT)
+        printf(": %s", WORDS(REASONS, got.reason));
+    printf("\n");
+}
+
+static void tell_content_packet(struct progress *p, const struct bundle *b, const uint8_t *packet, const uint8_t *reply, size_t reply_len)
+{
+    uint8_t data[CFU_DATA_SIZE];
+    cfu_content sent = cfu_read_content(packet, CFU_LONG_SIZE, data, sizeof data);
+    cfu_content_reply got = cfu_read_content_reply(reply, reply_len);
+    unsigned block = sent.sequence + 1u, blocks = (unsigned)records_of(b, p->entry);
+    bool last = (sent.flags & CFU_FLAG_LAST_BLOCK) != 0;
+    if (p->packets) {
+        print_bytes("->", packet, CFU_LONG_SIZE);
+        printf("content: block %u, bytes %u at address %u\n", block, (unsigned)sent.length, (unsigned)sent.address);
+        print_bytes("<-", reply, reply_len);
+        printf("%s\n", got.number == CFU_SERVED ? WORDS(CONTENT_STATUS, got.status) : "no reply");
+    } else if (p->terminal) {
+        printf("\r  offer %u: block %u of %u, %u %%", (unsigned)p->entry, block, blocks, 100 * block / blocks);
+        fflush(stdout);
+        p->open = true;
+    }
+    if (last && got.number == CFU_SERVED && got.status == CFU_SUCCESS) {
+        end_line(p);
+        printf("  offer %u: completed, blocks %u\n", (unsigned)p->entry, blocks);
+    }
+}
+
+/* ---- The host ---- */
+
+static int show_report(const struct bundle *b, cfu_report r)
+{
+    int status = UPDATE_ENDED;
+    if (r.ending == CFU_DONE) {
+        printf("done\n");
+        status = r.completed == b->count ? ALL_COMPLETED : NOT_ALL_TAKEN;
+    } else {
+        printf("ended ");
+        print_row(stdout, r.ending);
+        printf(": %s", WORDS(ROWS, r.ending));
+        if (r.ending == CFU_H1)
+            printf(" with status 0x%02X: %s", (unsigned)r.status, WORDS(CONTENT_STATUS, r.status));
+        printf("\n");
+    }
+    printf("report: completed %u of %u, packets %u, passes %u\n", (unsigned)r.completed, (unsigned)b->count, (unsigned)r.packets, (unsigned)r.passes);
+    return status;
+}
+
+/* A whole session: a step, the bus, and the reply to the next step, until the host sends nothing more. */
+static int update(struct device *d, struct bundle *b, uint8_t token, struct progress p)
+{
+    uint8_t host[CFU_HOST_SIZE], packet[CFU_LONG_SIZE], reply[CFU_SHORT_SIZE];
+    size_t reply_len = 0;
+    uint32_t number = cfu_host_fresh(host, sizeof host, token);
+    while (number == CFU_SERVED) {
+        cfu_step step =
+            cfu_host_step_checked(host, sizeof host, b->contents, sizeof b->contents, b->bytes, b->length, reply, reply_len, packet, sizeof packet);
+        number = step.number;
+        if (number != CFU_SERVED || step.length == 0)
+            break;
+        number = exchange(d, packet, step.length, reply, &reply_len);
+        if (step.length == CFU_SHORT_SIZE)
+            tell_offer_packet(&p, b, packet, reply, reply_len, cfu_host_report(host, sizeof host).passes);
+        else
+            tell_content_packet(&p, b, packet, reply, reply_len);
+    }
+    end_line(&p);
+    return number == CFU_SERVED ? show_report(b, cfu_host_report(host, sizeof host)) : refused(number, 0, CALL_REFUSED);
+}
+
+/* ---- The command line ---- */
+
+struct options {
+    const char *file;
+    uint8_t token;
+    bool packets;
+    bool staging; /* its length was given */
+};
+
+static int wrong(const char *format, ...)
+{
+    va_list rest;
+    va_start(rest, format);
+    fprintf(stderr, "update: ");
+    vfprintf(stderr, format, rest);
+    fprintf(stderr, " (update --help)\n");
+    va_end(rest);
+    return WRONG_COMMAND;
+}
+
+/* A number up to a limit, and the character behind it; the place behind that, or NULL. */
+static const char *take_number(const char *text, uint32_t limit, char behind, uint32_t *number)
+{
+    bool hexadecimal = text[0] == '0' && (text[1] == 'x' || text[1] == 'X');
+    const char *digits = text + (hexadecimal ? 2 : 0);
+    if (strchr("0123456789abcdefABCDEF", *digits) == NULL || *digits == '\0')
+        return NULL;
+    char *end;
+    errno = 0;
+    unsigned long long value = strtoull(digits, &end, hexadecimal ? 16 : 10);
+    if (end == digits || errno != 0 || value > limit || *end != behind)
+        return NULL;
+    *number = (uint32_t)value;
+    return behind == '\0' ? end : end + 1;
+}
+
+static bool take_component(const char *text, struct component *c)
+{
+    uint32_t id, major, minor, variant;
+    if ((text = take_number(text, 0xFF, ':', &id)) == NULL || (text = take_number(text, 0xFF, '.', &major)) == NULL ||
+        (text = take_number(text, 0xFFFF, '.', &minor)) == NULL || (text = take_number(text, 0xFF, ':', &variant)) == NULL ||
+        (text = take_number(text, 0xFFFFFFFF, ':', &c->base)) == NULL || (text = take_number(text, 0xFFFFFFFF, '\0', &c->length)) == NULL)
+        return false;
+    c->id = (uint8_t)id;
+    c->running.major = (uint8_t)major;
+    c->running.minor = (uint16_t)minor;
+    c->running.variant = (uint8_t)variant;
+    return true;
+}
+
+static int take_option(const char *name, const char *value, struct device *d, struct options *o)
+{
+    uint32_t number;
+    if (strcmp(name, "--component") == 0) {
+        if (d->count == CFU_COMPONENT_LIMIT)
+            return wrong("more than %d components", CFU_COMPONENT_LIMIT);
+        if (!take_component(value, &d->list[d->count]))
+            return wrong("%s %s: not ID:VERSION:BASE:LENGTH", name, value);
+        d->count++;
+    } else if (strcmp(name, "--platform") == 0) {
+        if (take_number(value, 0xFFFF, '\0', &number) == NULL)
+            return wrong("%s %s: not a number up to 0xFFFF", name, value);
+        d->platform = (uint16_t)number;
+    } else if (strcmp(name, "--token") == 0) {
+        if (take_number(value, 0xFF, '\0', &number) == NULL)
+            return wrong("%s %s: not a number up to 0xFF", name, value);
+        o->token = (uint8_t)number;
+    } else if (strcmp(name, "--staging") == 0) {
+        if (take_number(value, 0xFFFFFF, '\0', &number) == NULL)
+            return wrong("%s %s: not a number up to 0xFFFFFF", name, value);
+        d->staging_len = number;
+        o->staging = true;
+    } else {
+        return wrong("%s: no such option", name);
+    }
+    return 0;
+}
+
+/* The bench device of document 01. */
+static void take_bench(struct device *d)
+{
+    const struct component first = {1, {1, 2, 0}, 0, 64}, second = {2, {1, 1, 0}, 64, 64};
+    d->list[0] = first;
+    d->list[1] = second;
+    d->count = 2;
+}
+
+/* Staging memory up to the end of the last region, as far as a device can have it. */
+static size_t needed_staging(const struct device *d)
+{
+    uint64_t end = 0;
+    for (unsigned i = 0; i < d->count; i++) {
+        uint64_t its = (uint64_t)d->list[i].base + d->list[i].length;
+        end = its > end ? its : end;
+    }
+    return end < CFU_STAGING_LIMIT ? (size_t)end : CFU_STAGING_LIMIT;
+}
+
+static int take_options(int count, char **words, struct device *d, struct options *o)
+{
+    for (int i = 1; i < count; i++) {
+        if (strcmp(words[i], "--packets") == 0) {
+            o->packets = true;
+        } else if (strncmp(words[i], "--", 2) == 0) {
+            if (i + 1 == count)
+                return wrong("%s: no such option, or its value is missing", words[i]);
+            int status = take_option(words[i], words[i + 1], d, o);
+            if (status != 0)
+                return status;
+            i++;
+        } else if (o->file != NULL) {
+            return wrong("%s: a second file", words[i]);
+        } else {
+            o->file = words[i];
+        }
+    }
+    if (o->file == NULL)
+        return wrong("no bundle file");
+    if (d->count == 0)
+        take_bench(d);
+    if (!o->staging)
+        d->staging_len = needed_staging(d);
+    return 0;
+}
+
+/* ---- The program ---- */
+
+static int run(struct device *d, const struct options *o)
+{
+    static struct bundle b;
+    if (!read_file(o->file, &b))
+        return NO_FILE;
+    cfu_check check = cfu_bundle_check(b.bytes, b.length, b.contents, sizeof b.contents);
+    if (check.number != CFU_SERVED)
+        return refused(check.number, check.entry, BUNDLE_REFUSED);
+    b.count = check.count;
+    show_bundle(o->file, &b);
+
+    uint32_t number = set_up(d);
+    if (number != CFU_SERVED)
+        return refused(number, 0, SET_UP_REFUSED);
+    printf("device: platform 0x%04X, staging %lu\n", (unsigned)d->platform, (unsigned long)d->staging_len);
+    if ((number = show_device(d)) != CFU_SERVED)
+        return refused(number, 0, CALL_REFUSED);
+
+    struct progress p = {o->packets, !o->packets && isatty(fileno(stdout)), 1, false};
+    int status = update(d, &b, o->token, p);
+
+    printf("device:\n");
+    if ((number = show_device(d)) != CFU_SERVED)
+        return refused(number, 0, CALL_REFUSED);
+    if ((number = cfu_device_reset(d->record, sizeof d->record)) != CFU_SERVED)
+        return refused(number, 0, CALL_REFUSED);
+    printf("device after the reset:\n");
+    if ((number = show_device(d)) != CFU_SERVED)
+        return refused(number, 0, CALL_REFUSED);
+    return status;
+}
+
+int main(int count, char **words)
+{
+    static struct device d = {.platform = 0x0042};
+    struct options o = {.token = 0xA5};
+    for (int i = 1; i < count; i++)
+        if (strcmp(words[i], "--help") == 0) {
+            printf("%s", USAGE);
+            return 0;
+        }
+    int status = take_options(count, words, &d, &o);
+    if (status != 0)
+        return status;
+    d.staging = calloc(d.staging_len + 1, 1); /* never of length 0, so that there is always an address to lend */
+    if (d.staging == NULL)
+        return wrong("no memory for %lu bytes of staging", (unsigned long)d.staging_len);
+    memset(d.staging, 0xFF, d.staging_len);
+    status = run(&d, &o);
+    free(d.staging);
+    return status;
+}

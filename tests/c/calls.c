@@ -1,0 +1,410 @@
+/*
+ * calls.c: each function of include/cfu.h, called from C on the values of document 01 (E1 to E10, E13, and a case of each row that the interface gives). Bytes that
+ * stand around each lent buffer are watched: no call writes there.
+ *
+ * usage: calls BUNDLE, where BUNDLE is examples/e12.bundle
+ */
+#include "cfu.h"
+
+#include <stdio.h>
+#include <string.h>
+
+static unsigned passed, failed;
+
+static void check(int holds, const char *what, int line)
+{
+    if (holds) {
+        passed++;
+    } else {
+        failed++;
+        printf("WRONG, line %d: %s\n", line, what);
+    }
+}
+
+#define CHECK(what) check(what, #what, __LINE__)
+#define SAME(bytes, ...) same(bytes, sizeof(bytes) - 2 * EDGE, (const uint8_t[]){__VA_ARGS__}, sizeof((const uint8_t[]){__VA_ARGS__}))
+
+/* A buffer with an edge of watched bytes on both sides; AT is what is lent of it. */
+enum { EDGE = 16 };
+#define BUFFER(name, size) uint8_t name[(size) + 2 * EDGE]
+#define AT(name) (name + EDGE), (sizeof(name) - 2 * EDGE)
+
+static void clear(uint8_t *buffer, size_t whole, uint8_t value)
+{
+    memset(buffer, 0x5C, whole);
+    memset(buffer + EDGE, value, whole - 2 * EDGE);
+}
+
+#define CLEAR(name, value) clear(name, sizeof(name), value)
+
+static int edges(const uint8_t *buffer, size_t whole)
+{
+    for (size_t i = 0; i < EDGE; i++)
+        if (buffer[i] != 0x5C || buffer[whole - 1 - i] != 0x5C)
+            return 0;
+    return 1;
+}
+
+#define EDGES(name) CHECK(edges(name, sizeof(name)))
+
+/* A buffer is these bytes and then zeros. */
+static int same(const uint8_t *buffer, size_t size, const uint8_t *bytes, size_t count)
+{
+    if (memcmp(buffer + EDGE, bytes, count) != 0)
+        return 0;
+    for (size_t i = count; i < size; i++)
+        if (buffer[EDGE + i] != 0)
+            return 0;
+    return 1;
+}
+
+static int filled(const uint8_t *buffer, size_t size, uint8_t value)
+{
+    for (size_t i = 0; i < size; i++)
+        if (buffer[EDGE + i] != value)
+            return 0;
+    return 1;
+}
+
+#define FILLED(name, value) filled(name, sizeof(name) - 2 * EDGE, value)
+
+static BUFFER(device, CFU_DEVICE_SIZE);
+static BUFFER(staging, 128);
+static BUFFER(replies, CFU_REPLIES_SIZE);
+static BUFFER(list, CFU_LIST_SIZE);
+static BUFFER(shorter, CFU_SHORT_SIZE);
+static BUFFER(longer, CFU_LONG_SIZE);
+static BUFFER(bytes, CFU_DATA_SIZE);
+static BUFFER(components, CFU_COMPONENTS_SIZE);
+static BUFFER(host, CFU_HOST_SIZE);
+static BUFFER(other_host, CFU_HOST_SIZE);
+static BUFFER(contents, CFU_CONTENTS_SIZE);
+
+/* The bench device of document 01, as seven times id, version, base, length. */
+static const uint8_t BENCH[CFU_LIST_SIZE] = {1, 0, 2, 0, 1, 0, 0, 0, 0, 64, 0, 0, 0, 2, 0, 1, 0, 1, 64, 0, 0, 0, 64, 0, 0, 0};
+
+static void bench(void)
+{
+    CLEAR(device, 0);
+    CLEAR(staging, 0x77);
+    CLEAR(list, 0);
+    memcpy(list + EDGE, BENCH, sizeof BENCH);
+    CHECK(cfu_device_set_up(AT(device), 0x0042, AT(list), 2, AT(staging)) == CFU_SERVED);
+}
+
+static void offers(const uint8_t *packet, size_t length, uint32_t number, uint32_t count)
+{
+    CLEAR(replies, 0x33);
+    cfu_replies r = cfu_device_offer(AT(device), AT(staging), packet, length, AT(replies));
+    CHECK(r.number == number && r.count == count);
+    EDGES(device), EDGES(staging), EDGES(replies);
+}
+
+static void sends(const uint8_t *packet, size_t length, uint32_t number, uint32_t count)
+{
+    CLEAR(replies, 0x33);
+    cfu_replies r = cfu_device_content(AT(device), AT(staging), packet, length, AT(replies));
+    CHECK(r.number == number && r.count == count);
+    EDGES(device), EDGES(staging), EDGES(replies);
+}
+
+/* E2's offer. */
+static const uint8_t OFFER[CFU_SHORT_SIZE] = {0, 0, 1, 0xA5, 0, 3, 0, 1, 0, 0, 0, 0, 2, 0, 0x42, 0};
+
+static void offered(uint8_t place, uint8_t value, uint8_t reason, uint8_t status)
+{
+    uint8_t packet[CFU_SHORT_SIZE];
+    memcpy(packet, OFFER, sizeof packet);
+    packet[place] = value;
+    offers(packet, sizeof packet, CFU_SERVED, 1);
+    CHECK(SAME(replies, 0, 0, 0, 0xA5, 0, 0, 0, 0, reason, 0, 0, 0, status));
+}
+
+/* A first block, and the status that it gets. */
+static void block(uint8_t length, uint32_t address, uint16_t sequence, uint8_t status)
+{
+    const uint8_t packet[CFU_LONG_SIZE] = {CFU_FLAG_FIRST_BLOCK, length, (uint8_t)sequence, (uint8_t)(sequence >> 8), (uint8_t)address, (uint8_t)(address >> 8),
+                                           (uint8_t)(address >> 16), (uint8_t)(address >> 24)};
+    sends(packet, sizeof packet, CFU_SERVED, 1);
+    CHECK(SAME(replies, (uint8_t)sequence, (uint8_t)(sequence >> 8), 0, 0, status));
+}
+
+static void device_calls(void)
+{
+    /* E1 */
+    bench();
+    CLEAR(longer, 0x33);
+    CHECK(cfu_device_version_reply(AT(device), AT(longer)) == CFU_SERVED);
+    CHECK(SAME(longer, 2, 0, 0, 2, 0, 2, 0, 1, 0, 1, 0x42, 0, 0, 1, 0, 1, 0, 2, 0x42, 0));
+    EDGES(longer);
+    CLEAR(components, 0x33);
+    cfu_version_reply v = cfu_read_version_reply(AT(longer), AT(components));
+    CHECK(v.number == CFU_SERVED && v.count == 2 && v.protocol == CFU_PROTOCOL);
+    CHECK(SAME(components, 0, 2, 0, 1, 1, 0x42, 0, 0, 1, 0, 1, 2, 0x42, 0));
+    EDGES(components);
+    CLEAR(longer, 0x33);
+    CHECK(cfu_build_version_reply(2, 2, AT(components), AT(longer)) == CFU_SERVED);
+    CHECK(SAME(longer, 2, 0, 0, 2, 0, 2, 0, 1, 0, 1, 0x42, 0, 0, 1, 0, 1, 0, 2, 0x42, 0));
+
+    /* E7, E3 to E6 and E2 */
+    block(1, 0, 0x1234, CFU_ERROR_NO_OFFER);
+    offered(5, 2, CFU_REJECT_OLD_FW, CFU_OFFER_REJECT);
+    offered(12, 1, CFU_REJECT_WRONG_PROTOCOL, CFU_OFFER_REJECT);
+    const uint8_t unmet[CFU_SHORT_SIZE] = {0, 0, 1, 0xA5, 0, 3, 0, 1, 2, 2, 0, 1, 2, 0, 0x42, 0};
+    offers(unmet, sizeof unmet, CFU_SERVED, 1);
+    CHECK(SAME(replies, 0, 0, 0, 0xA5, 0, 0, 0, 0, 0, 0, 0, 0, CFU_OFFER_SKIP));
+    offered(14, 0x43, CFU_REJECT_INV_COMPONENT, CFU_OFFER_REJECT);
+    offered(0, 1, CFU_REJECT_WRONG_SEGMENT, CFU_OFFER_REJECT);
+    CHECK(FILLED(staging, 0x77));
+    offered(0, 0, 0, CFU_OFFER_ACCEPT);
+    offered(0, 0, 0, CFU_OFFER_BUSY);
+
+    /* E8 at 13, E9, E10 change nothing; a READY becomes owed */
+    block(52, 13, 7, CFU_ERROR_INVALID_ADDR);
+    block(1, 0xFFFFFFFF, 7, CFU_ERROR_INVALID_ADDR);
+    block(53, 0, 7, CFU_ERROR_INVALID);
+    CHECK(FILLED(staging, 0x77));
+    const uint8_t notify[CFU_SHORT_SIZE] = {CFU_NOTIFY_ON_READY, 0, 0xFE, 0x31};
+    offers(notify, sizeof notify, CFU_SERVED, 0);
+    CHECK(FILLED(replies, 0));
+    /* E8 at 12: region 0-63 is erased, the data written, region 64-127 left */
+    block(52, 12, 0xFFFF, CFU_SUCCESS);
+    for (unsigned i = 0; i < 128; i++)
+        CHECK(staging[EDGE + i] == (i < 12 ? 0xFF : i < 64 ? 0 : 0x77));
+    /* a last block makes the session idle: its reply, and then the owed READY. Sequence 0 follows 0xFFFF; the CRC is wrong */
+    const uint8_t last[CFU_LONG_SIZE] = {CFU_FLAG_LAST_BLOCK, 1};
+    sends(last, sizeof last, CFU_SERVED, 2);
+    CHECK(SAME(replies, 0, 0, 0, 0, CFU_ERROR_CRC, 0, 0, 0, 0, 0, 0, 0, 0, 0, 0, 0, 0, 0, 0, 0x31, 0, 0, 0, 0, 0, 0, 0, 0, CFU_OFFER_READY));
+    CHECK(cfu_device_reset(AT(device)) == CFU_SERVED);
+
+    /* D3, D2 and D1: the replies zeroed, the rest as it was */
+    BUFFER(before, CFU_DEVICE_SIZE);
+    memcpy(before, device, sizeof device);
+    offers(OFFER, 15, CFU_D3, 0);
+    CHECK(FILLED(replies, 0));
+    sends(OFFER, 16, CFU_D3, 0);
+    cfu_replies r = cfu_device_offer(AT(device), staging + EDGE, 127, OFFER, sizeof OFFER, AT(replies));
+    CHECK(r.number == CFU_D2 && r.count == 0);
+    r = cfu_device_content(AT(device), staging + EDGE, 127, last, sizeof last, AT(replies));
+    CHECK(r.number == CFU_D2 && r.count == 0);
+    CHECK(memcmp(before, device, sizeof device) == 0);
+    CLEAR(device, 0);
+    offers(OFFER, sizeof OFFER, CFU_D1, 0);
+    sends(last, sizeof last, CFU_D1, 0);
+    CHECK(cfu_device_reset(AT(device)) == CFU_D1);
+    CHECK(cfu_device_version_reply(AT(device), AT(longer)) == CFU_D1);
+    CHECK(FILLED(longer, 0) && FILLED(device, 0));
+
+    /* S2 to S4, and the record as it was */
+    CHECK(cfu_device_set_up(AT(device), 0x0042, AT(list), 0, AT(staging)) == CFU_S2);
+    CHECK(cfu_device_set_up(AT(device), 0x0042, AT(list), 8, AT(staging)) == CFU_S2);
+    CHECK(cfu_device_set_up(AT(device), 0x0042, AT(list), 3, AT(staging)) == CFU_S3);
+    CHECK(cfu_device_set_up(AT(device), 0x0042, AT(list), 2, staging + EDGE, 127) == CFU_S4);
+    CHECK(FILLED(device, 0));
+
+    /* C1 to C3 */
+    CHECK(cfu_device_set_up(device + EDGE, CFU_DEVICE_SIZE - 1, 0x0042, AT(list), 2, AT(staging)) == CFU_C1);
+    CHECK(cfu_device_set_up(AT(device), 0x0042, list + EDGE, CFU_LIST_SIZE + 1, 2, AT(staging)) == CFU_C2);
+    CHECK(cfu_device_version_reply(device + EDGE, 0, AT(longer)) == CFU_C1);
+    CHECK(cfu_device_version_reply(AT(device), longer + EDGE, CFU_LONG_SIZE - 1) == CFU_C3);
+    CHECK(cfu_device_reset(device + EDGE, CFU_DEVICE_SIZE + 1) == CFU_C1);
+    CHECK(cfu_device_offer(device + EDGE, 0, AT(staging), OFFER, sizeof OFFER, AT(replies)).number == CFU_C1);
+    CHECK(cfu_device_offer(AT(device), AT(staging), OFFER, sizeof OFFER, replies + EDGE, 31).number == CFU_C3);
+    CHECK(cfu_device_content(device + EDGE, 0, AT(staging), last, sizeof last, AT(replies)).number == CFU_C1);
+    CHECK(cfu_device_content(AT(device), AT(staging), last, sizeof last, replies + EDGE, 31).number == CFU_C3);
+}
+
+static void packet_calls(void)
+{
+    /* an offer with a value of its own in each field; the build document's bytes 0 to 15 */
+    const cfu_offer o = {.segment = 0x11, .force_immediate_reset = 1, .force_ignore_version = 0, .id = 0x22, .token = 0x33, .version = {0x44, 0x5566, 0x77}, .need = 0x88,
+                         .least = 0x99AABB, .protocol = 2, .platform = 0xCCDD};
+    CLEAR(shorter, 0x33);
+    CHECK(cfu_build_offer(o, AT(shorter)) == CFU_SERVED);
+    CHECK(SAME(shorter, 0x11, 0x40, 0x22, 0x33, 0x77, 0x66, 0x55, 0x44, 0x88, 0xBB, 0xAA, 0x99, 2, 0, 0xDD, 0xCC));
+    EDGES(shorter);
+    cfu_offer_packet p = cfu_read_offer(AT(shorter));
+    CHECK(p.number == CFU_SERVED && p.kind == CFU_KIND_OFFER && p.signal.code == 0 && p.signal.token == 0);
+    CHECK(p.offer.segment == 0x11 && p.offer.force_immediate_reset == 1 && p.offer.force_ignore_version == 0 && p.offer.id == 0x22 && p.offer.token == 0x33);
+    CHECK(p.offer.version.major == 0x44 && p.offer.version.minor == 0x5566 && p.offer.version.variant == 0x77);
+    CHECK(p.offer.need == 0x88 && p.offer.least == 0x99AABB && p.offer.protocol == 2 && p.offer.platform == 0xCCDD);
+    cfu_offer wrong = o;
+    wrong.force_ignore_version = 1;
+    CHECK(cfu_build_offer(wrong, AT(shorter)) == CFU_SERVED && shorter[EDGE + 1] == 0xC0);
+    wrong.force_ignore_version = 2;
+    CHECK(cfu_build_offer(wrong, AT(shorter)) == CFU_P2 && FILLED(shorter, 0));
+    wrong = o;
+    wrong.least = 0x1000000;
+    CHECK(cfu_build_offer(wrong, AT(shorter)) == CFU_P2);
+    wrong = o;
+    wrong.id = 0xFE;
+    CHECK(cfu_build_offer(wrong, AT(shorter)) == CFU_P2);
+    wrong = o;
+    wrong.protocol = 16;
+    CHECK(cfu_build_offer(wrong, AT(shorter)) == CFU_P2);
+    CHECK(cfu_build_offer(o, shorter + EDGE, 15) == CFU_C3);
+    p = cfu_read_offer(shorter + EDGE, 15);
+    CHECK(p.number == CFU_P1 && p.kind == CFU_KIND_NONE && p.offer.platform == 0);
+
+    CHECK(cfu_build_information(2, 0x21, AT(shorter)) == CFU_SERVED);
+    CHECK(SAME(shorter, 2, 0, 0xFF, 0x21));
+    p = cfu_read_offer(AT(shorter));
+    CHECK(p.number == CFU_SERVED && p.kind == CFU_KIND_INFORMATION && p.signal.code == 2 && p.signal.token == 0x21 && p.offer.id == 0);
+    CHECK(cfu_build_information(2, 0x21, shorter + EDGE, 17) == CFU_C3);
+
+    CHECK(cfu_build_extended(1, 0x22, AT(shorter)) == CFU_SERVED);
+    CHECK(SAME(shorter, 1, 0, 0xFE, 0x22));
+    p = cfu_read_offer(AT(shorter));
+    CHECK(p.number == CFU_SERVED && p.kind == CFU_KIND_EXTENDED && p.signal.code == 1 && p.signal.token == 0x22);
+    CHECK(cfu_build_extended(1, 0x22, shorter + EDGE, 0) == CFU_C3);
+
+    CHECK(cfu_build_offer_reply(0xA5, 0xE0, 2, AT(shorter)) == CFU_SERVED);
+    CHECK(SAME(shorter, 0, 0, 0, 0xA5, 0, 0, 0, 0, 0xE0, 0, 0, 0, 2));
+    cfu_offer_reply q = cfu_read_offer_reply(AT(shorter));
+    CHECK(q.number == CFU_SERVED && q.token == 0xA5 && q.reason == 0xE0 && q.status == 2);
+    q = cfu_read_offer_reply(shorter + EDGE, 0);
+    CHECK(q.number == CFU_P1 && q.token == 0 && q.reason == 0 && q.status == 0);
+    CHECK(cfu_build_offer_reply(0xA5, 0xE0, 2, shorter + EDGE, 15) == CFU_C3);
+
+    CLEAR(bytes, 0x66);
+    CLEAR(longer, 0x33);
+    CHECK(cfu_build_content(0xC0, 3, 0x1234, 0x89ABCDEF, AT(bytes), AT(longer)) == CFU_SERVED);
+    CHECK(SAME(longer, 0xC0, 3, 0x34, 0x12, 0xEF, 0xCD, 0xAB, 0x89, 0x66, 0x66, 0x66));
+    cfu_content c = cfu_read_content(AT(longer), AT(bytes));
+    CHECK(c.number == CFU_SERVED && c.flags == 0xC0 && c.length == 3 && c.sequence == 0x1234 && c.address == 0x89ABCDEF);
+    CHECK(SAME(bytes, 0x66, 0x66, 0x66));
+    EDGES(bytes), EDGES(longer);
+    CHECK(cfu_build_content(0x20, 3, 0, 0, AT(bytes), AT(longer)) == CFU_P2 && FILLED(longer, 0));
+    CHECK(cfu_build_content(0, 0, 0, 0, AT(bytes), AT(longer)) == CFU_P2);
+    CHECK(cfu_build_content(0, 53, 0, 0, AT(bytes), AT(longer)) == CFU_P2);
+    CHECK(cfu_build_content(0, 52, 0, 0, bytes + EDGE, 51, AT(longer)) == CFU_C2);
+    CHECK(cfu_build_content(0, 52, 0, 0, AT(bytes), longer + EDGE, 59) == CFU_C3);
+    CHECK(cfu_read_content(longer + EDGE, 59, AT(bytes)).number == CFU_P1 && FILLED(bytes, 0));
+    CHECK(cfu_read_content(AT(longer), bytes + EDGE, 51).number == CFU_C3);
+
+    CHECK(cfu_build_content_reply(0x1234, 0x0A, AT(shorter)) == CFU_SERVED);
+    CHECK(SAME(shorter, 0x34, 0x12, 0, 0, 0x0A));
+    cfu_content_reply s = cfu_read_content_reply(AT(shorter));
+    CHECK(s.number == CFU_SERVED && s.sequence == 0x1234 && s.status == 0x0A);
+    s = cfu_read_content_reply(shorter + EDGE, 17);
+    CHECK(s.number == CFU_P1 && s.sequence == 0 && s.status == 0);
+    CHECK(cfu_build_content_reply(0x1234, 0x0A, shorter + EDGE, 15) == CFU_C3);
+
+    CHECK(cfu_build_version_reply(8, 2, AT(components), AT(longer)) == CFU_P2);
+    CHECK(cfu_build_version_reply(7, 3, AT(components), AT(longer)) == CFU_P2);
+    CHECK(cfu_build_version_reply(7, 2, components + EDGE, 48, AT(longer)) == CFU_C2);
+    CHECK(cfu_build_version_reply(7, 2, AT(components), longer + EDGE, 59) == CFU_C3);
+    CHECK(cfu_read_version_reply(longer + EDGE, 59, AT(components)).number == CFU_P1);
+    CLEAR(longer, 8);
+    CHECK(cfu_read_version_reply(AT(longer), AT(components)).number == CFU_P2 && FILLED(components, 0));
+    CHECK(cfu_read_version_reply(AT(longer), components + EDGE, 50).number == CFU_C3);
+}
+
+/* E13 by the step that checks the bundle each time and by the one that does not, side by side. */
+static void host_calls(const uint8_t *bundle, size_t length)
+{
+    CLEAR(contents, 0x33);
+    cfu_check k = cfu_bundle_check(bundle, length, AT(contents));
+    CHECK(k.number == CFU_SERVED && k.entry == 0 && k.count == 2);
+    CHECK(SAME(contents, 2, 56, 0, 0, 0, 74, 0, 0, 0, 2, 0, 0, 0, 130, 0, 0, 0, 74, 0, 0, 0, 2));
+    EDGES(contents);
+    bench();
+    CLEAR(host, 0x33);
+    CHECK(cfu_host_fresh(AT(host), 0xA5) == CFU_SERVED);
+    CHECK(SAME(host, 0xA5));
+    memcpy(other_host, host, sizeof host);
+    CLEAR(replies, 0);
+    size_t reply_len = 0;
+    unsigned packets = 0;
+    for (;;) {
+        BUFFER(other, CFU_LONG_SIZE);
+        CLEAR(longer, 0x33);
+        CLEAR(other, 0x44);
+        cfu_step a = cfu_host_step(AT(host), bundle, length, replies + EDGE, reply_len, AT(longer));
+        cfu_step b = cfu_host_step_checked(AT(other_host), AT(contents), bundle, length, replies + EDGE, reply_len, AT(other));
+        EDGES(host), EDGES(other_host), EDGES(contents), EDGES(longer), EDGES(other);
+        CHECK(a.number == CFU_SERVED && b.number == CFU_SERVED && a.length == b.length && a.entry == 0 && b.entry == 0);
+        CHECK(memcmp(host, other_host, sizeof host) == 0 && memcmp(longer + EDGE, other + EDGE, CFU_LONG_SIZE) == 0);
+        if (a.length == 0 || packets == 100)
+            break;
+        packets++;
+        if (a.length == CFU_SHORT_SIZE)
+            offers(longer + EDGE, a.length, CFU_SERVED, 1);
+        else
+            sends(longer + EDGE, a.length, CFU_SERVED, 1);
+        reply_len = CFU_SHORT_SIZE;
+    }
+    cfu_report r = cfu_host_report(AT(host));
+    CHECK(packets == 13 && r.number == CFU_SERVED && r.completed == 2 && r.mask == 3 && r.packets == 13 && r.passes == 2);
+    CHECK(r.ending == CFU_DONE && r.status == 0);
+
+    /* N1: a record that is none, and one that counts nine BUSY */
+    CLEAR(host, 0xFF);
+    CHECK(cfu_host_step(AT(host), bundle, length, replies + EDGE, 16, AT(longer)).number == CFU_N1);
+    CHECK(FILLED(host, 0xFF) && FILLED(longer, 0));
+    CHECK(cfu_host_step_checked(AT(host), AT(contents), bundle, length, replies + EDGE, 16, AT(longer)).number == CFU_N1);
+    CHECK(cfu_host_report(AT(host)).packets == 0xFFFFFFFF);
+
+    /* H2 to H4 */
+    CHECK(cfu_host_fresh(AT(host), 0xA5) == CFU_SERVED);
+    CHECK(cfu_host_step(AT(host), bundle, length, replies + EDGE, 0, AT(longer)).length == 16);
+    CHECK(cfu_host_report(AT(host)).ending == CFU_RUNNING);
+    CHECK(cfu_host_step(AT(host), bundle, length, replies + EDGE, 15, AT(longer)).length == 0);
+    CHECK(cfu_host_report(AT(host)).ending == CFU_H2);
+    CHECK(cfu_host_fresh(AT(host), 0xA5) == CFU_SERVED);
+    CHECK(cfu_host_step(AT(host), bundle, length, replies + EDGE, 0, AT(longer)).length == 16);
+    CHECK(cfu_build_offer_reply(0xA5, 0, CFU_OFFER_READY, AT(shorter)) == CFU_SERVED);
+    CHECK(cfu_host_step(AT(host), bundle, length, AT(shorter), AT(longer)).length == 0);
+    CHECK(cfu_host_report(AT(host)).ending == CFU_H3);
+    CHECK(cfu_host_fresh(AT(host), 0xA5) == CFU_SERVED);
+    CHECK(cfu_host_step(AT(host), bundle, length, replies + EDGE, 0, AT(longer)).length == 16);
+    CHECK(cfu_build_offer_reply(0xA5, 0, CFU_OFFER_ACCEPT, AT(shorter)) == CFU_SERVED);
+    CHECK(cfu_host_step(AT(host), bundle, length, AT(shorter), AT(longer)).length == 16);
+    CHECK(cfu_host_step(AT(host), bundle, length, AT(shorter), AT(longer)).length == 16);
+    for (unsigned busy = 1; busy <= 9; busy++) {
+        CHECK(cfu_host_report(AT(host)).ending == CFU_RUNNING);
+        CHECK(cfu_build_offer_reply(0xA5, 0, CFU_OFFER_BUSY, AT(shorter)) == CFU_SERVED);
+        CHECK(cfu_host_step(AT(host), bundle, length, AT(shorter), AT(longer)).length == (busy < 9 ? 16 : 0));
+        if (busy == 9)
+            break;
+        CHECK(cfu_build_offer_reply(0xA5, 0, CFU_OFFER_READY, AT(shorter)) == CFU_SERVED);
+        CHECK(cfu_host_step(AT(host), bundle, length, AT(shorter), AT(longer)).length == 16);
+    }
+    r = cfu_host_report(AT(host));
+    CHECK(r.ending == CFU_H4 && r.packets == 3 + 8 + 8 && r.passes == 1 && r.completed == 0);
+
+    /* a bundle cut by a byte: B7 at the last entry, in every call that judges it */
+    CHECK(cfu_host_fresh(AT(host), 0xA5) == CFU_SERVED);
+    cfu_step a = cfu_host_step(AT(host), bundle, length - 1, replies + EDGE, 0, AT(longer));
+    CHECK(a.number == CFU_B7 && a.entry == 2 && a.length == 0 && FILLED(longer, 0) && SAME(host, 0xA5));
+    k = cfu_bundle_check(bundle, length - 1, AT(contents));
+    CHECK(k.number == CFU_B7 && k.entry == 2 && k.count == 0 && FILLED(contents, 0));
+
+    /* C1 and C3 */
+    CHECK(cfu_bundle_check(bundle, length, contents + EDGE, 92).number == CFU_C3);
+    CHECK(cfu_host_fresh(host + EDGE, 23, 0xA5) == CFU_C1);
+    CHECK(cfu_host_step(host + EDGE, 25, bundle, length, replies + EDGE, 0, AT(longer)).number == CFU_C1);
+    CHECK(cfu_host_step(AT(host), bundle, length, replies + EDGE, 0, longer + EDGE, 16).number == CFU_C3);
+    CHECK(cfu_host_step_checked(host + EDGE, 0, AT(contents), bundle, length, replies + EDGE, 0, AT(longer)).number == CFU_C1);
+    CHECK(cfu_host_step_checked(AT(host), contents + EDGE, 92, bundle, length, replies + EDGE, 0, AT(longer)).number == CFU_C1);
+    CHECK(cfu_host_step_checked(AT(host), AT(contents), bundle, length, replies + EDGE, 0, longer + EDGE, 59).number == CFU_C3);
+    CHECK(cfu_host_report(host + EDGE, 23).number == CFU_C1);
+}
+
+int main(int count, char **words)
+{
+    static uint8_t bundle[CFU_BUNDLE_LIMIT];
+    FILE *file = count == 2 ? fopen(words[1], "rb") : NULL;
+    if (file == NULL) {
+        printf("usage: calls BUNDLE\n");
+        return 2;
+    }
+    size_t length = fread(bundle, 1, sizeof bundle, file);
+    fclose(file);
+    CHECK(length == 204);
+    device_calls();
+    packet_calls();
+    host_calls(bundle, length);
+    printf("%u passed, %u failed\n", passed, failed);
+    return failed == 0 && passed > 0 ? 0 : 1;
+}

@@ -1,0 +1,284 @@
+#!/usr/bin/env python3
+"""Holds include/cfu.h against what is proved: each function and struct against crates/capi/src, each number against the constants of specs/ and src/.
+
+fit.py [HEADER]    HEADER is include/cfu.h unless it is given
+
+Prints each misfit and ends with status 1; ends with status 0 and one line where everything fits. What the header declares and this test does not know is a misfit too,
+so nothing in it stands unchecked.
+"""
+import glob
+import os
+import re
+import sys
+
+TOP = os.path.join(os.path.dirname(os.path.abspath(__file__)), "..", "..")
+misfits = []
+
+
+def misfit(text):
+    misfits.append(text)
+
+
+def files(*patterns):
+    """The text of all files that a pattern names, below crates/."""
+    names = sorted(name for pattern in patterns for name in glob.glob(os.path.join(TOP, "crates", pattern)))
+    return "\n".join(open(name, encoding="utf-8").read() for name in names)
+
+
+def values(pairs):
+    """Names with expressions over numbers, + and *, and one another, as names with numbers."""
+    known = {}
+
+    def value(name):
+        if name not in known:
+            known[name] = sum(product(term) for term in pairs[name].split("+"))
+        return known[name]
+
+    def product(term):
+        out = 1
+        for factor in term.split("*"):
+            factor = factor.strip()
+            out *= int(factor.replace("_", ""), 0) if factor[:1].isdigit() else value(factor)
+        return out
+
+    for name in pairs:
+        value(name)
+    return known
+
+
+# What is proved
+
+def spec_constants(*rooms):
+    """The numbers that specs/ declares, with _ for -."""
+    text = files(*(f"{room}/specs/*.antt" for room in rooms))
+    pairs = {}
+    for name, expression in re.findall(r"^abbrev pub ([A-Z][A-Z0-9-]*) : ℕ\n\1 = ([^\n]+)$", text, re.M):
+        if re.fullmatch(r"[A-Z0-9a-fx\-_+* ]+", expression):
+            pairs[name.replace("-", "_")] = expression.replace("-", "_")
+    return values(pairs)
+
+
+def source_constants(*rooms):
+    text = files(*(f"{room}/src/*.rt" for room in rooms))
+    return values(dict(re.findall(r"^(?:pub(?:\(crate\))? )?const ([A-Z0-9_]+): \w+ = ([0-9A-Za-z_+* ]+);$", text, re.M)))
+
+
+def variants(name):
+    """The rows that an enum of some room names."""
+    found = re.findall(r"^pub enum " + name + r" \{\n(.*?)^\}", files("*/src/*.rt"), re.M | re.S)
+    if len(found) != 1:
+        misfit(f"enum {name}: declared {len(found)} times")
+        return []
+    return re.findall(r"^    ([A-Z]\d+),", found[0], re.M)
+
+
+# The rooms that say what a lent buffer holds.
+LENT = ("capi", "*_bytes")
+
+NUMBERS = files("capi/specs/Numbers.antt")
+PACKETS = files("capi/specs/Packets.antt")
+
+
+def found(pattern, text):
+    match = re.search(pattern, text, re.M)
+    if match is None:
+        misfit(f"no line of the specifications fits: {pattern}")
+        return 0
+    return int(match.group(1), 0)
+
+
+def row_numbers():
+    """The rows, each with its number by specs/Numbers.antt."""
+    out = {}
+    for enum, function, letter in (("Verdict", "packetNumber", "P"), ("SetupVerdict", "setupNumber", "S"), ("Refusal", "deviceNumber", "D"),
+                                   ("BundleVerdict", "bundleNumber", "B"), ("StepRefusal", "stepNumber", "N")):
+        base = found(rf"^{function} \(\w+\.{letter} k(?: entry)?\) = (0x[0-9A-F]+) \+ k$", NUMBERS)
+        rows = variants(enum)
+        if not rows:
+            misfit(f"enum {enum} names no row")
+        for row in rows:
+            out[row] = base + int(row[1:])
+    if found(r"^stepNumber \(\w+\.B k entry\) = (0x[0-9A-F]+) \+ k$", NUMBERS) != out["B1"] - 1:
+        misfit("specs/Numbers.antt: the step gives a bundle's rows other numbers than the check does")
+    for row, number in re.findall(r"^endingNumber \(?(H\d)[^=\n]* = (0x[0-9A-F]+)$", NUMBERS, re.M):
+        out[row] = int(number, 0)
+    return out
+
+
+def expected_numbers():
+    """Every number of the header by name, with the places that say what it is."""
+    out = {}
+
+    def say(name, place, number):
+        out.setdefault(name, []).append((place, number))
+
+    lent = spec_constants(*LENT)
+    for name in ("DEVICE_SIZE", "LIST_SIZE", "HOST_SIZE", "CONTENTS_SIZE", "REPLIES_SIZE", "SHORT_SIZE", "LONG_SIZE", "DATA_SIZE", "COMPONENTS_SIZE", "SERVED"):
+        say(name, "specs", lent[name])
+    for name in ("VERSIONS_SIZE", "PACKET_SIZE"):
+        say("LONG_SIZE", f"specs, {name}", lent[name])
+    own = {"C1": "WRONG_RECORD", "C2": "WRONG_LIST", "C3": "WRONG_OUTPUT"}
+    for name, theirs in own.items():
+        say(name, f"specs, {theirs}", lent[theirs])
+    for name, number in row_numbers().items():
+        say(name, "specs/Numbers.antt", number)
+    say("RUNNING", "specs/Numbers.antt", found(r"^endingNumber running = (\d+)$", NUMBERS))
+    say("DONE", "specs/Numbers.antt", found(r"^endingNumber done = (\d+)$", NUMBERS))
+    for name, pattern in (("OFFER", r"Row\.served \(kind\.offer o\)"), ("INFORMATION", r"Row\.served \(kind\.information s\)"),
+                          ("EXTENDED", r"Row\.served \(kind\.extended s\)"), ("NONE", r"\(P k\) any")):
+        say(f"KIND_{name}", "specs/Packets.antt", found(rf"^packetOf {pattern} = record \{{ [^}}]*kind = (\d+);", PACKETS))
+    for place, read in (("specs", spec_constants), ("src", source_constants)):
+        limits = read("component", "bundle")
+        for name in ("STAGING_LIMIT", "BUNDLE_LIMIT", "COMPONENT_LIMIT", "OFFER_LIMIT", "REGION_LEAST"):
+            say(name, place, limits[name])
+        for name, number in read("wire").items():
+            if not name.startswith("KIND_") and not name.endswith("BITS"):
+                say(name, f"wire, {place}", number)
+    aliases = {theirs: name for name, theirs in own.items()} | {"PACKET_SIZE": "LONG_SIZE"}
+    for name, number in source_constants(*LENT).items():
+        name = aliases.get(name, name)
+        letter = re.fullmatch(r"ROW_([A-Z])", name)
+        if letter:
+            say(letter.group(1) + "1", "src, the letter's number", number + 1)
+        elif name in out:
+            say(name, "src", number)
+    return out
+
+
+# Places and sizes that the header's comments give, and the constants that they are
+
+LAYOUTS = (
+    (r"the list that set-up takes: seven times (\d+) ", ["LISTED_SIZE"]),
+    (r"the components of a version reply: seven times (\d+) ", ["RUNNING_SIZE"]),
+    (r"\n \* +(\d+)  seven times (\d+) bytes: id \(1\), running version", ["PARTS_START", "PART_SIZE"]),
+    (r"the 16 bytes of the bundle at (\d+) \+ (\d+) i", ["HEAD", "ENTRY"]),
+)
+
+
+def hold_layouts(text):
+    known = spec_constants(*LENT, "bundle")
+    for pattern, names in LAYOUTS:
+        match = re.search(pattern, text)
+        given = [int(number) for number in match.groups()] if match else None
+        if given != [known[name] for name in names]:
+            misfit(f"{', '.join(names)}: the header's comment has {given}, specs has {[known[name] for name in names]}")
+
+
+# What the header declares, and what crates/capi/src exports, in C's words
+
+WIDTHS = {"u8": "uint8_t", "u16": "uint16_t", "u32": "uint32_t", "u64": "uint64_t", "usize": "size_t"}
+
+
+def c_type(text):
+    """A number or a struct of types.rt, as C has it: COfferPacket is cfu_offer_packet."""
+    if text in WIDTHS:
+        return WIDTHS[text]
+    if re.fullmatch(r"C[A-Z]\w*", text):
+        return "cfu" + re.sub(r"([A-Z])", lambda m: "_" + m.group(1).lower(), text[1:])
+    misfit(f"crates/capi/src: the type {text} has no place in C")
+    return text
+
+
+def c_parameter(text):
+    name, kind = (part.strip() for part in text.split(":", 1))
+    if kind in ("&[u8]", "&mut [u8]"):
+        return [("const uint8_t *" if kind == "&[u8]" else "uint8_t *", name), ("size_t", name + "_len")]
+    return [(c_type(kind), name)]
+
+
+def exported():
+    text = re.sub(r"//[^\n]*", "", files("capi/src/*.rt"))
+    functions = {}
+    for mangle, name, parameters, result in re.findall(r'(#\[no_mangle\]\s+)?pub extern "C" fn (\w+)\s*\((.*?)\)\s*->\s*(\w+)', text, re.S):
+        if not mangle:
+            misfit(f"{name}: exported without no_mangle")
+        functions[name] = (c_type(result), [p for part in parameters.split(",") if part.strip() for p in c_parameter(part)])
+    if len(functions) != len(re.findall(r'extern "C"', text)):
+        misfit("crates/capi/src: an exported function that this test does not read")
+    structs = {}
+    for c_layout, name, fields in re.findall(r"(#\[repr\(C\)\]\s+)?pub struct (C\w+) \{(.*?)\}", text, re.S):
+        if not c_layout:
+            misfit(f"{name}: crosses without repr(C)")
+        structs[c_type(name)] = [(c_type(kind), field) for field, kind in re.findall(r"pub (\w+): (\w+)", fields)]
+        if len(structs[c_type(name)]) != fields.count(":"):
+            misfit(f"{name}: a field that this test does not read")
+    return functions, structs
+
+
+def declared(text):
+    text = re.sub(r"/\*.*?\*/", " ", text, flags=re.S)
+    numbers = {}
+    for name, number in re.findall(r"^#define CFU_(\w+) +(\S+)\s*$", text, re.M):
+        if name in numbers:
+            misfit(f"CFU_{name} is defined twice")
+        numbers[name] = int(number, 0)
+    for line in re.findall(r"^#.*$", text, re.M):
+        if not re.fullmatch(r"#define CFU_\w+ +\S+\s*|#define CFU_H|#ifndef CFU_H|#ifdef __cplusplus|#endif|#include <std(def|int)\.h>", line.strip()):
+            misfit(f"a line that this test does not know: {line}")
+    text = re.sub(r"^#.*$", "", text, flags=re.M)
+    structs = {}
+
+    def take_struct(match):
+        if match.group(1) != match.group(3):
+            misfit(f"struct {match.group(1)} is named {match.group(3)}")
+        structs[match.group(1)] = [tuple(field.split()) for field in match.group(2).split(";") if field.strip()]
+        return ""
+
+    text = re.sub(r"typedef struct (\w+) \{(.*?)\} (\w+);", take_struct, text, flags=re.S)
+    functions = {}
+
+    def take_function(match):
+        parameters = []
+        for part in match.group(3).split(","):
+            kind, name = re.fullmatch(r"\s*((?:const )?\w+ \*?)\s*(\w+)\s*", part).groups()
+            parameters.append((kind if kind.endswith("*") else kind.strip(), name))
+        functions[match.group(2)] = (match.group(1), parameters)
+        return ""
+
+    text = re.sub(r"(\w+) (cfu_\w+)\(([^)]*)\);", take_function, text)
+    rest = re.sub(r'extern "C" \{|\}', "", text).split()
+    if rest:
+        misfit(f"a declaration that this test does not know: {' '.join(rest)}")
+    return numbers, structs, functions
+
+
+def hold(what, ours, theirs):
+    """The header's against the proved ones: the same names, each the same."""
+    for name in theirs:
+        if name not in ours:
+            misfit(f"{what} {name}: not in the header")
+        elif ours[name] != theirs[name]:
+            misfit(f"{what} {name}: the header has {ours[name]}, crates/capi/src has {theirs[name]}")
+    for name in ours:
+        if name not in theirs:
+            misfit(f"{what} {name}: only in the header")
+
+
+def main():
+    header = sys.argv[1] if len(sys.argv) > 1 else os.path.join(TOP, "include", "cfu.h")
+    text = open(header, encoding="utf-8").read()
+    numbers, structs, functions = declared(text)
+    hold_layouts(text)
+    their_functions, their_structs = exported()
+    hold("function", functions, their_functions)
+    hold("struct", structs, their_structs)
+    if list(structs) != list(their_structs):
+        misfit("the structs stand in another order than in crates/capi/src/types.rt")
+    expected = expected_numbers()
+    for name, places in expected.items():
+        for place, number in places:
+            if name not in numbers:
+                misfit(f"CFU_{name}: not in the header ({place} has {number:#x})")
+            elif numbers[name] != number:
+                misfit(f"CFU_{name}: the header has {numbers[name]:#x}, {place} has {number:#x}")
+    for name in numbers:
+        if name not in expected:
+            misfit(f"CFU_{name}: only in the header")
+    for text in misfits:
+        print(f"misfit: {text}")
+    if not misfits:
+        print(f"{len(functions)} functions, {len(structs)} structs and {len(numbers)} numbers fit")
+    sys.exit(1 if misfits else 0)
+
+
+main()

@@ -1,0 +1,55 @@
+#!/usr/bin/env bash
+# include/cfu.h says what crates/capi exports: fit.py holds the one against the other, and finds each of the slips below; the header compiles alone, as C99 and as C++.
+set -u
+cd "$(dirname "$0")/../.." || exit 1
+
+fail() {
+    printf 'tests/header/run.sh: FAILED: %s\n' "$1"
+    exit 1
+}
+
+for tool in python3 gcc g++ sed; do
+    command -v "$tool" >/dev/null 2>&1 || fail "$tool is not installed"
+done
+
+python3 tests/header/fit.py || fail "the header does not fit"
+
+made=$(mktemp -d) || fail "no temporary directory"
+trap 'rm -rf "$made"' EXIT
+slips=0
+# A slip: what it is, the edit, and what the misfit must name.
+slip() {
+    sed "$2" include/cfu.h >"$made/cfu.h"
+    cmp -s include/cfu.h "$made/cfu.h" && fail "$1: the edit changes nothing"
+    python3 tests/header/fit.py "$made/cfu.h" >"$made/said" && fail "$1: goes unseen"
+    grep -q "^misfit: .*\\b$3\\b" "$made/said" || fail "$1: $(cat "$made/said")"
+    slips=$((slips + 1))
+}
+slip "a parameter's width" 's/size_t device_len, uint16_t platform,/size_t device_len, uint32_t platform,/' cfu_device_set_up
+slip "two parameters exchanged" 's/cfu_build_information(uint8_t code, uint8_t token/cfu_build_information(uint8_t token, uint8_t code/' cfu_build_information
+slip "a buffer that must not be const" 's/^uint32_t cfu_device_reset(uint8_t/uint32_t cfu_device_reset(const uint8_t/' cfu_device_reset
+slip "a buffer that must be const" 's/cfu_host_report(const /cfu_host_report(/' cfu_host_report
+slip "a length that is no size_t" 's/cfu_device_reset(uint8_t \*device, size_t device_len/cfu_device_reset(uint8_t *device, uint32_t device_len/' cfu_device_reset
+slip "an answer's type" 's/^uint32_t cfu_host_fresh(/uint16_t cfu_host_fresh(/' cfu_host_fresh
+slip "a function's name" 's/cfu_build_content_reply(/cfu_build_reply(/' cfu_build_content_reply
+slip "a function left out" '/^uint32_t cfu_device_reset(/d' cfu_device_reset
+slip "a field's width" 's/^    uint16_t minor;/    uint8_t minor;/' cfu_version
+slip "a field left out" '/^    uint32_t mask;/d' cfu_report
+slip "two fields exchanged" 's/^    uint8_t reason;/    uint8_t status;/;t;s/^    uint8_t status;/    uint8_t reason;/' cfu_offer_reply
+slip "a size" 's/^#define CFU_DEVICE_SIZE 140/#define CFU_DEVICE_SIZE 141/' CFU_DEVICE_SIZE
+slip "a row's number" 's/^#define CFU_B7 0x4207/#define CFU_B7 0x4208/' CFU_B7
+slip "an end's number" 's/^#define CFU_H4 0x4804/#define CFU_H4 4/' CFU_H4
+slip "a code of CFU" 's/^#define CFU_OFFER_BUSY 3/#define CFU_OFFER_BUSY 4/' CFU_OFFER_BUSY
+slip "a limit" 's/^#define CFU_STAGING_LIMIT 65536/#define CFU_STAGING_LIMIT 65535/' CFU_STAGING_LIMIT
+slip "a kind" 's/^#define CFU_KIND_EXTENDED 3/#define CFU_KIND_EXTENDED 2/' CFU_KIND_EXTENDED
+slip "a place in a record" 's/^ \*    14  seven times 18 bytes/ *    14  seven times 19 bytes/' PART_SIZE
+slip "a number left out" '/^#define CFU_ERROR_CRC /d' CFU_ERROR_CRC
+slip "a number that nothing has" 's/^#define CFU_SERVED 0/&\n#define CFU_B9 0x4209/' CFU_B9
+slip "a declaration that nothing has" 's/^uint32_t cfu_host_fresh(/int spare;\n&/' "int spare"
+echo "$slips slips seen"
+
+printf '#include "cfu.h"\n#include "cfu.h"\n' >"$made/alone.c"
+cp "$made/alone.c" "$made/alone.cpp"
+gcc -std=c99 -Wall -Wextra -Wpedantic -Werror -fsyntax-only -I include "$made/alone.c" || fail "the header alone, as C99"
+g++ -std=c++11 -Wall -Wextra -Wpedantic -Werror -fsyntax-only -I include "$made/alone.cpp" || fail "the header alone, as C++"
+echo "the header compiles alone, as C99 and as C++"

@@ -1,0 +1,158 @@
+#!/usr/bin/env python3
+"""Frames for the main loop, and what it must print of each, from document 01 alone (bench examples E1 to E10, then one whole update).
+
+cases.py stdin     writes the frames to standard output
+cases.py stdout    writes the lines that the program must print
+"""
+import sys
+
+frames = b""
+lines = ["set-up: served"]
+
+
+def case(channel, packet, line):
+    """A frame is a channel, a length and a packet; its answer is one line."""
+    global frames
+    frames += channel.encode() + bytes([len(packet)]) + packet
+    lines.append(line)
+
+
+def spaced(data):
+    return data.hex(" ")
+
+
+# Packets, byte by byte as document 01 gives them
+
+OFFER = bytes.fromhex("00 00 01 A5 00 03 00 01 00 00 00 00 02 00 42 00")  # E2
+READY_TOKEN = 0x31
+
+
+def changed(packet, place, new):
+    new = bytes.fromhex(new)
+    return packet[:place] + new + packet[place + len(new):]
+
+
+def information(code, token=0x11):
+    return bytes([code, 0, 0xFF, token]) + bytes(12)
+
+
+def extended(code, token=READY_TOKEN):
+    return bytes([code, 0, 0xFE, token]) + bytes(12)
+
+
+def offer_reply(status, reason=0, token=0xA5):
+    return bytes([0, 0, 0, token, 0, 0, 0, 0, reason, 0, 0, 0, status, 0, 0, 0])
+
+
+def content(flags, length, sequence, address, data=b""):
+    return bytes([flags, length]) + sequence.to_bytes(2, "little") + address.to_bytes(4, "little") + data + bytes(52 - len(data))
+
+
+def content_reply(sequence, status):
+    return sequence.to_bytes(2, "little") + bytes([0, 0, status]) + bytes(11)
+
+
+def reply(*packets):
+    return "reply " + ", then ".join(spaced(p) for p in packets)
+
+
+SKIP, ACCEPT, REJECT, BUSY, READY, UNSUPPORTED = 0, 1, 2, 3, 4, 0xFF
+FIRST, LAST = 0x80, 0x40
+
+
+def asks(packet, *expected):
+    case("O", packet, reply(offer_reply(*expected)))
+
+
+def sends(packet, status):
+    case("C", packet, reply(content_reply(int.from_bytes(packet[2:4], "little"), status)))
+
+
+def offered():
+    """Idle again, and an accepted offer for component 1."""
+    asks(information(0), ACCEPT, 0, 0x11)
+    asks(OFFER, ACCEPT)
+
+
+# E1
+case("V", b"", "versions " + spaced(bytes.fromhex("02 00 00 02 00 02 00 01 00 01 42 00 00 01 00 01 00 02 42 00") + bytes(40)))
+
+# E7, before any offer
+sends(content(FIRST, 1, 0x1234, 0), 0x0A)
+
+# E3 to E5 leave the session idle
+OLD = changed(OFFER, 4, "00 02 00 01")
+asks(OLD, REJECT, 0)
+asks(changed(OFFER, 12, "01"), REJECT, 0xE0)
+asks(changed(OLD, 12, "01"), REJECT, 0xE0)
+asks(changed(OFFER, 8, "02 02 00 01"), SKIP)
+
+# E6, then a second offer while the session is open; E2
+asks(changed(OFFER, 8, "02 01 00 01"), ACCEPT)
+asks(OFFER, BUSY)
+asks(information(0), ACCEPT, 0, 0x11)
+asks(OFFER, ACCEPT)
+
+# E8 to E10
+offered()
+sends(content(FIRST, 52, 7, 12), 0)
+offered()
+sends(content(FIRST, 52, 7, 13), 0x09)
+sends(content(FIRST, 1, 7, 0xFFFFFFFF), 0x09)
+sends(content(FIRST, 53, 7, 0), 0x0B)
+
+# frames that are no packets of their channel: D3, with the reply zeroed; and a channel that there is not
+REFUSED = "refused D3, " + spaced(bytes(16))
+case("O", OFFER[:15], REFUSED)
+case("O", b"", REFUSED)
+case("C", OFFER, REFUSED)
+case("X", OFFER, "unknown channel")
+
+# codes that are none
+asks(information(3), UNSUPPORTED, 0, 0x11)
+asks(extended(2), UNSUPPORTED, 0, READY_TOKEN)
+
+
+# A whole update of component 1 to 1.3.0, with a ready-reply owed
+
+def crc(data):
+    """CRC-16/XMODEM."""
+    value = 0
+    for byte in data:
+        value ^= byte << 8
+        for _ in range(8):
+            value = (value << 1 ^ 0x1021 if value & 0x8000 else value << 1) & 0xFFFF
+    return value
+
+
+assert crc(b"123456789") == 0x31C3
+IMAGE = bytes.fromhex("00 03 00 01 01") + bytes(range(5, 62))
+IMAGE += crc(IMAGE).to_bytes(2, "big")
+assert len(IMAGE) == 64
+
+asks(information(0), ACCEPT, 0, 0x11)
+asks(extended(1), READY, 0, READY_TOKEN)
+asks(information(1), ACCEPT, 0, 0x11)
+asks(OFFER, ACCEPT)
+case("O", extended(1), "no reply")
+asks(extended(1), BUSY, 0, READY_TOKEN)
+sends(content(FIRST, 52, 0xFFFF, 0, IMAGE[:52]), 0)
+sends(content(LAST, 12, 1, 52, IMAGE[52:]), 0x0B)
+case("C", content(LAST, 12, 0, 52, IMAGE[52:]), reply(content_reply(0, 0), offer_reply(READY, 0, READY_TOKEN)))
+asks(information(2), ACCEPT, 0, 0x11)
+asks(OFFER, REJECT, 2)
+case("V", b"", "versions " + spaced(bytes.fromhex("02 00 00 02 00 02 00 01 00 01 42 00 00 01 00 01 00 02 42 00") + bytes(40)))
+case("R", b"", "reset")
+case("V", b"", "versions " + spaced(bytes.fromhex("02 00 00 02 00 03 00 01 00 01 42 00 00 01 00 01 00 02 42 00") + bytes(40)))
+asks(OFFER, REJECT, 0)
+
+# the input ends inside a frame
+frames += b"O\x10" + OFFER[:15]
+lines.append("cut frame")
+
+if sys.argv[1:] == ["stdin"]:
+    sys.stdout.buffer.write(frames)
+elif sys.argv[1:] == ["stdout"]:
+    sys.stdout.write("".join(line + "\n" for line in lines))
+else:
+    sys.exit(__doc__)

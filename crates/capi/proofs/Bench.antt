@@ -11,12 +11,13 @@ use Rattle.versions.specs.Reply.{flat, replyBytes}
 use Rattle.image.specs.Region.{within, blank, put, eraseOf, writeOf}
 use Rattle.component.specs.Lists.{firstFrom, find}
 use Rattle.component.specs.Setup.{badIds, badRegions, setupVerdict}
-use Rattle.device.specs.Refusals.{breaksD1, refusalOf}
-use Rattle.device.specs.Offer.{rejections, needUnmet, offerEntry}
-use Rattle.offering.specs.Offer.{offerVerdict, onOffer}
-use Rattle.device.specs.Content.{contentVerdict, contentEntry}
-use Rattle.receiving.specs.Content.{takeBlock}
+use Rattle.session.specs.Sound.{breaksD1}
+use Rattle.offering.specs.Offer.{rejections, needUnmet, offerVerdict, onOffer}
+use Rattle.receiving.specs.Content.{contentVerdict, takeBlock}
 use Rattle.receiving.specs.Receive.{onBlock}
+use Rattle.device.specs.Refusals.{refusalOf}
+use Rattle.device.specs.Offer.{offerEntry}
+use Rattle.device.specs.Content.{contentEntry}
 use Rattle.device.specs.Entries.{setUpOf, versionEntry}
 use Rattle.device_bytes.specs.Layout.{partsBytes, deviceBytes, partsIn, deviceIn, readDevice, listIn}
 use Rattle.host_bytes.specs.Layout.{hostBytes, bodiesBytes, contentsBytes}

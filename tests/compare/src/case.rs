@@ -109,49 +109,44 @@ pub fn difference(what: &str, answers: &[(&str, String)]) -> String {
 // ------------------------------------------------------------- shrinking
 
 /// How many smaller cases are tried.
-const TRIES: usize = 4000;
+const TRIES: usize = 20_000;
 
 /// A smaller case that still shows a difference, and that difference.
 pub fn shrink(case: &Case, run: Run, seen: String) -> (Case, String) {
     let mut best = case.clone();
     let mut words = seen;
     let mut tries = 0;
+    // What is made smaller first makes the rest quicker.
+    let mut places: Vec<usize> = (0..best.fields.len()).collect();
+    places.sort_by_key(|place| match best.fields[*place].1 {
+        Field::List(_) => 0,
+        Field::Bytes(_) => 1,
+        Field::Number(_) => 2,
+    });
     loop {
         let before = best.fields.clone();
-        for place in 0..best.fields.len() {
-            for smaller in smaller_fields(&best.fields[place].1) {
+        for place in &places {
+            // Each success offers candidates anew; those that were tried in vain are passed over.
+            let mut passed = 0;
+            while let Some(smaller) = smaller_fields(&best.fields[*place].1).into_iter().nth(passed) {
                 if tries == TRIES {
                     return (best, words);
                 }
-                // A field that has already become smaller in this round offers other candidates in the next.
-                if weight(&smaller) >= weight(&best.fields[place].1) {
-                    continue;
-                }
-                let mut candidate = best.clone();
-                candidate.fields[place].1 = smaller;
                 tries += 1;
-                if let Err(now) = run(&candidate, &mut Tally::default()) {
-                    best = candidate;
-                    words = now;
+                let mut candidate = best.clone();
+                candidate.fields[*place].1 = smaller;
+                match run(&candidate, &mut Tally::default()) {
+                    Err(now) => {
+                        best = candidate;
+                        words = now;
+                    }
+                    Ok(()) => passed += 1,
                 }
             }
         }
         if best.fields == before {
             return (best, words);
         }
-    }
-}
-
-/// Shorter is lighter, and among equally long ones that with more zeros.
-fn weight(field: &Field) -> (usize, u64) {
-    let ones = |bytes: &[u8]| bytes.iter().filter(|byte| **byte != 0).count();
-    match field {
-        Field::Number(value) => (0, *value),
-        Field::Bytes(bytes) => (bytes.len(), ones(bytes) as u64),
-        Field::List(list) => (
-            list.len() + list.iter().map(|bytes| bytes.len()).sum::<usize>(),
-            list.iter().map(|bytes| ones(bytes)).sum::<usize>() as u64,
-        ),
     }
 }
 

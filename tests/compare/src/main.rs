@@ -7,7 +7,7 @@
 
 use std::io::{IsTerminal, Write};
 use std::panic::{catch_unwind, AssertUnwindSafe};
-use std::sync::atomic::{AtomicBool, Ordering};
+use std::sync::atomic::{AtomicBool, AtomicU64, AtomicUsize, Ordering};
 use std::time::Instant;
 
 use compare::case::{shrink, Case, Outcome, Run};
@@ -72,6 +72,27 @@ fn options() -> Result<Options, String> {
 /// A case is being run: what an implementation says of its panic is left out.
 static QUIET: AtomicBool = AtomicBool::new(false);
 
+/// The case that is being run, for a signal.
+static SEED_NOW: AtomicU64 = AtomicU64::new(0);
+static KIND_NOW: AtomicUsize = AtomicUsize::new(0);
+static CASE_NOW: AtomicU64 = AtomicU64::new(0);
+
+extern "C" {
+    /// The C library's own: a handler for a signal.
+    fn signal(number: i32, handler: extern "C" fn(i32)) -> usize;
+}
+
+/// Illegal instruction, abort, bus error, floating point, segmentation fault.
+const SIGNALS: [i32; 5] = [4, 6, 7, 8, 11];
+
+/// The library stopped the program: the case is named all the same.
+extern "C" fn stopped(number: i32) {
+    let (seed, kind, case) =
+        (SEED_NOW.load(Ordering::Relaxed), KINDS[KIND_NOW.load(Ordering::Relaxed)].name, CASE_NOW.load(Ordering::Relaxed));
+    println!("compare: FAILED: seed {seed}, kind {kind}, case {case}: signal {number}");
+    std::process::exit(1);
+}
+
 /// A case is run; where an implementation panics, that is a difference too.
 fn tried(run: Run, case: &Case, tally: &mut Tally) -> Outcome {
     QUIET.store(true, Ordering::Relaxed);
@@ -93,19 +114,22 @@ const CAUGHT: [Run; 8] =
 
 fn one_kind(place: usize, options: &Options, tally: &mut Tally) -> Result<(), String> {
     let kind = &KINDS[place];
+    KIND_NOW.store(place, Ordering::Relaxed);
     let wanted = if options.times == 0 { (kind.gate / 2000).max(40) } else { kind.gate * options.times };
     let terminal = std::io::stderr().is_terminal();
     let begun = Instant::now();
     let mut case = options.case.unwrap_or(0);
     let mut own = Tally::default();
     while own.of(kind.unit) < wanted {
+        CASE_NOW.store(case, Ordering::Relaxed);
         let made = (kind.make)(&mut Random::of_case(options.seed, place as u64, case));
         if let Err(what) = CAUGHT[place](&made, &mut own) {
             let (small, words) = shrink(&made, CAUGHT[place], what.clone());
             return Err(format!(
-                "seed {}, kind {}, case {case}: {what}\n  the case, made smaller:\n{}  there: {words}",
+                "seed {}, kind {}, case {case}: {}\n  the case, made smaller:\n{}  there: {words}",
                 options.seed,
                 kind.name,
+                what.lines().next().unwrap_or(""),
                 small.text()
             ));
         }
@@ -142,6 +166,11 @@ fn main() {
         }
     };
     println!("seed {}", options.seed);
+    SEED_NOW.store(options.seed, Ordering::Relaxed);
+    for number in SIGNALS {
+        // The handler prints and ends the program, so nothing goes on in a broken state.
+        unsafe { signal(number, stopped) };
+    }
     let said = std::panic::take_hook();
     std::panic::set_hook(Box::new(move |what| {
         if !QUIET.load(Ordering::Relaxed) {

@@ -73,8 +73,7 @@ pub fn is_eligible(device: &DeviceRecord, entry: &Entry) -> bool {
 /// The need is none, or met by an effective version.
 fn is_met(device: &DeviceRecord, entry: &Entry) -> bool {
     let (need, least) = need_of(entry);
-    need == 0
-        || part_of(device, need).is_some_and(|part| part.staged.unwrap_or(part.running) / 256 >= least)
+    need == 0 || part_of(device, need).is_some_and(|part| part.staged.unwrap_or(part.running) / 256 >= least)
 }
 
 fn need_of(entry: &Entry) -> (u8, u32) {
@@ -87,9 +86,8 @@ pub fn is_closed(device: &DeviceRecord, entries: &[Entry], set: usize) -> bool {
     (0..entries.len()).filter(|place| !holds(*place)).all(|place| {
         let entry = &entries[place];
         let (need, least) = need_of(entry);
-        let fed = (0..entries.len()).any(|other| {
-            other != place && holds(other) && entries[other].offer[2] == need && version_of(&entries[other]) / 256 >= least
-        });
+        let fed = (0..entries.len())
+            .any(|other| other != place && holds(other) && entries[other].offer[2] == need && version_of(&entries[other]) / 256 >= least);
         !(is_eligible(device, entry) && (is_met(device, entry) || fed))
     })
 }

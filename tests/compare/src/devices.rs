@@ -54,13 +54,8 @@ pub fn valid_device(r: &mut Random) -> DeviceRecord {
     // Slots past the count are never looked at.
     if r.percent(30) {
         for part in record.parts.iter_mut().skip(count) {
-            *part = Part {
-                id: r.byte(),
-                running: r.next() as u32,
-                base: r.next() as u32,
-                length: r.next() as u32,
-                staged: r.percent(50).then_some(7),
-            };
+            *part =
+                Part { id: r.byte(), running: r.next() as u32, base: r.next() as u32, length: r.next() as u32, staged: r.percent(50).then_some(7) };
         }
     }
     open_session(r, &mut record);
@@ -175,9 +170,7 @@ pub fn broken_device(r: &mut Random, aim: &'static str) -> Vec<u8> {
             record.parts[slot].length = 8;
             record.staging = record.staging.max(other.base + other.length + 8);
         }
-        "D1: opens on an unlisted component" => {
-            record.session = Session::Offered { slot: r.pick(&[count as u8, 7, 8, 255]), token: 1 }
-        }
+        "D1: opens on an unlisted component" => record.session = Session::Offered { slot: r.pick(&[count as u8, 7, 8, 255]), token: 1 },
         "D1: opens on a pending component" => {
             record.parts[slot].staged = Some(record.parts[slot].running);
             record.session = session;
@@ -626,11 +619,7 @@ pub fn run_script(case: &Case, tally: &mut Tally) -> Outcome {
                 && side.staging.bytes() == first.staging.bytes()
         });
         if !equal {
-            let told: Vec<(&str, String)> = sides
-                .iter()
-                .zip(&answers)
-                .map(|(side, answer)| (side.calls.name(), side_text(side, *answer)))
-                .collect();
+            let told: Vec<(&str, String)> = sides.iter().zip(&answers).map(|(side, answer)| (side.calls.name(), side_text(side, *answer))).collect();
             return Err(difference(&format!("packet {place}"), &told));
         }
         if report.bytes() != packet {

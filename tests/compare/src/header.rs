@@ -207,14 +207,7 @@ extern "C" {
         packet_len: usize,
     ) -> Step;
     pub fn cfu_host_report(host: *const u8, host_len: usize) -> Report;
-    pub fn cfu_build_version_reply(
-        count: u8,
-        protocol: u8,
-        components: *const u8,
-        components_len: usize,
-        packet: *mut u8,
-        packet_len: usize,
-    ) -> u32;
+    pub fn cfu_build_version_reply(count: u8, protocol: u8, components: *const u8, components_len: usize, packet: *mut u8, packet_len: usize) -> u32;
     pub fn cfu_build_offer(offer: Offer, packet: *mut u8, packet_len: usize) -> u32;
     pub fn cfu_build_information(code: u8, token: u8, packet: *mut u8, packet_len: usize) -> u32;
     pub fn cfu_build_extended(code: u8, token: u8, packet: *mut u8, packet_len: usize) -> u32;
@@ -230,12 +223,7 @@ extern "C" {
         packet_len: usize,
     ) -> u32;
     pub fn cfu_build_content_reply(sequence: u16, status: u8, packet: *mut u8, packet_len: usize) -> u32;
-    pub fn cfu_read_version_reply(
-        packet: *const u8,
-        packet_len: usize,
-        components: *mut u8,
-        components_len: usize,
-    ) -> VersionReply;
+    pub fn cfu_read_version_reply(packet: *const u8, packet_len: usize, components: *mut u8, components_len: usize) -> VersionReply;
     pub fn cfu_read_offer(packet: *const u8, packet_len: usize) -> OfferPacket;
     pub fn cfu_read_offer_reply(packet: *const u8, packet_len: usize) -> OfferReply;
     pub fn cfu_read_content(packet: *const u8, packet_len: usize, bytes: *mut u8, bytes_len: usize) -> Content;

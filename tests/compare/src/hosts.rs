@@ -77,11 +77,7 @@ fn broken(r: &mut Random, records: &[usize], aim: &'static str) -> Vec<u8> {
         }
         "N1: over 8 BUSY" => {
             let busy = r.pick(&[9, 10, 255, 256, u32::MAX]);
-            host.stage = if r.percent(50) {
-                Stage::Offering { entry: entry as u32, busy }
-            } else {
-                Stage::Waiting { entry: entry as u32, busy }
-            };
+            host.stage = if r.percent(50) { Stage::Offering { entry: entry as u32, busy } } else { Stage::Waiting { entry: entry as u32, busy } };
         }
         "N1: more passes than offers" => host.passes = r.pick(&[count + 1, 8, 255, u32::MAX]).max(count + 1),
         "N1: 2^31 packets" => host.packets = r.pick(&[1 << 31, (1 << 31) + 1, u32::MAX]),
@@ -97,9 +93,7 @@ fn broken(r: &mut Random, records: &[usize], aim: &'static str) -> Vec<u8> {
         }
         "N1: no end" => bytes[1..10].copy_from_slice(&[7, r.pick(&[5, 6, 255]), 0, 0, 0, 0, 0, 0, 0]),
         "N1: H1 with a status over 255" => bytes[1..10].copy_from_slice(&[7, 1, 0, 0, 0, r.byte(), 1, 0, 0]),
-        "N1: a status where the end has none" => {
-            bytes[1..10].copy_from_slice(&[7, r.pick(&[0, 2, 3, 4]), 0, 0, 0, r.between(1, 255) as u8, 0, 0, 0])
-        }
+        "N1: a status where the end has none" => bytes[1..10].copy_from_slice(&[7, r.pick(&[0, 2, 3, 4]), 0, 0, 0, r.between(1, 255) as u8, 0, 0, 0]),
         "N1: SKIP flag neither 0 nor 1" => bytes[22] = r.between(2, 255) as u8,
         "N1: image flag neither 0 nor 1" => bytes[23] = r.between(2, 255) as u8,
         "N1: random bytes" => bytes = r.bytes(HOST_SIZE),
@@ -243,13 +237,7 @@ pub fn run_host(case: &Case, tally: &mut Tally) -> Outcome {
             guarded(side.calls, &[&side.host, &bundle, &reply, &side.packet])?;
             let report = side.calls.report(side.host.bytes());
             if accepted {
-                let kept = side.calls.step_checked(
-                    side.kept.lend(),
-                    side.contents.lend(),
-                    bundle.bytes(),
-                    reply.bytes(),
-                    side.kept_packet.lend(),
-                );
+                let kept = side.calls.step_checked(side.kept.lend(), side.contents.lend(), bundle.bytes(), reply.bytes(), side.kept_packet.lend());
                 guarded(side.calls, &[&side.kept, &side.contents, &bundle, &reply, &side.kept_packet])?;
                 if kept != told || side.kept.bytes() != side.host.bytes() || side.kept_packet.bytes() != side.packet.bytes() {
                     let name = side.calls.name();
@@ -348,13 +336,7 @@ pub fn run_contents(case: &Case, tally: &mut Tally) -> Outcome {
         for (side, calls) in two.iter().enumerate() {
             let mut packet = Lent::new(&[0x5A; LONG_SIZE]);
             let before = hosts[side].bytes().to_vec();
-            let told = calls.step_checked(
-                hosts[side].lend(),
-                contents[side].lend(),
-                bundle.bytes(),
-                reply.bytes(),
-                packet.lend(),
-            );
+            let told = calls.step_checked(hosts[side].lend(), contents[side].lend(), bundle.bytes(), reply.bytes(), packet.lend());
             guarded(*calls, &[&hosts[side], &contents[side], &bundle, &reply, &packet])?;
             if told.number != SERVED && hosts[side].bytes() != before {
                 return Err(format!("reply {place}, {}: a refused step changed the record", calls.name()));

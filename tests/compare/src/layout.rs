@@ -30,8 +30,15 @@ pub struct Part {
 pub enum Session {
     #[default]
     Idle,
-    Offered { slot: u8, token: u8 },
-    Receiving { slot: u8, token: u8, next: u16 },
+    Offered {
+        slot: u8,
+        token: u8,
+    },
+    Receiving {
+        slot: u8,
+        token: u8,
+        next: u16,
+    },
 }
 
 impl Session {
@@ -162,11 +169,23 @@ pub enum Stage {
     Fresh,
     Opening,
     Listing,
-    Offering { entry: u32, busy: u32 },
-    Waiting { entry: u32, busy: u32 },
-    Sending { entry: u32, block: u32 },
+    Offering {
+        entry: u32,
+        busy: u32,
+    },
+    Waiting {
+        entry: u32,
+        busy: u32,
+    },
+    Sending {
+        entry: u32,
+        block: u32,
+    },
     Closing,
-    Ended { end: u32, status: u8 },
+    Ended {
+        end: u32,
+        status: u8,
+    },
 }
 
 /// A host's record.

@@ -12,18 +12,7 @@ impl Calls for Library {
     }
 
     fn set_up(&self, device: &mut [u8], platform: u16, list: &[u8], count: u8, staging: &[u8]) -> u32 {
-        unsafe {
-            cfu_device_set_up(
-                device.as_mut_ptr(),
-                device.len(),
-                platform,
-                list.as_ptr(),
-                list.len(),
-                count,
-                staging.as_ptr(),
-                staging.len(),
-            )
-        }
+        unsafe { cfu_device_set_up(device.as_mut_ptr(), device.len(), platform, list.as_ptr(), list.len(), count, staging.as_ptr(), staging.len()) }
     }
 
     fn version_reply(&self, device: &[u8], packet: &mut [u8]) -> u32 {
@@ -109,16 +98,7 @@ impl Calls for Library {
     }
 
     fn build_version_reply(&self, count: u8, protocol: u8, components: &[u8], packet: &mut [u8]) -> u32 {
-        unsafe {
-            cfu_build_version_reply(
-                count,
-                protocol,
-                components.as_ptr(),
-                components.len(),
-                packet.as_mut_ptr(),
-                packet.len(),
-            )
-        }
+        unsafe { cfu_build_version_reply(count, protocol, components.as_ptr(), components.len(), packet.as_mut_ptr(), packet.len()) }
     }
 
     fn build_offer(&self, offer: Offer, packet: &mut [u8]) -> u32 {
@@ -138,18 +118,7 @@ impl Calls for Library {
     }
 
     fn build_content(&self, flags: u8, length: u8, sequence: u16, address: u32, bytes: &[u8], packet: &mut [u8]) -> u32 {
-        unsafe {
-            cfu_build_content(
-                flags,
-                length,
-                sequence,
-                address,
-                bytes.as_ptr(),
-                bytes.len(),
-                packet.as_mut_ptr(),
-                packet.len(),
-            )
-        }
+        unsafe { cfu_build_content(flags, length, sequence, address, bytes.as_ptr(), bytes.len(), packet.as_mut_ptr(), packet.len()) }
     }
 
     fn build_content_reply(&self, sequence: u16, status: u8, packet: &mut [u8]) -> u32 {

@@ -212,12 +212,7 @@ pub fn checked_of(contents: &Contents) -> Checked {
         platform: 0,
     };
     let entry = |body: &Body| bundle::Entry { offer, offset: body.offset, length: body.length, records: body.records };
-    Checked {
-        verdict: BundleVerdict::Fine,
-        place: 0,
-        count: contents.count,
-        table: contents.bodies.each_ref().map(entry),
-    }
+    Checked { verdict: BundleVerdict::Fine, place: 0, count: contents.count, table: contents.bodies.each_ref().map(entry) }
 }
 
 fn stepped(answer: StepAnswer, host: &mut [u8], packet: &mut [u8]) -> Step {
@@ -375,15 +370,7 @@ impl Calls for Made {
             Progress::Ended(End::Unexpected) => (H3, 0),
             Progress::Ended(End::Busy) => (H4, 0),
         };
-        Report {
-            number: SERVED,
-            completed: told.completed,
-            mask: told.mask,
-            packets: told.packets,
-            passes: told.passes,
-            ending,
-            status,
-        }
+        Report { number: SERVED, completed: told.completed, mask: told.mask, packets: told.packets, passes: told.passes, ending, status }
     }
 
     fn build_version_reply(&self, count: u8, protocol: u8, components: &[u8], packet: &mut [u8]) -> u32 {
@@ -393,8 +380,7 @@ impl Calls for Made {
         if packet.len() != LONG_SIZE {
             return C3;
         }
-        let components =
-            read_components(components).map(|(number, id, platform)| Running { version: version(number), id, platform });
+        let components = read_components(components).map(|(number, id, platform)| Running { version: version(number), id, platform });
         let built = build_version_reply(MadeVersionReply { count, protocol, components });
         packet.copy_from_slice(&built.packet);
         packet_number(built.verdict)
@@ -508,12 +494,7 @@ impl Calls for Made {
 
     fn read_offer_reply(&self, packet: &[u8]) -> OfferReply {
         let read = read_offer_reply(packet);
-        OfferReply {
-            number: packet_number(read.verdict),
-            token: read.reply.token,
-            reason: read.reply.reason,
-            status: read.reply.status,
-        }
+        OfferReply { number: packet_number(read.verdict), token: read.reply.token, reason: read.reply.reason, status: read.reply.status }
     }
 
     fn read_content(&self, packet: &[u8], bytes: &mut [u8]) -> Content {

@@ -87,8 +87,7 @@ const SIGNALS: [i32; 5] = [4, 6, 7, 8, 11];
 
 /// The library stopped the program: the case is named all the same.
 extern "C" fn stopped(number: i32) {
-    let (seed, kind, case) =
-        (SEED_NOW.load(Ordering::Relaxed), KINDS[KIND_NOW.load(Ordering::Relaxed)].name, CASE_NOW.load(Ordering::Relaxed));
+    let (seed, kind, case) = (SEED_NOW.load(Ordering::Relaxed), KINDS[KIND_NOW.load(Ordering::Relaxed)].name, CASE_NOW.load(Ordering::Relaxed));
     println!("compare: FAILED: seed {seed}, kind {kind}, case {case}: signal {number}");
     std::process::exit(1);
 }
@@ -109,8 +108,7 @@ fn run_by<const K: usize>(case: &Case, tally: &mut Tally) -> Outcome {
     tried(KINDS[K].run, case, tally)
 }
 
-const CAUGHT: [Run; 8] =
-    [run_by::<0>, run_by::<1>, run_by::<2>, run_by::<3>, run_by::<4>, run_by::<5>, run_by::<6>, run_by::<7>];
+const CAUGHT: [Run; 8] = [run_by::<0>, run_by::<1>, run_by::<2>, run_by::<3>, run_by::<4>, run_by::<5>, run_by::<6>, run_by::<7>];
 
 fn one_kind(place: usize, options: &Options, tally: &mut Tally) -> Result<(), String> {
     let kind = &KINDS[place];

@@ -4,9 +4,7 @@
 //! nothing about contents that no check of this bundle left.
 
 use second::bundle::{check, Bundle, Fault};
-use second::device::{
-    set_up, Answer, Component, Device, Listed, Offered, Receiving, Region, Stage as DeviceStage, StagingOffset,
-};
+use second::device::{set_up, Answer, Component, Device, Listed, Offered, Receiving, Region, Stage as DeviceStage, StagingOffset};
 use second::host::{End, Host, Packet, Stage as HostStage, Stepped};
 use second::packets;
 use second::refusal::Refusal;
@@ -225,8 +223,7 @@ impl Calls for Other {
             return C2;
         }
         let list = read_list(list);
-        let listed =
-            list.map(|l| Listed { id: l.id, running: SecondVersion(l.running), region: region(l.base, l.length) });
+        let listed = list.map(|l| Listed { id: l.id, running: SecondVersion(l.running), region: region(l.base, l.length) });
         let answer = set_up(platform, &listed, count, staging);
         if answer.refused.is_none() {
             let mut record = record_of(&answer.value);
@@ -353,15 +350,7 @@ impl Calls for Other {
             Some(End::H3) => (H3, 0),
             Some(End::H4) => (H4, 0),
         };
-        Report {
-            number: SERVED,
-            completed: told.completed,
-            mask: host.mask,
-            packets: told.packets,
-            passes: told.passes,
-            ending,
-            status,
-        }
+        Report { number: SERVED, completed: told.completed, mask: host.mask, packets: told.packets, passes: told.passes, ending, status }
     }
 
     fn build_version_reply(&self, count: u8, protocol: u8, components: &[u8], packet: &mut [u8]) -> u32 {
@@ -371,11 +360,8 @@ impl Calls for Other {
         if packet.len() != LONG_SIZE {
             return C3;
         }
-        let entries = read_components(components).map(|(number, id, platform)| packets::VersionEntry {
-            version: SecondVersion(number),
-            id,
-            platform,
-        });
+        let entries =
+            read_components(components).map(|(number, id, platform)| packets::VersionEntry { version: SecondVersion(number), id, platform });
         let built = packets::build_version_reply(&packets::VersionReply { count, protocol, entries });
         packet.copy_from_slice(&built.value);
         number_of(built.refused)
@@ -501,12 +487,7 @@ impl Calls for Other {
 
     fn read_offer_reply(&self, packet: &[u8]) -> OfferReply {
         let read = packets::read_offer_reply(packet);
-        OfferReply {
-            number: number_of(read.refused),
-            token: read.value.token,
-            reason: read.value.reason,
-            status: read.value.status,
-        }
+        OfferReply { number: number_of(read.refused), token: read.value.token, reason: read.value.reason, status: read.value.status }
     }
 
     fn read_content(&self, packet: &[u8], bytes: &mut [u8]) -> Content {

@@ -195,8 +195,7 @@ struct Left {
 
 impl Left {
     fn text(&self) -> String {
-        let lines: Vec<String> =
-            self.packets.iter().zip(&self.replies).map(|(packet, reply)| format!("{} : {}", hex(packet), hex(reply))).collect();
+        let lines: Vec<String> = self.packets.iter().zip(&self.replies).map(|(packet, reply)| format!("{} : {}", hex(packet), hex(reply))).collect();
         format!(
             "number {:X}, {:X?}, host {}, device {}, staging {}\n      {}",
             self.number,

@@ -8,6 +8,7 @@ pub mod devices;
 pub mod header;
 pub mod hosts;
 pub mod layout;
+pub mod lengths;
 pub mod lent;
 pub mod library;
 pub mod made;

@@ -22,6 +22,9 @@ pub record CheckLeft : Type 0 where
   pub check : CCheck
   pub contents : List ℕ
 
+abbrev pub toldCheck : CCheck → (contents : List ℕ) → CheckLeft
+toldCheck check contents = record { check = check; contents = contents }
+
 abbrev pub checkBy : Contents → CheckLeft
 checkBy c = record {
   check = record { number = bundleNumber (c .row); entry = c .place; count = c .count };
@@ -48,6 +51,9 @@ pub record StepLeft : Type 0 where
   pub step : CStep
   pub host : List ℕ
   pub packet : List ℕ
+
+abbrev pub toldStep : CStep → (host packet : List ℕ) → StepLeft
+toldStep step host packet = record { step = step; host = host; packet = packet }
 
 abbrev pub refusedStep : (number : ℕ) → (host packet : List ℕ) → StepLeft
 refusedStep number host packet = record { step = record { number = number; entry = 0; length = 0 }; host = host; packet = packet }

@@ -22,6 +22,7 @@ use Rattle.contents.specs.declared.reply.ContentReply.{ContentReply}
 use Rattle.versions.specs.Reply as versions
 use Rattle.versions.specs.declared.Running.{Running}
 use Rattle.versions.specs.declared.VersionReply.{VersionReply}
+use Rattle.versions_bytes.specs.Layout.{COMPONENTS-SIZE, componentsBytes, componentsIn}
 use Rattle.capi.specs.declared.types.CVersion.{CVersion}
 use Rattle.capi.specs.declared.types.COffer.{COffer}
 use Rattle.capi.specs.declared.types.CSignal.{CSignal}
@@ -33,7 +34,7 @@ use Rattle.capi.specs.declared.types.CVersionReply.{CVersionReply}
 use Rattle.capi.specs.Numbers.{SERVED, WRONG-LIST, WRONG-OUTPUT, packetNumber, sized}
 use Rattle.capi.specs.Device.{Left, leaves}
 
--- the sizes: a packet of the offer channel or a reply, a content packet, its data, a version reply, and the components of one
+-- the sizes: a packet of the offer channel or a reply, a content packet or a version reply, and a content packet's data
 abbrev pub SHORT-SIZE : ℕ
 SHORT-SIZE = 16
 
@@ -42,12 +43,6 @@ LONG-SIZE = 60
 
 abbrev pub DATA-SIZE : ℕ
 DATA-SIZE = 52
-
-abbrev pub RUNNING-SIZE : ℕ
-RUNNING-SIZE = 7
-
-abbrev pub COMPONENTS-SIZE : ℕ
-COMPONENTS-SIZE = 7 * RUNNING-SIZE
 
 -- a build's number and the packet that it leaves
 abbrev pub built : (size : ℕ) → (packet : List ℕ) → Told (List ℕ) → Left
@@ -107,21 +102,7 @@ buildContentReplyCall sequence status packet =
     sized packet SHORT-SIZE (leaves WRONG-OUTPUT packet)
     (leaves SERVED (contentReply.replyBytes (record { sequence = sequence; status = status })))
 
--- a component of a version reply as bytes: version, id, platform
-abbrev pub runningBytes : Running → List ℕ
-runningBytes e = versionBytes (e .version) ++ e .id ∷ bytesOf 2 (e .platform)
-
-unfoldable pub componentsBytes : List Running → List ℕ
-componentsBytes [] = []
-componentsBytes (e ∷ es) = runningBytes e ++ componentsBytes es
-
-abbrev pub runningIn : List ℕ → Running
-runningIn q = record { version = versionAt 0 q; id = getD q 4 0; platform = number (bytesAt 2 5 q) }
-
-unfoldable pub componentsIn : ℕ → List ℕ → List Running
-componentsIn zero q = []
-componentsIn (suc n) q = runningIn q ∷ componentsIn n (drop RUNNING-SIZE q)
-
+-- a version reply, with its components as bytes
 unfoldable pub buildVersionReplyCall : (count protocol : ℕ) → (components packet : List ℕ) → Left
 buildVersionReplyCall count protocol components packet =
     sized components COMPONENTS-SIZE (leaves WRONG-LIST packet)
@@ -182,6 +163,9 @@ pub record ContentLeft : Type 0 where
   pub content : CContent
   pub left : List ℕ
 
+abbrev pub toldContent : CContent → List ℕ → ContentLeft
+toldContent content left = record { content = content; left = left }
+
 abbrev pub contentBy : Told ContentFields → ContentLeft
 contentBy t = record {
   content = record {
@@ -204,6 +188,9 @@ readContentCall packet bytes =
 pub record VersionsLeft : Type 0 where
   pub reply : CVersionReply
   pub left : List ℕ
+
+abbrev pub toldVersions : CVersionReply → List ℕ → VersionsLeft
+toldVersions reply left = record { reply = reply; left = left }
 
 abbrev pub versionsBy : Told VersionReply → VersionsLeft
 versionsBy t = record {

@@ -216,7 +216,7 @@ impl Device {
     }
 
     // What a refused set-up hands back: every entry answers D1 to it.
-    pub(crate) fn blank() -> Device
+    pub fn blank() -> Device
         ensures { λ r. ⌜ r ≡ blankDevice ⌝ }
     {
         let part = blank_component();

@@ -1,1 +1,149 @@
-// The device's record as bytes.
+// The device's record as bytes of a fixed length, and the list that set-up takes, as bytes.
+ghost use mathlib.Core.Path.{_≡_};
+ghost use mathlib.Core.List.{_∷_, _++_};
+ghost use lib.ListN.{length, take, drop};
+ghost use Rattle.wire.specs.Bytes.{bytesOf};
+ghost use Rattle.device_bytes.specs.Layout.{DEVICE-SIZE, PARTS-START, stageBytes, owedBytes, partsBytes, partsIn, deviceBytes, deviceIn, readDevice, listIn};
+use crate::list::listed_at;
+use crate::part::part_bytes;
+use crate::part::part_in;
+use crate::session::owed_bytes;
+use crate::session::owed_in;
+use crate::session::stage_bytes;
+use crate::session::stage_in;
+use component::record::Component;
+use component::record::Listed;
+use device::record::Device;
+use wire::words;
+
+mod part; // part.rt: a component
+mod session; // session.rt: the stage, and the ready-reply that is owed
+mod list; // list.rt: a component of the list that set-up takes
+
+// The lengths of a record, of the part of it for each component and of what stands before these, of a list, and of the part of it for each component.
+pub const DEVICE_SIZE: usize = 140;
+
+const PART_SIZE: usize = 18;
+
+const PARTS_START: usize = 14;
+
+pub const LIST_SIZE: usize = 91;
+
+const LISTED_SIZE: usize = 13;
+
+// What stands before the components.
+fn head(d: Device) -> [u8; 14]
+    ensures { λ r. ⌜ r ≡ bytesOf 2 (d .platform) ++ (bytesOf 4 (d .«staging_len») ++ (d .count ∷ stageBytes (d .stage) ++ owedBytes (d .owed))) ⌝ }
+{
+    let p = words::bytes16(d.platform);
+    let l = words::bytes32(d.staging_len);
+    let stage = d.stage;
+    let s = stage_bytes(stage);
+    let owed = d.owed;
+    let o = owed_bytes(owed);
+    [
+        p[0],
+        p[1],
+        l[0],
+        l[1],
+        l[2],
+        l[3],
+        d.count,
+        s[0],
+        s[1],
+        s[2],
+        s[3],
+        s[4],
+        o[0],
+        o[1],
+    ]
+}
+
+// The components, one after the other, from their start on.
+fn with_parts(mut out: [u8; 140], parts: [Component; 7]) -> [u8; 140]
+    ensures { λ r. ⌜ r ≡ take PARTS-START out ++ partsBytes parts ⌝ }
+{
+    let mut i = 0;
+    while i < 7 {
+        let part = parts[i];
+        let b = part_bytes(part);
+        let at = PARTS_START + i * PART_SIZE;
+        let end = at + PART_SIZE;
+        words::copy(&mut out[at..end], &b);
+        i += 1;
+    }
+    out
+}
+
+pub fn device_bytes(d: Device) -> [u8; 140]
+    ensures { λ r. ⌜ r ≡ deviceBytes d ⌝ }
+{
+    let mut out = [0u8; 140];
+    let h = head(d);
+    words::copy(&mut out[0..PARTS_START], &h);
+    let parts = d.parts;
+    with_parts(out, parts)
+}
+
+fn parts_in(b: &[u8]) -> [Component; 7]
+    requires { ⌜ length (now b) ≡ DEVICE-SIZE ⌝ }
+    ensures { λ r. ⌜ r ≡ partsIn 7 (drop PARTS-START (now (b .entry))) ⌝ }
+{
+    let first = part_in(b);
+    let mut parts = [first; 7];
+    let mut i = 0;
+    while i < 7 {
+        let at = PARTS_START + i * PART_SIZE;
+        parts[i] = part_in(&b[at..]);
+        i += 1;
+    }
+    parts
+}
+
+// The fields that stand in the bytes, unjudged.
+fn device_in(b: &[u8]) -> Device
+    requires { ⌜ length (now b) ≡ DEVICE-SIZE ⌝ }
+    ensures { λ r. ⌜ r ≡ deviceIn (now (b .entry)) ⌝ }
+{
+    let parts = parts_in(b);
+    let stage = stage_in(b[7], b[8], b[9], words::word16_at(b, 10));
+    let owed = owed_in(b[12], b[13]);
+    Device {
+        platform: words::word16_at(b, 0),
+        staging_len: words::word32_at(b, 2),
+        count: b[6],
+        parts,
+        stage,
+        owed,
+    }
+}
+
+// Bytes that are no record's, of whatever length, are read as the blank record.
+pub fn read_device(b: &[u8]) -> Device
+    ensures { λ r. ⌜ r ≡ readDevice (now (b .entry)) ⌝ }
+{
+    if b.len() != DEVICE_SIZE {
+        return Device::blank();
+    }
+    let d = device_in(b);
+    let again = device_bytes(d);
+    if words::same(&again, b) {
+        d
+    } else {
+        Device::blank()
+    }
+}
+
+// What the bytes lack, up to seven components, is zero.
+pub fn read_list(b: &[u8]) -> [Listed; 7]
+    ensures { λ r. ⌜ r ≡ listIn 7 (now (b .entry)) ⌝ }
+{
+    let first = listed_at(b, 0);
+    let mut list = [first; 7];
+    let mut i = 0;
+    while i < 7 {
+        list[i] = listed_at(b, i * LISTED_SIZE);
+        i += 1;
+    }
+    list
+}

@@ -1,1 +1,3 @@
 pub mod Tests
+pub mod Pieces
+pub mod Bounds

@@ -1,0 +1,30 @@
+use borrow.Author.Needs.{needs}
+use Rattle.capi.proofs.numbers.bundle_number.Statement.{statement}
+use Rattle.capi.proofs.numbers.bundle_number.Tie as tie
+use Rattle.capi.proofs.numbers.bundle_number.Reads as reads
+use Rattle.capi.proofs.numbers.bundle_number.Lts as lts
+use Rattle.bundle.proofs.report.row_number.Reads as row-number-reads
+
+-- src/numbers.rt:110:9
+row-number-requires : tie.Need-row-number-requires
+row-number-requires c κs = search needs
+
+-- src/numbers.rt:111:43
+cast-result : tie.Need-cast-result
+cast-result c = search needs
+
+-- src/numbers.rt:111:35
+add-result : tie.Need-add-result
+add-result c = search needs
+
+-- src/numbers.rt:107:1
+returns : tie.Need-returns
+returns c = ?
+
+-- src/numbers.rt:107:1
+returns-2 : tie.Need-returns-2
+returns-2 c = ?
+
+pub bundle-number-spec : {M : Type 1} → statement M
+bundle-number-spec =
+    tie.close (tie.spec row-number-requires cast-result add-result returns returns-2)

@@ -1,0 +1,31 @@
+// A component of the list that set-up takes, as 13 bytes: id, running version, region.
+ghost use mathlib.Core.Path.{_≡_};
+ghost use lib.ListN.{drop};
+ghost use Rattle.device_bytes.specs.Layout.{listedIn};
+use crate::part::region_in;
+use crate::part::version_at;
+use component::record::Listed;
+use wire::words;
+
+fn listed_in(q: &[u8]) -> Listed
+    ensures { λ r. ⌜ r ≡ listedIn (now (q .entry)) ⌝ }
+{
+    let running = version_at(q, 1);
+    let region = region_in(q);
+    Listed {
+        id: words::byte_at(q, 0),
+        running,
+        region,
+    }
+}
+
+// The one from a place on; past the end of the bytes all is zero.
+pub(crate) fn listed_at(b: &[u8], at: usize) -> Listed
+    ensures { λ r. ⌜ r ≡ listedIn (drop at (now (b .entry))) ⌝ }
+{
+    let n = b.len();
+    if n < at {
+        return listed_in(&b[n..]);
+    }
+    listed_in(&b[at..])
+}

@@ -1,0 +1,102 @@
+// What the host awaits as nine bytes: the stage, then the entry and its BUSY replies, the entry and the block, or the end.
+ghost use mathlib.Core.Path.{_≡_};
+ghost use mathlib.Core.List.{_∷_, _++_};
+ghost use Rattle.wire.specs.Bytes.{bytesOf};
+ghost use Rattle.host_bytes.specs.Layout.{endBytes, stageBytes, endIn, stageIn};
+use host::record::End;
+use host::record::HostStage;
+use host::record::Place;
+use host::record::Turn;
+use wire::words;
+
+// A number of a stage, and two words after it.
+fn numbered(number: u8, first: u32, second: u32) -> [u8; 9]
+    ensures { λ r. ⌜ r ≡ number ∷ bytesOf 4 first ++ bytesOf 4 second ⌝ }
+{
+    let a = words::bytes32(first);
+    let b = words::bytes32(second);
+    [number, a[0], a[1], a[2], a[3], b[0], b[1], b[2], b[3]]
+}
+
+// The stage of an end, its number, and the content status of H1.
+fn ended_bytes(e: End) -> [u8; 9]
+    ensures { λ r. ⌜ r ≡ 7 ∷ endBytes e ⌝ }
+{
+    match e {
+        End::Done => numbered(7, 0, 0),
+        End::Status(s) => numbered(7, 1, s as u32),
+        End::Foreign => numbered(7, 2, 0),
+        End::Unexpected => numbered(7, 3, 0),
+        End::Busy => numbered(7, 4, 0),
+    }
+}
+
+pub(crate) fn stage_bytes(stage: HostStage) -> [u8; 9]
+    ensures { λ r. ⌜ r ≡ stageBytes stage ⌝ }
+{
+    match stage {
+        HostStage::Fresh => numbered(0, 0, 0),
+        HostStage::Opening => numbered(1, 0, 0),
+        HostStage::Listing => numbered(2, 0, 0),
+        HostStage::Offering(t) => numbered(3, t.entry, t.busy),
+        HostStage::Waiting(t) => numbered(4, t.entry, t.busy),
+        HostStage::Sending(p) => numbered(5, p.entry, p.block),
+        HostStage::Closing => numbered(6, 0, 0),
+        HostStage::Ended(e) => ended_bytes(e),
+    }
+}
+
+fn end_in(number: u32, status: u32) -> End
+    ensures { λ r. ⌜ r ≡ endIn number status ⌝ }
+{
+    if number == 1 {
+        return End::Status((status % 256) as u8);
+    }
+    if number == 2 {
+        return End::Foreign;
+    }
+    if number == 3 {
+        return End::Unexpected;
+    }
+    if number == 4 {
+        return End::Busy;
+    }
+    End::Done
+}
+
+pub(crate) fn stage_in(stage: u8, first: u32, second: u32) -> HostStage
+    ensures { λ r. ⌜ r ≡ stageIn stage first second ⌝ }
+{
+    if stage == 1 {
+        return HostStage::Opening;
+    }
+    if stage == 2 {
+        return HostStage::Listing;
+    }
+    if stage == 3 {
+        return HostStage::Offering(Turn {
+            entry: first,
+            busy: second,
+        });
+    }
+    if stage == 4 {
+        return HostStage::Waiting(Turn {
+            entry: first,
+            busy: second,
+        });
+    }
+    if stage == 5 {
+        return HostStage::Sending(Place {
+            entry: first,
+            block: second,
+        });
+    }
+    if stage == 6 {
+        return HostStage::Closing;
+    }
+    if stage == 7 {
+        let e = end_in(first, second);
+        return HostStage::Ended(e);
+    }
+    HostStage::Fresh
+}

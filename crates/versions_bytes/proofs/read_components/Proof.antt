@@ -1,0 +1,66 @@
+-- `read_components` meets its contract. After i turns the first i components are read. Assumes nothing.
+use native.Mathlib.Omega.{arith}
+use Rattle.versions_bytes.proofs.Pieces.{component-read, components-read}
+use Rattle.versions_bytes.specs.Layout.{componentsIn}
+use lib.ListN.{length, take}
+use Prim.Native.Nat.{_-_, _≤_}
+use mathlib.Core.Path.{_≡_, refl}
+use borrow.Author.Needs.{needs}
+use Rattle.versions_bytes.proofs.read_components.Statement.{statement}
+use Rattle.versions_bytes.proofs.read_components.Tie as tie
+
+abbrev Inv-loop : tie.InvT-loop
+Inv-loop q components₀ i₀ components i = (i ≤ 7) × (length components ≡ 7) × (take i components ≡ componentsIn i q)
+
+abbrev μ-loop : tie.MeasureT-loop
+μ-loop q components₀ i₀ components i = 7 - i
+
+running-at-requires : tie.Need-running-at-requires Inv-loop μ-loop
+running-at-requires c κs = search needs
+
+loop-holds : tie.Need-loop-holds Inv-loop μ-loop
+unfolding componentsIn
+loop-holds c = (search needs, search needs, refl)
+
+mul-running-at : tie.Need-mul-running-at Inv-loop μ-loop
+mul-running-at c = search needs
+
+running-at-requires-2 : tie.Need-running-at-requires-2 Inv-loop μ-loop
+running-at-requires-2 c κs = search needs
+
+mul-components : tie.Need-mul-components Inv-loop μ-loop
+mul-components c = search needs
+
+array-set-from-components : tie.Need-array-set-from-components Inv-loop μ-loop
+array-set-from-components c = search needs
+
+add-i : tie.Need-add-i Inv-loop μ-loop
+add-i c = search needs
+
+loop-less : tie.Need-loop-less Inv-loop μ-loop
+loop-less c = search needs
+
+loop-again : tie.Need-loop-again Inv-loop μ-loop
+loop-again c =
+    let l = c .before .before .loop in
+    (search needs, search needs, component-read (l .i) _ (l .components) _ (omega arith) (l .inv .2) (c .running-at2 .ensures))
+
+returns : tie.Need-returns Inv-loop μ-loop
+returns c = let l = c .before .loop in components-read (l .i) _ (l .components) (omega arith) (l .inv .1) (l .inv .2)
+
+pub read-components-spec : {M : Type 1} → statement M
+read-components-spec =
+    tie.close
+    (tie.spec
+    Inv-loop
+    μ-loop
+    running-at-requires
+    loop-holds
+    mul-running-at
+    running-at-requires-2
+    mul-components
+    array-set-from-components
+    add-i
+    loop-less
+    loop-again
+    returns)

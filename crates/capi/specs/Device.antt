@@ -1,12 +1,11 @@
 -- The device's calls from C: what each answers and leaves in each lent buffer. A refused call leaves the record as it is.
 use Prim.Native.Nat.{ℕ}
-use mathlib.Core.Bool.{cond}
 use mathlib.Core.List.{List, flatten}
 use lib.ListN.{length}
 use Rattle.component.specs.Setup as setup
 use Rattle.device.specs.declared.record.Device.{Device}
 use Rattle.device.specs.Refusals.{Row, served, D, Outcome}
-use Rattle.device.specs.Entries.{SetUp, setUpOf, Versions, versionEntry, Reset, resetEntry}
+use Rattle.device.specs.Entries.{setUpOf, versionEntry, Reset, resetEntry}
 use Rattle.device.specs.Offer.{offerEntry}
 use Rattle.device.specs.Content.{contentEntry, contentStaging}
 use Rattle.device_bytes.specs.Layout.{DEVICE-SIZE, LIST-SIZE, deviceBytes, readDevice, listIn}

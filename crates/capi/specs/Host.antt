@@ -1,12 +1,16 @@
 -- The bundle's and the host's calls from C: what each answers and leaves in each lent buffer. A refused call leaves the record as it is.
 use Prim.Native.Nat.{ℕ}
+use mathlib.Core.Bool.{cond, _&&_}
 use mathlib.Core.List.{List, flatten}
+use lib.Dec.{leb}
 use lib.ListN.{length}
+use Rattle.bundle.specs.Layout.{OFFER-LIMIT}
 use Rattle.bundle.specs.Contents.{Contents, checkOf}
+use Rattle.host.specs.declared.record.Host.{Host}
 use Rattle.host.specs.Record.{Reported, reportOf, freshHost}
-use Rattle.host.specs.Step.{Row, served, B, N, Step, stepOf}
-use Rattle.host.specs.Inner.{InnerStep, innerOf}
-use Rattle.host_bytes.specs.Layout.{HOST-SIZE, CONTENTS-SIZE, hostBytes, readHost, contentsBytes, contentsIn, cursorIn, withCursor}
+use Rattle.host.specs.Step.{Row, served, B, N, PACKET-LIMIT, Step, stepOf}
+use Rattle.host.specs.Inner.{innerOf}
+use Rattle.host_bytes.specs.Layout.{HOST-SIZE, CONTENTS-SIZE, hostBytes, readHost, lostHost, contentsBytes, contentsIn, cursorIn, withCursor}
 use Rattle.capi.specs.declared.types.CCheck.{CCheck}
 use Rattle.capi.specs.declared.types.CStep.{CStep}
 use Rattle.capi.specs.declared.types.CReport.{CReport}
@@ -71,13 +75,18 @@ stepCall host bundle reply packet =
     (sized packet PACKET-SIZE (refusedStep WRONG-OUTPUT host packet)
     (stepBy host (stepOf bundle (readHost host) reply)))
 
+-- the host whose step it is: contents whose count is not 1 to 7 are no accepted bundle's, and every step over them is N1
+abbrev pub hostOver : (contents host : List ℕ) → Host
+hostOver contents host =
+    cond (leb 1 (contentsIn contents .count) && leb (contentsIn contents .count) OFFER-LIMIT) (readHost host) lostHost
+
 -- the step over contents that the check left
 unfoldable pub stepCheckedCall : (host contents bundle reply packet : List ℕ) → StepLeft
 stepCheckedCall host contents bundle reply packet =
     sized host HOST-SIZE (refusedStep WRONG-RECORD host packet)
     (sized contents CONTENTS-SIZE (refusedStep WRONG-RECORD host packet)
     (sized packet PACKET-SIZE (refusedStep WRONG-OUTPUT host packet)
-    (stepBy host (innerOf bundle (contentsIn contents) (cursorIn contents) (readHost host) reply .step))))
+    (stepBy host (innerOf bundle (contentsIn contents) (cursorIn contents) (hostOver contents host) reply .step))))
 
 -- the contents after it: the same, with the cursor that the inner step leaves
 unfoldable pub stepCheckedContents : (host contents bundle reply packet : List ℕ) → List ℕ
@@ -85,12 +94,12 @@ stepCheckedContents host contents bundle reply packet =
     sized host HOST-SIZE contents
     (sized contents CONTENTS-SIZE contents
     (sized packet PACKET-SIZE contents
-    (withCursor contents (innerOf bundle (contentsIn contents) (cursorIn contents) (readHost host) reply .cursor))))
+    (withCursor contents (innerOf bundle (contentsIn contents) (cursorIn contents) (hostOver contents host) reply .cursor))))
 
--- the report
+-- the report; a record that counts 2^31 packets or more is N1 over every bundle, and so here
 abbrev pub reportBy : Reported → CReport
 reportBy r = record {
-  number = SERVED;
+  number = cond (leb PACKET-LIMIT (r .packets)) (stepNumber (N 1)) SERVED;
   completed = r .completed;
   mask = r .mask;
   packets = r .packets;

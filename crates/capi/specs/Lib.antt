@@ -2,3 +2,4 @@ pub mod Numbers
 pub mod Device
 pub mod Host
 pub mod Packets
+pub mod Bench

@@ -1,6 +1,6 @@
 -- The numbers that cross to C: 0, or a row of document 01 as its letter's code, times 256, and its number; and the rows of this room, C1 to C3.
 use Prim.Native.Nat.{ℕ, _+_, _-_}
-use mathlib.Core.Bool.{Bool, cond}
+use mathlib.Core.Bool.{cond}
 use mathlib.Core.List.{List, _++_}
 use lib.Dec.{eqb}
 use lib.ListN.{length, replicate}

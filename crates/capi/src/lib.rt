@@ -4,3 +4,5 @@ pub mod numbers; // numbers.rt: sizes, and the numbers of the rows
 mod lent; // lent.rt: what is left in a lent buffer
 pub mod build; // build.rt: building each packet
 pub mod read; // read.rt: reading each packet
+pub mod device_calls; // device_calls.rt: the device's calls
+pub mod host_calls; // host_calls.rt: the bundle's and the host's calls

@@ -93,7 +93,7 @@ fn host_in(b: &[u8]) -> Host
 }
 
 // A record that N1 refuses over every bundle.
-fn lost_host() -> Host
+pub fn lost_host() -> Host
     ensures { λ r. ⌜ r ≡ lostHost ⌝ }
 {
     Host {

@@ -1,3 +1,5 @@
+use Rattle.capi.proofs.numbers.Laws.{number-of}
+use borrow.Author.Tests.{eq-eqb, ne-eqb}
 use borrow.Author.Needs.{needs}
 use Rattle.capi.proofs.numbers.bundle_number.Statement.{statement}
 use Rattle.capi.proofs.numbers.bundle_number.Tie as tie
@@ -19,11 +21,11 @@ add-result c = search needs
 
 -- src/numbers.rt:107:1
 returns : tie.Need-returns
-returns c = ?
+returns c = let a = c .before .before .args in rw (eq-eqb _ _ (c .if1 .taken)) at (number-of (a .v) (a .entry) (c .before .row-number .ensures))
 
 -- src/numbers.rt:107:1
 returns-2 : tie.Need-returns-2
-returns-2 c = ?
+returns-2 c = let a = c .before .before .args in rw (ne-eqb _ _ (c .if1 .left)) at (number-of (a .v) (a .entry) (c .before .row-number .ensures))
 
 pub bundle-number-spec : {M : Type 1} → statement M
 bundle-number-spec =

@@ -1,0 +1,37 @@
+-- The bench device as C sees it, computed. Assumes nothing.
+use mathlib.Core.Path.{refl}
+use mathlib.Core.List.{flatten}
+use Rattle.wire.specs.Bytes.{same}
+use Rattle.wire.specs.Checks.{firstOf, any, pairs}
+use Rattle.offers.specs.Offer.{offerBytes, fieldsIn, buildOf}
+use Rattle.offers.specs.Kind.{kindIn, readOf}
+use Rattle.contents.specs.Content as content
+use Rattle.contents.specs.Content.{cleared}
+use Rattle.versions.specs.Reply.{flat, replyBytes}
+use Rattle.image.specs.Region.{within, blank, put, eraseOf, writeOf}
+use Rattle.component.specs.Lists.{firstFrom, find}
+use Rattle.component.specs.Setup.{badIds, badRegions, setupVerdict}
+use Rattle.device.specs.Refusals.{breaksD1, refusalOf}
+use Rattle.device.specs.Offer.{rejections, needUnmet, offerVerdict, onOffer, offerEntry}
+use Rattle.device.specs.Content.{contentVerdict, takeBlock, onBlock, contentEntry}
+use Rattle.device.specs.Entries.{setUpOf, versionEntry}
+use Rattle.device_bytes.specs.Layout.{partsBytes, deviceBytes, partsIn, deviceIn, readDevice, listIn}
+use Rattle.host_bytes.specs.Layout.{hostBytes, bodiesBytes, contentsBytes}
+use Rattle.capi.specs.Device.{setUpCall, versionsCall, offerCall, contentCall}
+use Rattle.capi.specs.Packets.{buildOfferCall, readOfferCall}
+use Rattle.capi.specs.Bench.{CallsHold}
+
+pub calls-hold : CallsHold
+unfolding flatten same firstOf any pairs offerBytes fieldsIn buildOf kindIn readOf content.fieldsIn cleared flat replyBytes within blank put eraseOf writeOf firstFrom find badIds badRegions setupVerdict breaksD1 refusalOf rejections needUnmet offerVerdict onOffer offerEntry contentVerdict takeBlock onBlock contentEntry setUpOf versionEntry partsBytes deviceBytes partsIn deviceIn readDevice listIn hostBytes bodiesBytes contentsBytes setUpCall versionsCall offerCall contentCall buildOfferCall readOfferCall
+calls-hold = record {
+  sets-up = refl;
+  versions = refl;
+  accepts = refl;
+  takes = refl;
+  refuses = refl;
+  sending = refl;
+  failed = refl;
+  kept = refl;
+  builds = refl;
+  reads = refl;
+}

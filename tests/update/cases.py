@@ -105,6 +105,13 @@ run(record(BENCH, (2, 0, 0x33, 7), (1, 0x44)), bundle(ONE, TWO))
 case('an offer for an absent component: rejected, the others land')
 run(record(BENCH), bundle(offer(5, V13), ONE, TWO))
 
+# What the bundle of last year's fault does now: the offer is component 1's, the body is component 2's good image.
+SWAPPED = (offer(1, V13)[0], body(image(2, V13)))
+case("last year's fault: component 2's image in the body of component 1's offer: H1 with status 4, nothing pending")
+run(record(BENCH), bundle(SWAPPED))
+case("last year's fault behind a good image: component 2 lands, and the fault ends the run before anything of component 1 is pending")
+run(record(BENCH), bundle(TWO, SWAPPED))
+
 case('refused: B3, no offers')
 run(record(BENCH), bytes([0, 1]) + bytes(6))
 case('refused: D1, a READY owed while idle')

@@ -85,7 +85,7 @@ fn bad_id(id: u8) -> bool
 fn bad_region(n: usize, r: Region) -> bool
     ensures { λ x. ⌜ x ≡ badRegion n r ⌝ }
 {
-    (r.len < REGION_LEAST) | (n < (r.base.0 as usize) + (r.len as usize))
+    (r.len < REGION_LEAST) | ((n as u64) < (r.base.0 as u64) + (r.len as u64))
 }
 
 fn overlaps(r: Region, other: Region) -> bool

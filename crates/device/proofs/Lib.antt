@@ -3,6 +3,7 @@ pub mod Chain
 pub mod Lists
 pub mod Passes
 pub mod Moves
+pub mod Images
 pub mod Kept
 pub mod Answers
 pub mod Bytes

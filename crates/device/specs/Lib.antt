@@ -4,4 +4,5 @@ pub mod Offer
 pub mod Content
 pub mod Entries
 pub mod Promises
+pub mod Images
 pub mod Bench

@@ -3,7 +3,7 @@ use Prim.Native.Nat.{ℕ, zero, suc, _+_, _*_}
 use mathlib.Core.Bool.{cond}
 use mathlib.Core.List.{List, [], _∷_, _++_}
 use lib.Dec.{eqb}
-use lib.ListN.{getD, drop, replicate}
+use lib.ListN.{getD, drop}
 use Rattle.wire.specs.Bytes.{number, bytesOf, bytesAt, same}
 use Rattle.wire.specs.Version.{versionAt, versionBytes}
 use Rattle.image.specs.declared.region.Region.{Region}

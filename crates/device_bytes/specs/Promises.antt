@@ -3,7 +3,6 @@ use Prim.Native.Nat.{ℕ}
 use mathlib.Core.Path.{_≡_}
 use mathlib.Core.Bool.{true}
 use mathlib.Core.List.{List}
-use lib.ListN.{length}
 use Rattle.wire.specs.Bytes.{Bytes, Packet}
 use Rattle.device.specs.declared.record.Device.{Device}
 use Rattle.device.specs.Record.{FitsDevice}

@@ -10,7 +10,7 @@ use Rattle.host.specs.declared.record.Host.{Host}
 use Rattle.host.specs.Record.{FitsHost}
 use Rattle.host.specs.Step.{breaksN1, stepOf}
 use Rattle.host.specs.Inner.{innerOf, CursorIn}
-use Rattle.host_bytes.specs.Layout.{HOST-SIZE, CONTENTS-SIZE, hostBytes, readHost, contentsBytes, contentsIn, cursorIn}
+use Rattle.host_bytes.specs.Layout.{HOST-SIZE, hostBytes, readHost, contentsBytes, contentsIn, cursorIn}
 
 -- every record is bytes of the one length
 abbrev pub HostSized : Type 0

@@ -44,7 +44,7 @@ impl Region {
     pub fn is_inside(self, n: usize) -> bool
         ensures { λ r. ⌜ r ≡ isInside self n ⌝ }
     {
-        (self.base.0 as usize) + (self.len as usize) <= n
+        (self.base.0 as u64) + (self.len as u64) <= (n as u64)
     }
 
     // It holds n bytes at an address. The sum of the two is not formed, so it does not wrap.
@@ -63,7 +63,7 @@ impl Region {
         ensures { λ _. ⌜ now (staging .exit) ≡ eraseOf self (now (staging .entry)) ⌝ }
     {
         let base = self.base.0 as usize;
-        let end = base + (self.len as usize);
+        let end = ((self.base.0 as u64) + (self.len as u64)) as usize;
         if self.is_inside(staging.len()) {
             fill(&mut staging[base..end]);
         }
@@ -74,7 +74,7 @@ impl Region {
         ensures { λ _. ⌜ now (staging .exit) ≡ writeOf self a (now (bytes .entry)) (now (staging .entry)) ⌝ }
     {
         let base = self.base.0 as usize;
-        let end = base + (self.len as usize);
+        let end = ((self.base.0 as u64) + (self.len as u64)) as usize;
         if self.is_inside(staging.len()) & self.holds(a, bytes.len()) {
             put(&mut staging[base..end], a, bytes);
         }

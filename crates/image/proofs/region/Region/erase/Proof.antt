@@ -17,6 +17,9 @@ cast-base c = search needs
 cast-end : tie.Need-cast-end
 cast-end c = search needs
 
+cast-end-2 : tie.Need-cast-end-2
+cast-end-2 c = search needs
+
 add-end : tie.Need-add-end
 add-end c = search needs
 
@@ -29,12 +32,12 @@ sub-fill c = search needs
 part-fill-start : tie.Need-part-fill-start
 part-fill-start c = search needs
 
-guard : (c : tie.Then1) → isInside (c .before .before .before .before .before .args .self) (length (c .before .before .before .before .before .args .staging .now)) ≡ true
+guard : (c : tie.Then1) → isInside (c .before .before .before .before .before .before .args .self) (length (c .before .before .before .before .before .before .args .staging .now)) ≡ true
 guard c = sym (c .before .is-inside .ensures) ∙ c .if1 .taken
 
 part-fill-end : tie.Need-part-fill-end
 part-fill-end c =
-    let a = c .before .before .before .before .before .args in
+    let a = c .before .before .before .before .before .before .args in
     omega (arith, inside (a .self) (length (a .staging .now)) (guard c))
 
 fill-requires : tie.Need-fill-requires
@@ -46,7 +49,7 @@ same-length c = search needs
 returns : tie.Need-returns
 unfolding regionBytes
 returns c =
-    let a = c .before .before .before .before .before .before .before .before .before .args in
+    let a = c .before .before .before .before .before .before .before .before .before .before .args in
     let g = guard (c .before .before .before .before) in
     let n : a .self .base .0 + a .self .len - a .self .base .0 ≡ a .self .len = omega arith in
     lent (a .self .base .0) (a .self .len) (λ old. blank (a .self .len)) (a .staging .now) _
@@ -63,6 +66,7 @@ erase-spec =
     (tie.spec
     cast-base
     cast-end
+    cast-end-2
     add-end
     is-inside-requires
     sub-fill

@@ -275,6 +275,15 @@ impl HostRecord {
     }
 }
 
+/// A report's number: a record that counts 2^31 packets or more is N1 over every bundle, and its fields are told all the same.
+pub fn report_number(packets: u32) -> u32 {
+    if packets < 1 << 31 {
+        SERVED
+    } else {
+        N1
+    }
+}
+
 /// A body in the contents of a checked bundle.
 #[derive(Clone, Copy, Debug, Default, PartialEq, Eq)]
 pub struct Body {

@@ -352,7 +352,9 @@ impl Calls for Made {
             return Step { number: C3, entry: 0, length: 0 };
         }
         let kept = Contents::read(contents);
-        let answer = inner_step(checked_of(&kept), kept.cursor as usize, read_host(host), bundle, reply);
+        // Contents whose count is not 1 to 7 are no accepted bundle's: N1, whatever the record.
+        let known = if (1..=7).contains(&kept.count) { read_host(host) } else { host_of(&HostRecord::lost()) };
+        let answer = inner_step(checked_of(&kept), kept.cursor as usize, known, bundle, reply);
         contents.copy_from_slice(&Contents { cursor: answer.cursor as u64, ..kept }.bytes());
         stepped(answer.step, host, packet)
     }
@@ -370,7 +372,7 @@ impl Calls for Made {
             Progress::Ended(End::Unexpected) => (H3, 0),
             Progress::Ended(End::Busy) => (H4, 0),
         };
-        Report { number: SERVED, completed: told.completed, mask: told.mask, packets: told.packets, passes: told.passes, ending, status }
+        Report { number: report_number(told.packets), completed: told.completed, mask: told.mask, packets: told.packets, passes: told.passes, ending, status }
     }
 
     fn build_version_reply(&self, count: u8, protocol: u8, components: &[u8], packet: &mut [u8]) -> u32 {

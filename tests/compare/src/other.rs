@@ -350,7 +350,7 @@ impl Calls for Other {
             Some(End::H3) => (H3, 0),
             Some(End::H4) => (H4, 0),
         };
-        Report { number: SERVED, completed: told.completed, mask: host.mask, packets: told.packets, passes: told.passes, ending, status }
+        Report { number: report_number(told.packets), completed: told.completed, mask: host.mask, packets: told.packets, passes: told.passes, ending, status }
     }
 
     fn build_version_reply(&self, count: u8, protocol: u8, components: &[u8], packet: &mut [u8]) -> u32 {

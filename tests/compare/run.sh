@@ -17,7 +17,7 @@ for tool in python3 cargo rt valgrind; do
     command -v "$tool" >/dev/null 2>&1 || fail "$tool is not installed"
 done
 
-rt staticlib capi >/dev/null || fail "the library is not made"
+bash tests/library.sh || fail "the library is not made"
 python3 tools/rust_crate target/rust/cfu_updater >/dev/null || fail "the crate is not made"
 cargo build --offline --quiet --release -j1 --manifest-path tests/compare/Cargo.toml --target-dir target/compare || fail "the comparison does not build"
 if [ $# -gt 0 ]; then

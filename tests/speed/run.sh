@@ -13,7 +13,7 @@ for tool in python3 cargo rustc rt; do
     command -v "$tool" >/dev/null 2>&1 || fail "$tool is not installed"
 done
 
-rt staticlib capi >/dev/null || fail "the library is not made"
+bash tests/library.sh || fail "the library is not made"
 python3 tools/rust_crate target/rust/cfu_updater >/dev/null || fail "the crate is not made"
 cargo build --offline --quiet --release -j1 --manifest-path tests/speed/Cargo.toml --target-dir target/speed || fail "the measurement does not build"
 printf 'processor: %s\n' "$(sed -n 's/^model name[^:]*: //p' /proc/cpuinfo | head -n 1)"

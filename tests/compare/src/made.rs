@@ -1,16 +1,21 @@
 //! The crate that tools/rust_crate makes from the proved source. Rows C1 to C3 and bytes that are no record are judged here, as include/cfu.h says.
 
-use cfu_updater::bundle::{self, BundleVerdict, Checked};
+use cfu_updater::bundle;
+use cfu_updater::layout::{self, BundleVerdict, Checked};
 use cfu_updater::component::record::{Component, Listed, Staged};
 use cfu_updater::component::setup::SetupVerdict;
 use cfu_updater::contents::content::{build_content, read_content, ContentFields};
 use cfu_updater::contents::reply::{build_content_reply, read_content_reply, ContentReply as MadeContentReply};
 use cfu_updater::device::answer::{Answer, Refusal};
-use cfu_updater::device::record::{Device, Offered, Owed, Receiving, Stage as DeviceStage};
+use cfu_updater::device::record::Device;
+use cfu_updater::session::owed::Owed;
+use cfu_updater::session::stage::{Offered, Receiving, Stage as DeviceStage};
 use cfu_updater::device::setup::set_up;
-use cfu_updater::host::answer::{Progress, Sent, StepAnswer, StepRefusal};
+use cfu_updater::host_record::report::Progress;
+use cfu_updater::make::answer::{Sent, StepAnswer, StepRefusal};
 use cfu_updater::host::inner::inner_step;
-use cfu_updater::host::record::{End, Host, HostStage, Place, Turn};
+use cfu_updater::host::step::step;
+use cfu_updater::host_record::record::{End, Host, HostStage, Place, Turn};
 use cfu_updater::image::region::{Region, StagingOffset};
 use cfu_updater::offers::kind::{read_offer_packet, OfferPacket as MadeOfferPacket};
 use cfu_updater::offers::offer::{build_offer, OfferFields};
@@ -193,7 +198,7 @@ fn read_host(bytes: &[u8]) -> Host {
 
 /// The contents of the crate's answer to a check.
 fn contents_of(checked: &Checked) -> Contents {
-    let body = |entry: &bundle::Entry| Body { offset: entry.offset, length: entry.length, records: entry.records };
+    let body = |entry: &layout::Entry| Body { offset: entry.offset, length: entry.length, records: entry.records };
     Contents { count: checked.count, bodies: checked.table.each_ref().map(body), cursor: 0 }
 }
 
@@ -211,7 +216,7 @@ pub fn checked_of(contents: &Contents) -> Checked {
         protocol: 0,
         platform: 0,
     };
-    let entry = |body: &Body| bundle::Entry { offer, offset: body.offset, length: body.length, records: body.records };
+    let entry = |body: &Body| layout::Entry { offer, offset: body.offset, length: body.length, records: body.records };
     Checked { verdict: BundleVerdict::Fine, place: 0, count: contents.count, table: contents.bodies.each_ref().map(entry) }
 }
 
@@ -341,7 +346,7 @@ impl Calls for Made {
         if packet.len() != LONG_SIZE {
             return Step { number: C3, entry: 0, length: 0 };
         }
-        stepped(read_host(host).step(bundle, reply), host, packet)
+        stepped(step(read_host(host), bundle, reply), host, packet)
     }
 
     fn step_checked(&self, host: &mut [u8], contents: &mut [u8], bundle: &[u8], reply: &[u8], packet: &mut [u8]) -> Step {

@@ -177,5 +177,5 @@ pub fn read_cursor(q: &[u8]) -> usize
 {
     let low = words::word32_at(q, 85);
     let high = words::word32_at(q, 89);
-    (low as usize) + 4294967296 * (high as usize)
+    ((low as u64) + 4294967296 * (high as u64)) as usize
 }

@@ -172,6 +172,7 @@ pub fn read_contents(q: &[u8]) -> Checked
     }
 }
 
+// A cursor that was stored is a place in a bundle, so a usize of 32 bits holds it too.
 pub fn read_cursor(q: &[u8]) -> usize
     ensures { λ r. ⌜ r ≡ cursorIn (now (q .entry)) ⌝ }
 {

@@ -239,6 +239,6 @@ fn a_body_that_ends_inside_a_record_is_broken() {
     for size in [0, 53, 255] {
         let mut b = [7; 300];
         b[4] = size;
-        assert_eq!(next_record(&b, 0, 5 + size as usize), Next::Bad, "length {size}");
+        assert_eq!(next_record(&b, 0, 5 + size as u64), Next::Bad, "length {size}");
     }
 }

@@ -9,10 +9,10 @@ use layout::head::table_end;
 use layout::parts::length_in;
 use layout::parts::offset_in;
 
-fn wide(x: u32) -> usize
+fn wide(x: u32) -> u64
     ensures { λ r. ⌜ r ≡ x ⌝ }
 {
-    x as usize
+    x as u64
 }
 
 // B7: the first entry whose body does not start where the table or the previous body ends; the last entry where the last end is not the file's; or 0.
@@ -21,7 +21,7 @@ pub(crate) fn gap_place(b: &[u8]) -> u8
     ensures { λ r. ⌜ r ≡ rowB7 (now (b .entry)) ⌝ }
 {
     let count = b[0];
-    let mut at = table_end(count);
+    let mut at = table_end(count) as u64;
     let mut i: u8 = 0;
     while i < count {
         let e = entry_at(b, i);
@@ -32,5 +32,5 @@ pub(crate) fn gap_place(b: &[u8]) -> u8
         at = offset + wide(length_in(e));
         i += 1;
     }
-    if at == b.len() { 0 } else { count }
+    if at == b.len() as u64 { 0 } else { count }
 }

@@ -27,11 +27,11 @@ use records::Next;
 use records::walk::next_record;
 
 // The place after the first `count` records of a body, if it has as many.
-fn place_after(b: &[u8], at: usize, end: usize, count: usize) -> usize
+fn place_after(b: &[u8], at: usize, end: u64, count: u64) -> usize
     ensures { λ r. ⌜ ((rs : List Block) → at ≤ end → end ≤ length (now (b .entry)) → recordsOf (between (now (b .entry)) at end) ≡ whole rs → count ≤ length rs → (r ≤ end) × (recordsOf (between (now (b .entry)) r end) ≡ whole (drop count rs))) ⌝ }
 {
     let mut place = at;
-    let mut i: usize = 0;
+    let mut i: u64 = 0;
     while i < count {
         let r = next_record(b, place, end);
         match r {
@@ -64,7 +64,7 @@ fn cursor_for(b: &[u8], c: Checked, stage: HostStage) -> usize
         HostStage::Sending(p) => {
             let table = c.table;
             let body = body_at(table, p.entry);
-            place_after(b, body.start, body.end, p.block as usize + 1)
+            place_after(b, body.start, body.end, p.block as u64 + 1)
         }
         HostStage::Closing => 0,
         HostStage::Ended(_) => 0,

@@ -172,10 +172,11 @@ pub fn read_contents(q: &[u8]) -> Checked
     }
 }
 
+// A cursor that was stored is a place in a bundle, so a usize of 32 bits holds it too.
 pub fn read_cursor(q: &[u8]) -> usize
     ensures { λ r. ⌜ r ≡ cursorIn (now (q .entry)) ⌝ }
 {
     let low = words::word32_at(q, 85);
     let high = words::word32_at(q, 89);
-    (low as usize) + 4294967296 * (high as usize)
+    ((low as u64) + 4294967296 * (high as u64)) as usize
 }

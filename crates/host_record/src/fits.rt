@@ -22,17 +22,16 @@ pub const BUSY_LIMIT: u32 = 8;
 // The body of an entry: where it starts and ends, and how many records it has.
 pub struct Body {
     pub start: usize,
-    pub end: usize,
+    pub end: u64,
     pub records: u32,
 }
 
 fn body_of(e: Entry) -> Body
     ensures { λ r. ⌜ r ≡ record { start = e .offset; end = e .offset + e .length; records = e .records } ⌝ }
 {
-    let start = e.offset as usize;
     Body {
-        start: start,
-        end: start + e.length as usize,
+        start: e.offset as usize,
+        end: (e.offset as u64) + (e.length as u64),
         records: e.records,
     }
 }
@@ -115,7 +114,7 @@ pub fn is_last(c: Checked, p: Place) -> bool
 {
     let table = c.table;
     let b = body_at(table, p.entry);
-    (p.block as usize) + 1 == b.records as usize
+    (p.block as u64) + 1 == b.records as u64
 }
 
 pub fn last_in(c: Checked, stage: HostStage) -> bool

@@ -64,7 +64,7 @@ fn made_offer(
 ) -> InnerAnswer
     ensures { λ r. ⌜ toldInner r ≡ madeOf (now (b .entry)) (toldChecked c) cursor before after (Action.Offer entry) ⌝ }
 {
-    if HEAD + ENTRY * (entry as usize + 1) <= b.len() {
+    if (HEAD as u64) + (ENTRY as u64) * (entry as u64 + 1) <= b.len() as u64 {
         let p = packet::offer(b, entry, after.token);
         served(Sent::Offer, p, after, cursor)
     } else {

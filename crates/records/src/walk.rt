@@ -40,16 +40,17 @@ fn first(s: &[u8]) -> Head
 }
 
 // What stands at place `at` of a body that ends at `end`; places that the bytes do not have are bad.
-pub fn next_record(bytes: &[u8], at: usize, end: usize) -> Next
+pub fn next_record(bytes: &[u8], at: usize, end: u64) -> Next
     ensures { λ r. ⌜ r ≡ nextOf (now (bytes .entry)) at end ⌝ }
 {
-    if end < at {
+    if end < at as u64 {
         return Next::Bad;
     }
-    if bytes.len() < end {
+    if (bytes.len() as u64) < end {
         return Next::Bad;
     }
-    let h = first(&bytes[at..end]);
+    let to = end as usize;
+    let h = first(&bytes[at..to]);
     match h {
         Head::Empty => Next::End,
         Head::Cut => Next::Bad,
@@ -72,7 +73,7 @@ pub fn tally(bytes: &[u8], at: usize, end: usize) -> Tally
     let mut n: usize = 0;
     let mut i = at;
     loop {
-        let r = next_record(bytes, i, end);
+        let r = next_record(bytes, i, end as u64);
         match r {
             Next::End => return Tally::Records(n),
             Next::Bad => return Tally::Broken,

@@ -29,14 +29,14 @@ pub fn byte_at(p: &[u8], i: usize) -> u8
     if i < p.len() { p[i] } else { 0 }
 }
 
-pub fn word16_at(p: &[u8], i: u32) -> u16
+pub fn word16_at(p: &[u8], i: u16) -> u16
     ensures { λ r. ⌜ r ≡ number (bytesAt 2 i (now (p .entry))) ⌝ }
 {
     let at = i as usize;
     word16(byte_at(p, at), byte_at(p, at + 1))
 }
 
-pub fn word32_at(p: &[u8], i: u32) -> u32
+pub fn word32_at(p: &[u8], i: u16) -> u32
     ensures { λ r. ⌜ r ≡ number (bytesAt 4 i (now (p .entry))) ⌝ }
 {
     let at = i as usize;

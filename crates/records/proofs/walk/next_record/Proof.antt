@@ -21,6 +21,9 @@ returns-2 : tie.Need-returns-2
 unfolding nextOf
 returns-2 c = rw (le-leb _ _ (c .before .if1 .left), lt-leb _ _ (c .if2 .taken))
 
+sub-first : tie.Need-sub-first
+sub-first c = search needs
+
 part-first-start : tie.Need-part-first-start
 part-first-start c = search needs
 
@@ -42,11 +45,11 @@ enum-known-h c = search needs
 add-start : tie.Need-add-start
 add-start c = search needs
 
-cast-t14 : tie.Need-cast-t14
-cast-t14 c = search needs
+cast-t16 : tie.Need-cast-t16
+cast-t16 c = search needs
 
-add-t15 : tie.Need-add-t15
-add-t15 c = search needs
+add-t17 : tie.Need-add-t17
+add-t17 c = search needs
 
 returns-3 : tie.Need-returns-3
 unfolding nextOf
@@ -66,6 +69,7 @@ next-record-spec =
     (tie.spec
     returns
     returns-2
+    sub-first
     part-first-start
     part-first-end
     first-requires
@@ -73,8 +77,8 @@ next-record-spec =
     enum-told-2
     enum-known-h
     add-start
-    cast-t14
-    add-t15
+    cast-t16
+    add-t17
     returns-3
     returns-4
     returns-5)

@@ -1,0 +1,249 @@
+//! Numbers from outside whose sum passes 32 bits, and E13: document 01, "The bundle", "The device", "The host", rows B7, S4 and N1. Written from that
+//! document. `cargo test` runs these cases with the usize of the machine; tests/rust/wide.sh runs them with a usize of 32 bits.
+use cfu_updater::bundle::check;
+use cfu_updater::component::record::Listed;
+use cfu_updater::component::setup::SetupVerdict;
+use cfu_updater::crc16::crc16;
+use cfu_updater::decide::{Action, Move};
+use cfu_updater::device::setup::set_up;
+use cfu_updater::host::inner::inner_step;
+use cfu_updater::host::step::step;
+use cfu_updater::host_bytes::{contents_bytes, read_contents, read_cursor};
+use cfu_updater::host_record::fits::is_last;
+use cfu_updater::host_record::record::{End, Host, HostStage, Place};
+use cfu_updater::host_record::report::Progress;
+use cfu_updater::image::region::{Region, StagingOffset};
+use cfu_updater::layout::{BundleVerdict, Checked};
+use cfu_updater::make::action::made;
+use cfu_updater::make::answer::{Sent, StepAnswer, StepRefusal};
+use cfu_updater::records::walk::next_record;
+use cfu_updater::records::Next;
+use cfu_updater::update::{run, RunRefusal};
+use cfu_updater::wire::address::RegionAddress;
+use cfu_updater::wire::version::Version;
+use cfu_updater::wire::words::{word16_at, word32_at};
+
+/// Component 1 at 1.3.0, which needs component 2 at 1.2; component 2 at 1.2.0.
+const ONE: [u8; 16] = [0, 0, 1, 0, 0, 3, 0, 1, 2, 2, 0, 1, 2, 0, 0x42, 0];
+const TWO: [u8; 16] = [0, 0, 2, 0, 0, 2, 0, 1, 0, 0, 0, 0, 2, 0, 0x42, 0];
+
+/// An image of 64 bytes: version, id, filling, and the CRC of all before it, high byte first.
+fn image(version: Version, id: u8) -> Vec<u8> {
+    let mut m = vec![0x5A; 62];
+    m[..4].copy_from_slice(&version.bytes());
+    m[4] = id;
+    let crc = crc16(&m);
+    m.extend(crc.to_be_bytes());
+    m
+}
+
+fn images() -> [Vec<u8>; 2] {
+    [image(Version::new(1, 3, 0), 1), image(Version::new(1, 2, 0), 2)]
+}
+
+/// An image as records of 52 and 12 bytes.
+fn body(m: &[u8]) -> Vec<u8> {
+    [&[0, 0, 0, 0, 52][..], &m[..52], &[52, 0, 0, 0, 12], &m[52..]].concat()
+}
+
+/// A bundle of two offers with their bodies, from byte 56 and from byte 130 on.
+fn bundle(offers: [([u8; 16], &[u8]); 2]) -> Vec<u8> {
+    let mut b = vec![2, 1, 0, 0, 0, 0, 0, 0];
+    for (i, (offer, _)) in offers.iter().enumerate() {
+        b.extend(offer);
+        b.extend((56 + 74 * i as u32).to_le_bytes());
+        b.extend(74u32.to_le_bytes());
+    }
+    for (_, m) in offers {
+        b.extend(body(m));
+    }
+    b
+}
+
+fn one_first() -> Vec<u8> {
+    let [one, two] = images();
+    bundle([(ONE, &one), (TWO, &two)])
+}
+
+fn region(base: u32, len: u32) -> Region {
+    Region {
+        base: StagingOffset(base),
+        len,
+    }
+}
+
+/// Two components, 1 at 1.2.0 and 2 at 1.1.0, with these regions.
+fn listed(one: Region, two: Region) -> [Listed; 7] {
+    let part = |id, minor, region| Listed {
+        id,
+        running: Version::new(1, minor, 0),
+        region,
+    };
+    let mut list = [part(0, 0, region(0, 0)); 7];
+    list[0] = part(1, 2, one);
+    list[1] = part(2, 1, two);
+    list
+}
+
+/// A host of token 5 that awaits the reply to this block.
+fn sending(entry: u32, block: u32) -> Host {
+    let mut h = Host::fresh(5);
+    h.stage = HostStage::Sending(Place { entry, block });
+    h
+}
+
+/// E12's contents, with entry 0 at another place and with other records.
+fn moved(offset: u32, length: u32, records: u32) -> Checked {
+    let mut c = check(&one_first());
+    assert_eq!(c.verdict, BundleVerdict::Fine);
+    c.table[0].offset = offset;
+    c.table[0].length = length;
+    c.table[0].records = records;
+    c
+}
+
+/// N1: nothing is sent, and the record is unchanged.
+#[track_caller]
+fn n1(a: StepAnswer, h: Host) {
+    assert_eq!((a.refusal, a.sent, a.packet, a.host), (StepRefusal::N1, Sent::Nothing, [0; 60], h));
+}
+
+/// E13: 13 packets in 2 passes where component 1 comes first, 9 in 1 where it comes second. Both images are staged.
+fn e13_in_both_orders() {
+    let [one, two] = images();
+    let orders = [(bundle([(ONE, &one), (TWO, &two)]), 13, 2), (bundle([(TWO, &two), (ONE, &one)]), 9, 1)];
+    for (b, packets, passes) in orders {
+        let mut staging = vec![0x11; 128];
+        let s = set_up(0x42, listed(region(0, 64), region(64, 64)), 2, &staging);
+        assert_eq!(s.verdict, SetupVerdict::Fine);
+        let a = run(&b, 5, s.device, &mut staging);
+        assert_eq!(a.refusal, RunRefusal::Served);
+        assert_eq!(a.report.progress, Progress::Ended(End::Done));
+        assert_eq!((a.report.packets, a.report.passes), (packets, passes));
+        assert_eq!((a.report.completed, a.report.mask), (2, 3));
+        assert_eq!(staging, [&one[..], &two].concat());
+    }
+}
+
+/// A region whose end passes 32 bits lies in no buffer, S4 refuses it, and neither erase nor write touches a byte.
+fn regions_past_32_bits() {
+    for (base, len) in [(0xFFFFFFFF, 0xFFFFFFFF), (0xFFFFFFC0, 64), (0xFFFFFFC0, 128), (64, 0xFFFFFFC0), (64, 0xFFFFFFFF)] {
+        let r = region(base, len);
+        let mut staging = [0x11; 128];
+        assert!(!r.is_inside(128), "{base} {len}");
+        r.erase(&mut staging);
+        r.write(RegionAddress(0), &mut staging, &[0x22; 8]);
+        assert_eq!(staging, [0x11; 128], "{base} {len}");
+        for list in [listed(region(0, 64), r), listed(r, region(0, 64))] {
+            assert_eq!(set_up(0x42, list, 2, &staging).verdict, SetupVerdict::S4, "{base} {len}");
+        }
+    }
+}
+
+/// B7 where a body's end passes 32 bits: at the next entry, also where that starts at what is left of the end in 32 bits and ends with the file; at
+/// the last entry, where none follows.
+fn bodies_past_32_bits() {
+    for next in [0u32, 55, 56, 130] {
+        let mut b = one_first();
+        b[28..32].copy_from_slice(&0xFFFFFFFFu32.to_le_bytes());
+        b[48..52].copy_from_slice(&next.to_le_bytes());
+        b[52..56].copy_from_slice(&(204 - next).to_le_bytes());
+        let c = check(&b);
+        assert_eq!((c.verdict, c.place), (BundleVerdict::B7, 2), "{next}");
+    }
+    let mut b = one_first();
+    b[52..56].copy_from_slice(&0xFFFFFFFFu32.to_le_bytes());
+    let c = check(&b);
+    assert_eq!((c.verdict, c.place), (BundleVerdict::B7, 2));
+}
+
+/// N1 for block 0xFFFFFFFF, over the bundle and over contents with as many records; and it is not the last block of a body of none.
+fn blocks_past_32_bits() {
+    let b = one_first();
+    let h = sending(0, 0xFFFFFFFF);
+    n1(step(h, &b, &[0; 16]), h);
+    for records in [0, 2, 0xFFFFFFFF] {
+        let c = moved(56, 74, records);
+        let a = inner_step(c, 113, h, &b, &[0; 16]);
+        n1(a.step, h);
+        assert_eq!(a.cursor, 113);
+        let place = Place {
+            entry: 0,
+            block: 0xFFFFFFFF,
+        };
+        assert!(!is_last(c, place), "{records}");
+    }
+}
+
+/// N1 for an offer whose place in the table passes 32 bits.
+fn offers_past_32_bits() {
+    let b = one_first();
+    let c = check(&b);
+    let h = Host::fresh(5);
+    for entry in [2, 0x0AAAAAAA, 0x0AAAAAAB, 0x15555555, 0xFFFFFFFE, 0xFFFFFFFF] {
+        let m = Move {
+            action: Action::Offer(entry),
+            host: sending(0, 0),
+        };
+        let a = made(&b, c, 9, h, m);
+        if entry == 2 {
+            // The table ends, but the bytes go on.
+            assert_eq!((a.step.refusal, a.step.sent), (StepRefusal::Served, Sent::Offer));
+        } else {
+            n1(a.step, h);
+        }
+        assert_eq!(a.cursor, 9);
+    }
+}
+
+/// N1 for a block of a body whose end passes 32 bits, also where what is left of that end in 32 bits is the end of a body.
+fn ends_past_32_bits() {
+    let b = one_first();
+    let h = sending(0, 0);
+    let m = Move {
+        action: Action::Block(Place { entry: 0, block: 1 }),
+        host: h,
+    };
+    let a = made(&b, moved(56, 74, 2), 113, h, m);
+    assert_eq!((a.step.refusal, a.step.sent, a.cursor), (StepRefusal::Served, Sent::Content, 130));
+    for (offset, length) in [(0xFFFFFFFF, 131), (131, 0xFFFFFFFF), (0xFFFFFFFF, 0xFFFFFFFF)] {
+        let a = made(&b, moved(offset, length, 2), 113, h, m);
+        n1(a.step, h);
+        assert_eq!(a.cursor, 113);
+    }
+    for end in [1 << 32, (1 << 32) + 130, u64::MAX] {
+        assert_eq!(next_record(&b, 113, end), Next::Bad, "{end}");
+        assert_eq!(next_record(&b, usize::MAX, end), Next::Bad, "{end}");
+    }
+}
+
+/// A cursor that was stored comes back, and words past the bytes are zero.
+fn numbers_in_bytes() {
+    let c = moved(0xFFFFFFFF, 0xFFFFFFFF, 0xFFFFFFFF);
+    for cursor in [0, 130, 65536, 0xFFFFFFFF] {
+        let q = contents_bytes(c, cursor);
+        assert_eq!(read_cursor(&q), cursor);
+        let e = read_contents(&q).table[0];
+        assert_eq!((e.offset, e.length, e.records), (0xFFFFFFFF, 0xFFFFFFFF, 0xFFFFFFFF));
+    }
+    assert_eq!((word16_at(&[1, 2], 1), word16_at(&[1, 2], 0xFFFF)), (2, 0));
+    assert_eq!((word32_at(&[1, 2, 3, 4], 2), word32_at(&[1, 2, 3, 4], 0xFFFF)), (0x0403, 0));
+}
+
+pub const CASES: [(&str, fn()); 7] = [
+    ("E13 in both orders", e13_in_both_orders),
+    ("regions past 32 bits", regions_past_32_bits),
+    ("bodies past 32 bits", bodies_past_32_bits),
+    ("blocks past 32 bits", blocks_past_32_bits),
+    ("offers past 32 bits", offers_past_32_bits),
+    ("ends past 32 bits", ends_past_32_bits),
+    ("numbers in bytes", numbers_in_bytes),
+];
+
+#[test]
+fn sums_past_32_bits() {
+    for (name, case) in CASES {
+        println!("{name}");
+        case();
+    }
+}

@@ -10,21 +10,25 @@
  * What cannot be judged, and so is asked of the caller:
  *   - a pointer is not null and is valid for the length that comes with it, also where that length is 0 (any object's address will do);
  *   - a buffer that is read holds initialised bytes, and nobody else writes a lent buffer during the call;
- *   - buffers that are lent to one call do not overlap, save that two buffers which are only read may: a report and the replies to it, a reply and the next packet
- *     are two buffers each;
+ *   - buffers that are lent to one call do not overlap, save that two buffers which are only read may: a report and the replies to it, a reply and the next
+ *     packet are two buffers each;
  *   - a record, the staging buffer and the bundle are those that the call before left. An older copy of a record is a record too.
  *
  * Everything else is judged. Each call ends, writes only inside the buffers that it may write (those without const), and returns a number:
  *   - CFU_SERVED, or
- *   - the number of a refusal. Refusals are rows of the updater's build document (docs/RULES.md restates them): a letter and a number, here the letter's ASCII code
- *     times 256 plus the number, so that D1 is 0x4401 ('D' is 0x44).
- * A refusal leaves every record and the staging buffer as they were, and every other field of a returned struct is 0, but for the entry that a B row names. What it leaves in a buffer for output is said at each
- * call. The first row that applies is returned: C1, C2, C3, then the others in the order of their numbers, B rows before N1. C1 to C3 are this interface's own: with one of them nothing at all is changed.
+ *   - the number of a refusal. Refusals are rows of the updater's build document (docs/RULES.md restates them): a letter and a number, here the letter's
+ *     ASCII code times 256 plus the number, so that D1 is 0x4401 ('D' is 0x44).
  *
- * CFU_SERVED says that the call was carried out, not that the peer agreed: REJECT, SKIP, BUSY and the errors of a block stand in the packets, and how a host ended
- * stands in its report.
+ * A refusal leaves every record and the staging buffer as they were, and every other field of a returned struct is 0, but for the entry that a B row names
+ * and for a report with N1, which tells the record as it is read. What it leaves in a buffer for output is said at each call. The first row that applies is
+ * returned: C1, C2, C3, then the others in the order of their numbers, B rows before N1. C1 to C3 are this interface's own: with one of them nothing at all
+ * is changed.
  *
- * Packets are CFU's bytes alone, without a HID report id. Numbers in lent bytes are little-endian. Versions in lent bytes are four: variant, minor (2), major.
+ * CFU_SERVED says that the call was carried out, not that the peer agreed: REJECT, SKIP, BUSY and the errors of a block stand in the packets, and how a host
+ * ended stands in its report.
+ *
+ * Packets are CFU's bytes alone, without a HID report id. Numbers in lent bytes are little-endian. Versions in lent bytes are four: variant, minor (2),
+ * major.
  */
 #ifndef CFU_H
 #define CFU_H
@@ -75,24 +79,27 @@ extern "C" {
 #define CFU_S3 0x5303
 #define CFU_S4 0x5304
 
-/* Device. D1: bytes that are no record, a record that breaks S1 to S4, opens a session on a component that is not listed or is pending, owes a ready-reply while idle,
- * or has a staged version below the running one. D2: another staging length than at set-up. D3: a report of another length than 16 (offer channel) or 60 (content channel). */
+/* Device. D1: bytes that are no record, a record that breaks S1 to S4, opens a session on a component that is not listed or is pending, owes a ready-reply
+ * while idle, or has a staged version below the running one. D2: another staging length than at set-up. D3: a report of another length than 16 (offer
+ * channel) or 60 (content channel). */
 #define CFU_D1 0x4401
 #define CFU_D2 0x4402
 #define CFU_D3 0x4403
 
-/* Packets. P1, reading: another length than the packet's. P2, building: an offer with an id over 0xFD, a least version of 2^24 or more, a protocol over 15, or I or V over 1; content with a flag
- * other than the two or a length not 1 to 52; a version reply, also when read, with a count over 7 or a protocol other than 2. */
+/* Packets. P1, reading: another length than the packet's. P2, building: an offer with an id over 0xFD, a least version of 2^24 or more, a protocol over 15,
+ * or I or V over 1; content with a flag other than the two or a length not 1 to 52; a version reply, also when read, with a count over 7 or a protocol other
+ * than 2. */
 #define CFU_P1 0x5001
 #define CFU_P2 0x5002
 
-/* Host. N1: bytes that are no record; a record that points at an entry or a body's record that the bundle lacks, counts over 8 BUSY, more passes than offers or 2^31 packets or more, or has a
- * mask bit past its offers; contents that no check wrote. */
+/* Host. N1: bytes that are no record; a record that points at an entry or a body's record that the bundle lacks, counts over 8 BUSY, more passes than offers
+ * or 2^31 packets or more, or has a mask bit past its offers; contents that no check wrote. */
 #define CFU_N1 0x4E01
 
-/* Bundle. B1: under 8 or over 65,536 bytes. B2: byte 1 not 1, or bytes 2 to 7 not zero. B3: a count not 1 to 7. B4: a table past the end. B5: an offer whose bytes 0, 1, 3 or 13 are not zero, whose byte 12 is not
- * 2 or whose id is outside 1 to 0xDF. B6: an id that an earlier entry has. B7: a body that does not start where the table or the body before ends, or a last one that does not end with the file. B8: an empty
- * body, a cut record, or a record of length 0 or over 52. */
+/* Bundle. B1: under 8 or over 65,536 bytes. B2: byte 1 not 1, or bytes 2 to 7 not zero. B3: a count not 1 to 7. B4: a table past the end. B5: an offer whose
+ * bytes 0, 1, 3 or 13 are not zero, whose byte 12 is not 2 or whose id is outside 1 to 0xDF. B6: an id that an earlier entry has. B7: a body that does not
+ * start where the table or the body before ends, or a last one that does not end with the file. B8: an empty body, a cut record, or a record of length 0 or
+ * over 52. */
 #define CFU_B1 0x4201
 #define CFU_B2 0x4202
 #define CFU_B3 0x4203
@@ -252,14 +259,15 @@ typedef struct cfu_report {
  *    12  owed ready-reply (1): 0 none, 1 owed; 13 its token (1), zero where none is owed
  *    14  seven times 18 bytes: id (1), running version (4), region base (4), region length (4), staged (1): 0 nothing, 1 pending; staged version (4), zero
  *        where nothing is staged
- * Only these calls need to write one; byte 14 + 18 i + 13 tells whether component i is pending. Bytes that are no such record are refused by D1, in the parts that are not in use too, and so are bytes that are one but break
- * the rules of a device. All zeros are such: zero a record before set-up, and a refused set-up leaves one that no call serves.
+ * Only these calls need to write one; byte 14 + 18 i + 13 tells whether component i is pending. Bytes that are no such record are refused by D1, in the parts
+ * that are not in use too, and so are bytes that are one but break the rules of a device. All zeros are such: zero a record before set-up, and a refused
+ * set-up leaves one that no call serves.
  */
 
 /*
- * Makes the record of a device that is idle, with nothing staged and nothing owed. list: seven times id (1), running version (4), region base (4), region length
- * (4), CFU_LIST_SIZE bytes, of which the first `count` are used; all seven are copied into the record. Of the staging buffer, plain memory, only the length counts, which later calls must lend again.
- * Returns CFU_SERVED, C1 (device), C2 (list) or S1 to S4. A refusal leaves the record as it was.
+ * Makes the record of a device that is idle, with nothing staged and nothing owed. list: seven times id (1), running version (4), region base (4), region
+ * length (4), CFU_LIST_SIZE bytes, of which the first `count` are used; all seven are copied into the record. Of the staging buffer, plain memory, only the
+ * length counts, which later calls must lend again. Returns CFU_SERVED, C1 (device), C2 (list) or S1 to S4. A refusal leaves the record as it was.
  */
 uint32_t cfu_device_set_up(uint8_t *device, size_t device_len, uint16_t platform, const uint8_t *list, size_t list_len, uint8_t count,
                            const uint8_t *staging, size_t staging_len);
@@ -270,29 +278,32 @@ uint32_t cfu_device_set_up(uint8_t *device, size_t device_len, uint16_t platform
 uint32_t cfu_device_version_reply(const uint8_t *device, size_t device_len, uint8_t *packet, size_t packet_len);
 
 /*
- * Judges a report of the offer channel (offer, information, extended) and writes the reply, if one is due, into the first 16 of CFU_REPLIES_SIZE bytes, zeros behind it.
- * Returns CFU_SERVED with the count of replies, 0 (to a notify on ready that is now owed) or 1; C1 (device), C3 (replies); D1, D2 or D3 with the replies zeroed and none due.
+ * Judges a report of the offer channel (offer, information, extended) and writes the reply, if one is due, into the first 16 of CFU_REPLIES_SIZE bytes, zeros
+ * behind it. Returns CFU_SERVED with the count of replies, 0 (to a notify on ready that is now owed) or 1; C1 (device), C3 (replies); D1, D2 or D3 with the
+ * replies zeroed and none due.
  */
 cfu_replies cfu_device_offer(uint8_t *device, size_t device_len, const uint8_t *staging, size_t staging_len, const uint8_t *report, size_t report_len,
                              uint8_t *replies, size_t replies_len);
 
 /*
- * Judges a report of the content channel: erases and writes in the staging buffer as the protocol says, and writes one or two replies: the reply to the block, for the content channel, and behind it, where a
- * ready-reply was owed and the session is now idle, the READY, for the offer channel. Returns as cfu_device_offer does, with a count of 1 or 2; a refusal leaves the staging buffer as it was.
+ * Judges a report of the content channel: erases and writes in the staging buffer as the protocol says, and writes one or two replies: the reply to the
+ * block, for the content channel, and behind it, where a ready-reply was owed and the session is now idle, the READY, for the offer channel. Returns as
+ * cfu_device_offer does, with a count of 1 or 2; a refusal leaves the staging buffer as it was.
  */
 cfu_replies cfu_device_content(uint8_t *device, size_t device_len, uint8_t *staging, size_t staging_len, const uint8_t *report, size_t report_len,
                                uint8_t *replies, size_t replies_len);
 
 /*
- * The device was reset: in the record staged versions run, nothing is pending or owed, the session is idle. To install the images is the caller's part, before. Returns CFU_SERVED, C1 (device) or D1.
+ * The device was reset: in the record staged versions run, nothing is pending or owed, the session is idle. To install the images is the caller's part,
+ * before. Returns CFU_SERVED, C1 (device) or D1.
  */
 uint32_t cfu_device_reset(uint8_t *device, size_t device_len);
 
 /*
  * ---- The bundle ----
  *
- * The contents of a checked bundle, CFU_CONTENTS_SIZE bytes: count (1), from 1 on seven times body offset (4), body length (4), records (4), and from 85 on the host's cursor (8), the offset in the bundle of the
- * record after the one in hand.
+ * The contents of a checked bundle, CFU_CONTENTS_SIZE bytes: count (1), from 1 on seven times body offset (4), body length (4), records (4), and from 85 on
+ * the host's cursor (8), the offset in the bundle of the record after the one in hand.
  */
 
 /*
@@ -311,7 +322,8 @@ cfu_check cfu_bundle_check(const uint8_t *bundle, size_t bundle_len, uint8_t *co
  *        1 to 4 for H1 to H4) and the content status of H1; otherwise zero
  *    10  mask of completed offers (4), 14 packets (4), 18 passes (4)
  *    22  this pass had a SKIP (1), 23 a completed image (1): 0 or 1
- * Only these calls need to write one. Bytes that are no such record are refused by N1, as is a record that does not fit the bundle. All zeros are the fresh record with token 0.
+ * Only these calls need to write one. Bytes that are no such record are refused by N1, as is a record that does not fit the bundle. All zeros are the fresh
+ * record with token 0.
  */
 
 /*
@@ -320,34 +332,37 @@ cfu_check cfu_bundle_check(const uint8_t *bundle, size_t bundle_len, uint8_t *co
 uint32_t cfu_host_fresh(uint8_t *host, size_t host_len, uint8_t token);
 
 /*
- * One step: takes the reply to the packet before and writes the next packet into CFU_LONG_SIZE bytes, with zeros behind it. At the first step none is awaited, and the reply, which may be of length 0, is not looked at. Step again
- * only once a reply has come: to notify on ready (extended, code 1) the device may send it much later. Returns CFU_SERVED with the length to send, which is 0 once the host has ended, well or not (cfu_host_report); C1 (host), C3 (packet); B1 to B8 with the entry; or N1. A B row or N1 leaves the packet zeroed.
- * Each step checks the whole bundle: for a session of many packets take cfu_host_step_checked.
+ * One step: takes the reply to the packet before and writes the next packet into CFU_LONG_SIZE bytes, with zeros behind it. At the first step none is
+ * awaited, and the reply, which may be of length 0, is not looked at. Step again only once a reply has come: to notify on ready (extended, code 1) the device
+ * may send it much later. Returns CFU_SERVED with the length to send, which is 0 once the host has ended, well or not (cfu_host_report); C1 (host), C3
+ * (packet); B1 to B8 with the entry; or N1. A B row or N1 leaves the packet zeroed. Each step checks the whole bundle: for a session of many packets take
+ * cfu_host_step_checked.
  */
 cfu_step cfu_host_step(uint8_t *host, size_t host_len, const uint8_t *bundle, size_t bundle_len, const uint8_t *reply, size_t reply_len, uint8_t *packet,
                        size_t packet_len);
 
 /*
- * The same step over the contents that cfu_bundle_check wrote for this very bundle, which is not checked again: the time of a step does not grow with the bundle.
- * contents is a record that each step hands to the next (it keeps the cursor). For a host that began fresh with these contents and takes every step of its session by this call it returns what
- * cfu_host_step does. Contents whose count is not 1 to 7, as a refused check leaves them, are refused by N1. Of other contents that the check did not write for this bundle only this is sure: nothing outside of the bundle is
- * read; the packets may then be wrong, so check each bundle once and lend what the check wrote.
- * Returns as cfu_host_step does, but for the B rows; C1 is for host and contents.
+ * The same step over the contents that cfu_bundle_check wrote for this very bundle, which is not checked again: the time of a step does not grow with the
+ * bundle. contents is a record that each step hands to the next (it keeps the cursor). For a host that began fresh with these contents and takes every step
+ * of its session by this call it returns what cfu_host_step does. Contents whose count is not 1 to 7, as a refused check leaves them, are refused by N1. Of
+ * other contents that the check did not write for this bundle only this is sure: nothing outside of the bundle is read; the packets may then be wrong, so
+ * check each bundle once and lend what the check wrote. Returns as cfu_host_step does, but for the B rows; C1 is for host and contents.
  */
 cfu_step cfu_host_step_checked(uint8_t *host, size_t host_len, uint8_t *contents, size_t contents_len, const uint8_t *bundle, size_t bundle_len,
                                const uint8_t *reply, size_t reply_len, uint8_t *packet, size_t packet_len);
 
 /*
- * How far a host is. Returns CFU_SERVED, C1 (host) with zeros, or N1 for a record that counts 2^31 packets or more, as bytes that are no record do; the other clauses of N1 need a bundle.
+ * How far a host is. Returns CFU_SERVED, C1 (host) with zeros, or N1 for a record that counts 2^31 packets or more, as bytes that are no record do; the other
+ * clauses of N1 need a bundle.
  */
 cfu_report cfu_host_report(const uint8_t *host, size_t host_len);
 
 /*
  * ---- Packets ----
  *
- * Building writes a packet of CFU_LONG_SIZE bytes (version reply, content) or CFU_SHORT_SIZE bytes (all others) and returns CFU_SERVED, C2, C3, or P2 with the packet zeroed. Information, extended and the two
- * replies hold any value of their fields and know no P2. What is built reads back to the same fields, unused data as zero.
- * The components of a version reply, CFU_COMPONENTS_SIZE bytes: seven times running version (4), id (1), platform (2).
+ * Building writes a packet of CFU_LONG_SIZE bytes (version reply, content) or CFU_SHORT_SIZE bytes (all others) and returns CFU_SERVED, C2, C3, or P2 with
+ * the packet zeroed. Information, extended and the two replies hold any value of their fields and know no P2. What is built reads back to the same fields,
+ * unused data as zero. The components of a version reply, CFU_COMPONENTS_SIZE bytes: seven times running version (4), id (1), platform (2).
  */
 
 uint32_t cfu_build_version_reply(uint8_t count, uint8_t protocol, const uint8_t *components, size_t components_len, uint8_t *packet, size_t packet_len);
@@ -367,7 +382,8 @@ uint32_t cfu_build_content(uint8_t flags, uint8_t length, uint16_t sequence, uin
 uint32_t cfu_build_content_reply(uint16_t sequence, uint8_t status, uint8_t *packet, size_t packet_len);
 
 /*
- * Reading returns the fields, or C3 or P1 (of a version reply also P2) with all fields zero. A packet of any length may be lent; another than its own is P1.
+ * Reading returns the fields, or C3 (where there is a buffer for output) or P1 (of a version reply also P2) with all fields zero. A packet of any length may
+ * be lent; another than its own is P1.
  */
 
 /* components: CFU_COMPONENTS_SIZE bytes, zero past the count; zeroed by P1 and P2. */

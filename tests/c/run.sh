@@ -13,7 +13,7 @@ for tool in rt make cc gcc python3 valgrind; do
     command -v "$tool" >/dev/null 2>&1 || fail "$tool is not installed"
 done
 
-rt staticlib capi || fail "rt staticlib capi"
+bash tests/library.sh || fail "the library is not made"
 library=target/staticlib/libcapi.a
 out=target/c
 rm -rf "$out"

@@ -128,7 +128,7 @@ def expected_numbers():
                           ("EXTENDED", r"Row\.served \(kind\.extended s\)"), ("NONE", r"\(P k\) any")):
         say(f"KIND_{name}", "specs/Read.antt", found(rf"^packetOf {pattern} = record \{{ [^}}]*kind = (\d+);", READ))
     for place, read in (("specs", spec_constants), ("src", source_constants)):
-        limits = read("component", "bundle")
+        limits = read("component", "layout")
         for name in ("STAGING_LIMIT", "BUNDLE_LIMIT", "COMPONENT_LIMIT", "OFFER_LIMIT", "REGION_LEAST"):
             say(name, place, limits[name])
         for name, number in read("wire").items():
@@ -156,7 +156,7 @@ LAYOUTS = (
 
 
 def hold_layouts(text):
-    known = spec_constants(*LENT, "bundle")
+    known = spec_constants(*LENT, "layout")
     for pattern, names in LAYOUTS:
         match = re.search(pattern, text)
         given = [int(number) for number in match.groups()] if match else None
@@ -214,7 +214,7 @@ def declared(text):
             misfit(f"CFU_{name} is defined twice")
         numbers[name] = int(number, 0)
     for line in re.findall(r"^#.*$", text, re.M):
-        if not re.fullmatch(r"#define CFU_\w+ +\S+\s*|#define CFU_H|#ifndef CFU_H|#ifdef __cplusplus|#endif|#include <std(def|int)\.h>", line.strip()):
+        if not re.fullmatch(r"#define CFU_\w+ +\S+\s*|#define CFU_H|#ifndef CFU_H|#ifdef __cplusplus|#endif|#include <std(def|int)\.h>|#if SIZE_MAX != 0xF{16}|#error \".*\"", line.strip()):
             misfit(f"a line that this test does not know: {line}")
     text = re.sub(r"^#.*$", "", text, flags=re.M)
     structs = {}

@@ -1,0 +1,684 @@
+//! Set-up, and packets to a device: states from set-up and states that are written by the record's layout, each clause of row D1 among them.
+
+use crate::calls::Calls;
+use crate::case::{difference, hex, Case, Outcome};
+use crate::demand;
+use crate::header::*;
+use crate::layout::*;
+use crate::lent::Lent;
+use crate::other;
+use crate::random::Random;
+use crate::tally::{self, Tally};
+use crate::ALL;
+
+// ---------------------------------------------------------------- states
+
+/// A version: mostly one of few near each other, sometimes one at the border.
+pub fn version(r: &mut Random) -> u32 {
+    match r.below(20) {
+        0 => 0,
+        1 => u32::MAX,
+        2 => r.next() as u32,
+        _ => 0x0100_0000 + 256 * r.below(4) as u32 + r.below(3) as u32,
+    }
+}
+
+/// A version that is not below another.
+fn version_from(r: &mut Random, least: u32) -> u32 {
+    least.saturating_add(r.pick(&[0, 1, 255, 256, 257, 0x1_0000, 0x0100_0000]))
+}
+
+/// A record that row D1 does not refuse.
+pub fn valid_device(r: &mut Random) -> DeviceRecord {
+    let count = r.between(1, 7);
+    let mut record = DeviceRecord { platform: 0x0042, count: count as u8, ..Default::default() };
+    if r.percent(10) {
+        record.platform = r.next() as u16;
+    }
+    place_regions(r, &mut record);
+    // Ids near each other, so that offers meet them; sometimes those at the border.
+    let mut ids: Vec<u8> = (1..=9).collect();
+    if r.percent(20) {
+        ids.extend([0xDF, 0xDE, 0x80]);
+    }
+    r.shuffle(&mut ids);
+    for (slot, id) in ids.iter().enumerate().take(count) {
+        let running = version(r);
+        let part = &mut record.parts[slot];
+        part.id = *id;
+        part.running = running;
+        if r.percent(20) {
+            part.staged = Some(version_from(r, running));
+        }
+    }
+    // Slots past the count are never looked at.
+    if r.percent(30) {
+        for part in record.parts.iter_mut().skip(count) {
+            *part =
+                Part { id: r.byte(), running: r.next() as u32, base: r.next() as u32, length: r.next() as u32, staged: r.percent(50).then_some(7) };
+        }
+    }
+    open_session(r, &mut record);
+    record
+}
+
+/// Regions in any order, with and without gaps; a few are long.
+fn place_regions(r: &mut Random, record: &mut DeviceRecord) {
+    let count = record.count as usize;
+    let mut order: Vec<usize> = (0..count).collect();
+    r.shuffle(&mut order);
+    let long = r.percent(1);
+    let mut at = gap(r);
+    for (place, slot) in order.into_iter().enumerate() {
+        let length = match r.below(10) {
+            _ if long && place == 0 => r.between(1000, 60_000),
+            0 | 1 => 8,
+            2..=6 => r.between(8, 52),
+            _ => r.between(8, 140),
+        } as u32;
+        record.parts[slot].base = at;
+        record.parts[slot].length = length;
+        at += length + gap(r);
+    }
+    record.staging = if long && r.percent(50) { 65_536.max(at) } else { at };
+}
+
+fn gap(r: &mut Random) -> u32 {
+    if r.percent(50) {
+        0
+    } else {
+        r.between(1, 9) as u32
+    }
+}
+
+/// Idle, offered or receiving, with and without an owed reply.
+fn open_session(r: &mut Random, record: &mut DeviceRecord) {
+    let free: Vec<usize> = (0..record.count as usize).filter(|slot| record.parts[*slot].staged.is_none()).collect();
+    if free.is_empty() || r.percent(40) {
+        return;
+    }
+    let (slot, token) = (r.pick(&free) as u8, r.byte());
+    record.session = if r.percent(50) {
+        Session::Offered { slot, token }
+    } else {
+        let next = r.pick(&[0, 1, 2, 0xFFFE, 0xFFFF, r.clone().next() as u16]);
+        Session::Receiving { slot, token, next }
+    };
+    if r.percent(50) {
+        record.owed = Some(r.byte());
+    }
+}
+
+/// What a record is made to break: the clauses of row D1, and the forms of bytes that are no record.
+pub const BROKEN: [&str; 23] = [
+    "D1: staging over the limit",
+    "D1: count 0",
+    "D1: count over 7",
+    "D1: id 0",
+    "D1: id over 0xDF",
+    "D1: id repeated",
+    "D1: region under 8",
+    "D1: region past the buffer",
+    "D1: region whose end wraps",
+    "D1: regions overlap",
+    "D1: opens on an unlisted component",
+    "D1: opens on a pending component",
+    "D1: owes while idle",
+    "D1: staged below running",
+    "D1: no stage",
+    "D1: idle with a slot, token or sequence",
+    "D1: offered with a sequence",
+    "D1: owed neither 0 nor 1",
+    "D1: a token where nothing is owed",
+    "D1: staged neither 0 nor 1",
+    "D1: a staged version where nothing is staged",
+    "D1: random bytes",
+    "D1: all zeros",
+];
+
+/// The bytes of a record that breaks this clause.
+pub fn broken_device(r: &mut Random, aim: &'static str) -> Vec<u8> {
+    let mut record = valid_device(r);
+    // Two components at least, for the clauses about two of them.
+    while record.count < 2 {
+        record = valid_device(r);
+    }
+    let count = record.count as usize;
+    let slot = r.below(count);
+    let next_slot = (slot + 1) % count;
+    let any = r.below(7);
+    let session = Session::Offered { slot: slot as u8, token: 3 };
+    match aim {
+        "D1: staging over the limit" => record.staging = r.pick(&[65_537, 65_538, 1 << 24, u32::MAX]),
+        "D1: count 0" => record.count = 0,
+        "D1: count over 7" => record.count = r.pick(&[8, 9, 128, 255]),
+        "D1: id 0" => record.parts[slot].id = 0,
+        "D1: id over 0xDF" => record.parts[slot].id = r.pick(&[0xE0, 0xFD, 0xFE, 0xFF]),
+        "D1: id repeated" => record.parts[slot].id = record.parts[next_slot].id,
+        "D1: region under 8" => record.parts[slot].length = r.below(8) as u32,
+        "D1: region past the buffer" => {
+            let part = &mut record.parts[slot];
+            part.length = record.staging - part.base + r.pick(&[1, 2, 1000]);
+        }
+        "D1: region whose end wraps" => {
+            record.parts[slot].base = u32::MAX - 3;
+            record.parts[slot].length = 12;
+        }
+        "D1: regions overlap" => {
+            let other = record.parts[next_slot];
+            record.parts[slot].base = other.base + other.length - 1;
+            record.parts[slot].length = 8;
+            record.staging = record.staging.max(other.base + other.length + 8);
+        }
+        "D1: opens on an unlisted component" => record.session = Session::Offered { slot: r.pick(&[count as u8, 7, 8, 255]), token: 1 },
+        "D1: opens on a pending component" => {
+            record.parts[slot].staged = Some(record.parts[slot].running);
+            record.session = session;
+        }
+        "D1: owes while idle" => {
+            record.session = Session::Idle;
+            record.owed = Some(r.byte());
+        }
+        "D1: staged below running" => {
+            record.session = Session::Idle;
+            record.owed = None;
+            record.parts[slot].running = r.pick(&[1, 0x0100_0000, u32::MAX]);
+            record.parts[slot].staged = Some(record.parts[slot].running - 1);
+        }
+        _ => {}
+    }
+    let mut bytes = record.bytes().to_vec();
+    let own = 14 + 18 * any;
+    match aim {
+        "D1: no stage" => bytes[7] = r.pick(&[3, 4, 255]),
+        "D1: idle with a slot, token or sequence" => {
+            record.session = Session::Idle;
+            record.owed = None;
+            bytes = record.bytes().to_vec();
+            bytes[r.between(8, 11)] = r.between(1, 255) as u8;
+        }
+        "D1: offered with a sequence" => {
+            record.parts[slot].staged = None;
+            record.session = session;
+            bytes = record.bytes().to_vec();
+            bytes[r.between(10, 11)] = r.between(1, 255) as u8;
+        }
+        "D1: owed neither 0 nor 1" => bytes[12] = r.between(2, 255) as u8,
+        "D1: a token where nothing is owed" => {
+            bytes[12] = 0;
+            bytes[13] = r.between(1, 255) as u8;
+        }
+        "D1: staged neither 0 nor 1" => bytes[own + 13] = r.between(2, 255) as u8,
+        "D1: a staged version where nothing is staged" => {
+            bytes[own + 13] = 0;
+            bytes[own + r.between(14, 17)] = r.between(1, 255) as u8;
+        }
+        "D1: random bytes" => bytes = r.bytes(DEVICE_SIZE),
+        "D1: all zeros" => bytes.fill(0),
+        _ => {}
+    }
+    bytes
+}
+
+// ---------------------------------------------------------------- set-up
+
+/// What set-up is made to meet.
+pub const SETUP: [&str; 9] = [
+    "S1: staging over the limit",
+    "S2: count 0",
+    "S2: count over 7",
+    "S3: id outside",
+    "S3: id repeated",
+    "S4: region under 8",
+    "S4: region past the buffer",
+    "S4: region whose end wraps",
+    "S4: regions overlap",
+];
+
+pub fn make_setup(r: &mut Random) -> Case {
+    let mut record = valid_device(r);
+    let mut staging = record.staging as usize;
+    let aim = if r.percent(60) { r.pick(&SETUP) } else { "" };
+    while record.count < 2 && !aim.is_empty() {
+        record = valid_device(r);
+        staging = record.staging as usize;
+    }
+    let count = record.count as usize;
+    let slot = r.below(count);
+    let next_slot = (slot + 1) % count.max(1);
+    match aim {
+        "S1: staging over the limit" => staging = r.pick(&[65_537, 65_600]),
+        "S2: count 0" => record.count = 0,
+        "S2: count over 7" => record.count = r.pick(&[8, 9, 255]),
+        "S3: id outside" => record.parts[slot].id = r.pick(&[0, 0xE0, 0xFF]),
+        "S3: id repeated" => record.parts[slot].id = record.parts[next_slot].id,
+        "S4: region under 8" => record.parts[slot].length = r.below(8) as u32,
+        "S4: region past the buffer" => staging = staging.saturating_sub(r.between(10, 60)),
+        "S4: region whose end wraps" => {
+            record.parts[slot].base = u32::MAX - 3;
+            record.parts[slot].length = 12;
+        }
+        "S4: regions overlap" => {
+            let other = record.parts[next_slot];
+            record.parts[slot].base = other.base + other.length - 1;
+            record.parts[slot].length = 8;
+            staging = staging.max((other.base + other.length + 8) as usize);
+        }
+        _ => {}
+    }
+    let list = record.parts.map(|part| ListedPart { id: part.id, running: part.running, base: part.base, length: part.length });
+    let mut list = list_bytes(&list).to_vec();
+    let mut device = r.bytes(DEVICE_SIZE);
+    if aim.is_empty() {
+        match r.below(20) {
+            0 => list = r.bytes(LIST_SIZE),
+            1 => list = r.bytes(r.clone().pick(&[0, 13, 90, 92, 104])),
+            2 => device = r.bytes(r.clone().pick(&[0, 1, 139, 141, 280])),
+            _ => {}
+        }
+    }
+    Case::aimed(aim)
+        .number("platform", record.platform as u64)
+        .number("count", record.count as u64)
+        .number("staging length", staging as u64)
+        .bytes("device", device)
+        .bytes("list", list)
+}
+
+pub fn run_setup(case: &Case, tally: &mut Tally) -> Outcome {
+    let platform = case.number_at("platform") as u16;
+    let count = case.number_at("count") as u8;
+    let staging = Lent::new(&vec![0x11; case.number_at("staging length") as usize]);
+    let list = Lent::new(case.bytes_at("list"));
+    let mut answers = Vec::new();
+    for calls in ALL {
+        let mut device = Lent::new(case.bytes_at("device"));
+        let number = calls.set_up(device.lend(), platform, list.bytes(), count, staging.bytes());
+        guarded(calls, &[&device, &list, &staging])?;
+        // What was made, or left, answers the version request.
+        let mut packet = Lent::new(&[0x5A; LONG_SIZE]);
+        let versions = calls.version_reply(device.bytes(), packet.lend());
+        guarded(calls, &[&device, &packet])?;
+        answers.push((number, versions, device.bytes().to_vec(), packet.bytes().to_vec()));
+    }
+    let text = |answer: &(u32, u32, Vec<u8>, Vec<u8>)| {
+        format!("number {:X}, version reply {:X}, device {}, packet {}", answer.0, answer.1, hex(&answer.2), hex(&answer.3))
+    };
+    same("set-up", &answers, text)?;
+    tally.one("calls: set-up");
+    tally.one(tally::row(answers[0].0));
+    if case.aim.starts_with(&tally::row(answers[0].0)[5..]) {
+        tally.one(case.aim);
+    }
+    Ok(())
+}
+
+/// Every guard byte stands.
+pub fn guarded(calls: &dyn Calls, buffers: &[&Lent]) -> Outcome {
+    if buffers.iter().all(|buffer| buffer.is_whole()) {
+        Ok(())
+    } else {
+        Err(format!("{} wrote outside of a lent buffer", calls.name()))
+    }
+}
+
+/// All three answered the same.
+pub fn same<T: PartialEq>(what: &str, answers: &[T], text: impl Fn(&T) -> String) -> Outcome {
+    if answers.windows(2).all(|two| two[0] == two[1]) {
+        return Ok(());
+    }
+    let told: Vec<(&str, String)> = ALL.iter().zip(answers).map(|(calls, answer)| (calls.name(), text(answer))).collect();
+    Err(difference(what, &told))
+}
+
+// ---------------------------------------------------------------- script
+
+/// What an item of a script does, by its first byte; what follows is the packet.
+const OFFER: u8 = b'O';
+const CONTENT: u8 = b'C';
+const VERSIONS: u8 = b'V';
+const RESET: u8 = b'R';
+/// The same with a buffer for what comes out that is one byte short.
+const OFFER_SHORT: u8 = b'o';
+const CONTENT_SHORT: u8 = b'c';
+const VERSIONS_SHORT: u8 = b'v';
+
+pub fn make_script(r: &mut Random) -> Case {
+    let mut aim = "";
+    let record = valid_device(r);
+    let mut device = record.bytes().to_vec();
+    let mut staging = r.bytes(record.staging as usize);
+    match r.below(20) {
+        0..=2 => {
+            aim = r.pick(&BROKEN);
+            device = broken_device(r, aim);
+            let length = DeviceRecord::read(&device).map_or(64, |record| record.staging.min(65_537));
+            staging = r.bytes(length as usize);
+        }
+        3 => {
+            aim = "D2: another staging length";
+            let length = r.pick(&[0, 1, staging.len() - 1, staging.len() + 1]);
+            staging = r.bytes(length);
+        }
+        4 if r.percent(30) => {
+            aim = "C1: another record length";
+            device = r.bytes(r.clone().pick(&[0, 1, 139, 141]));
+        }
+        _ => {}
+    }
+    let items = script(r, &record, &staging, aim);
+    Case::aimed(aim).bytes("device", device).bytes("staging", staging).list("packets", items)
+}
+
+/// Items for a device in this state. The second implementation follows along, so that the items fit the state that they meet.
+fn script(r: &mut Random, record: &DeviceRecord, staging: &[u8], aim: &str) -> Vec<Vec<u8>> {
+    let mut items = Vec::new();
+    let mut device = other::device_of(record);
+    let mut staging = staging.to_vec();
+    let wanted = if aim.is_empty() { r.between(10, 40) } else { r.between(4, 12) };
+    while items.len() < wanted {
+        let now = other::record_of(&device);
+        let mut fresh = match r.below(100) {
+            0 => vec![vec![RESET]],
+            1 | 2 => vec![vec![VERSIONS]],
+            3 => vec![vec![r.pick(&[OFFER_SHORT, CONTENT_SHORT, VERSIONS_SHORT])]],
+            4..=9 => session(r, &now),
+            10 | 11 => {
+                let length = r.pick(&[0, 1, 8, 15, 16, 17, 59, 60, 61, 120]);
+                let channel = r.pick(&[OFFER, CONTENT]);
+                vec![[vec![channel], r.bytes(length)].concat()]
+            }
+            _ => vec![packet(r, &now)],
+        };
+        for item in &mut fresh {
+            match item[0] {
+                OFFER => device = device.offer(&staging, &item[1..]).0,
+                CONTENT => device = device.content(&mut staging, &item[1..]).0,
+                RESET => device = device.reset().value,
+                OFFER_SHORT | CONTENT_SHORT => {
+                    let own = packet(r, &now);
+                    item.extend(&own[1..]);
+                }
+                _ => {}
+            }
+        }
+        items.extend(fresh);
+    }
+    items
+}
+
+/// One packet that mostly fits the state.
+fn packet(r: &mut Random, record: &DeviceRecord) -> Vec<u8> {
+    let idle = record.session == Session::Idle;
+    if r.percent(if idle { 25 } else { 80 }) {
+        [vec![CONTENT], content(r, record)].concat()
+    } else {
+        [vec![OFFER], offer_channel(r, record)].concat()
+    }
+}
+
+/// A packet of the offer channel.
+pub fn offer_channel(r: &mut Random, record: &DeviceRecord) -> Vec<u8> {
+    match r.below(20) {
+        0..=2 => signal(r, 0xFF, &[0, 1, 2, 3, 255]),
+        3..=5 => signal(r, 0xFE, &[1, 1, 1, 0, 2, 255]),
+        6 => r.bytes(16),
+        _ => offer(r, record),
+    }
+}
+
+/// Information or extended.
+fn signal(r: &mut Random, kind: u8, codes: &[u8]) -> Vec<u8> {
+    let mut packet = if r.percent(20) { r.bytes(16) } else { vec![0; 16] };
+    packet[0] = r.pick(codes);
+    packet[2] = kind;
+    packet[3] = r.byte();
+    packet
+}
+
+/// An offer that mostly gets past the earlier checks.
+fn offer(r: &mut Random, record: &DeviceRecord) -> Vec<u8> {
+    let listed = record.listed();
+    let chosen = if listed.is_empty() { Part::default() } else { r.pick(listed) };
+    let id = if r.percent(92) { chosen.id } else { r.pick(&[0, 10, 0xDF, 0xE0, 0xFD, r.clone().byte()]) };
+    let version = match r.below(20) {
+        0 => chosen.running,
+        1 => chosen.running.wrapping_sub(1),
+        2 => version(r),
+        3 => chosen.running.wrapping_add(0x0100_0000),
+        4..=8 => chosen.running.wrapping_add(1),
+        _ => chosen.running.wrapping_add(256),
+    };
+    let mut packet = vec![0; 16];
+    packet[2] = id;
+    packet[3] = r.byte();
+    packet[4..8].copy_from_slice(&version.to_le_bytes());
+    packet[8..12].copy_from_slice(&need(r, listed));
+    packet[12] = 2;
+    packet[14..16].copy_from_slice(&record.platform.to_le_bytes());
+    // One field at its border, sometimes.
+    match r.below(30) {
+        0 => packet[0] = r.pick(&[1, 255]),
+        1 => packet[1] = r.byte(),
+        2 => packet[12] = r.pick(&[0, 1, 3, 15, 0x10, 0x21, 0xF2]),
+        3 => packet[13] = r.byte(),
+        4 => packet[14] ^= 1,
+        5 => packet[15] ^= 0x80,
+        6 => packet[12] = 0x12,
+        _ => {}
+    }
+    packet
+}
+
+/// Bytes 8 to 11 of an offer: none, met, unmet by one, absent.
+fn need(r: &mut Random, listed: &[Part]) -> [u8; 4] {
+    if listed.is_empty() || r.percent(55) {
+        return if r.percent(80) { [0; 4] } else { [0, r.byte(), r.byte(), r.byte()] };
+    }
+    let needed = r.pick(listed);
+    let release = needed.staged.unwrap_or(needed.running) / 256;
+    let least = match r.below(6) {
+        0 => release + 1,
+        1 => release.saturating_sub(1),
+        2 => needed.running / 256,
+        3 => 0,
+        _ => release,
+    } & 0x00FF_FFFF;
+    let id = if r.percent(92) { needed.id } else { r.pick(&[0xFE, 0xFF, 0xE0, 11]) };
+    let bytes = least.to_le_bytes();
+    [id, bytes[0], bytes[1], bytes[2]]
+}
+
+/// A content packet that mostly fits the session.
+fn content(r: &mut Random, record: &DeviceRecord) -> Vec<u8> {
+    let slot = record.session.slot().unwrap_or(0) as usize;
+    let part = record.parts[slot.min(6)];
+    let (mut flags, mut sequence) = match record.session {
+        Session::Receiving { next, .. } => (0, next),
+        _ => (0x80, r.pick(&[0, 1, 0xFFFF, 0x1234])),
+    };
+    if r.percent(15) {
+        flags |= 0x40;
+    }
+    let length = r.between(1, 52).min(part.length.max(1) as usize) as u32;
+    let mut length = length as u8;
+    let room = part.length.saturating_sub(length as u32);
+    let mut address = if r.percent(30) { room } else { r.below(room as usize + 1) as u32 };
+    match r.below(25) {
+        0 => length = r.pick(&[0, 53, 255]),
+        1 => flags ^= 0x80,
+        2 => flags |= r.pick(&[1, 2, 0x20, 0x3F]),
+        3 => sequence = sequence.wrapping_add(r.pick(&[1, 0xFFFF, 256])),
+        4 => address = room + 1,
+        5 => address = r.pick(&[u32::MAX, u32::MAX - 51, 0x8000_0000, part.length]),
+        6 => return r.bytes(60),
+        _ => {}
+    }
+    let mut packet = r.bytes(60);
+    packet[0] = flags;
+    packet[1] = length;
+    packet[2..4].copy_from_slice(&sequence.to_le_bytes());
+    packet[4..8].copy_from_slice(&address.to_le_bytes());
+    packet
+}
+
+/// The packets of a whole image for a component that is not pending, good or with one fault.
+fn session(r: &mut Random, record: &DeviceRecord) -> Vec<Vec<u8>> {
+    let free: Vec<Part> = record.listed().iter().filter(|part| part.staged.is_none()).copied().collect();
+    if free.is_empty() {
+        return Vec::new();
+    }
+    let part = r.pick(&free);
+    if part.length > 2000 || part.running > 0xFFFF_FE00 {
+        return Vec::new();
+    }
+    let version = part.running + 256;
+    let mut image = demand::image(r, part.length as usize, version, part.id);
+    match r.below(8) {
+        0 => {
+            let place = r.below(image.len());
+            image[place] ^= 1 << r.below(8);
+        }
+        1 => image = demand::image(r, part.length as usize, version, part.id ^ 1),
+        2 => image = demand::image(r, part.length as usize, part.running.wrapping_sub(1), part.id),
+        3 => image = demand::image(r, part.length as usize, part.running, part.id),
+        _ => {}
+    }
+    let token = r.byte();
+    let mut items = Vec::new();
+    if record.session != Session::Idle {
+        items.push(vec![OFFER, 0, 0, 0xFF, token, 0, 0, 0, 0, 0, 0, 0, 0, 0, 0, 0, 0]);
+    }
+    let mut offer = vec![OFFER, 0, 0, part.id, token];
+    offer.extend(version.to_le_bytes());
+    offer.extend([0, 0, 0, 0, 2, 0]);
+    offer.extend(record.platform.to_le_bytes());
+    items.push(offer);
+    if r.percent(40) {
+        items.push(vec![OFFER, 1, 0, 0xFE, r.byte(), 0, 0, 0, 0, 0, 0, 0, 0, 0, 0, 0, 0]);
+    }
+    let mut sequence = r.pick(&[0u16, 0xFFFF, 0xFFFE, 7]);
+    let mut at = 0;
+    while at < image.len() {
+        let length = r.between(1, 52).max(image.len() / 30).min(52).min(image.len() - at);
+        let mut packet = vec![0; 61];
+        packet[0] = CONTENT;
+        packet[1] = if at == 0 { 0x80 } else { 0 } + if at + length == image.len() { 0x40 } else { 0 };
+        packet[2] = length as u8;
+        packet[3..5].copy_from_slice(&sequence.to_le_bytes());
+        packet[5..9].copy_from_slice(&(at as u32).to_le_bytes());
+        packet[9..9 + length].copy_from_slice(&image[at..at + length]);
+        items.push(packet);
+        sequence = sequence.wrapping_add(1);
+        at += length;
+    }
+    items
+}
+
+/// An implementation with the buffers that it is lent.
+struct Side {
+    calls: &'static dyn Calls,
+    device: Lent,
+    staging: Lent,
+    out: Lent,
+}
+
+pub fn run_script(case: &Case, tally: &mut Tally) -> Outcome {
+    let mut sides: Vec<Side> = ALL
+        .iter()
+        .map(|calls| Side {
+            calls: *calls,
+            device: Lent::new(case.bytes_at("device")),
+            staging: Lent::new(case.bytes_at("staging")),
+            out: Lent::new(&[0; LONG_SIZE]),
+        })
+        .collect();
+    for (place, item) in case.list_at("packets").iter().enumerate() {
+        let Some((what, packet)) = item.split_first() else { continue };
+        let report = Lent::new(packet);
+        let size = match *what {
+            OFFER | CONTENT => REPLIES_SIZE,
+            OFFER_SHORT | CONTENT_SHORT => REPLIES_SIZE - 1,
+            VERSIONS_SHORT => LONG_SIZE - 1,
+            _ => LONG_SIZE,
+        };
+        let mut answers = [(0, 0); 3];
+        for (answer, side) in answers.iter_mut().zip(&mut sides) {
+            if side.out.bytes().len() != size {
+                side.out = Lent::new(&vec![0x5A; size]);
+            }
+            side.out.lend().fill(0x5A);
+            *answer = one_call(side, *what, report.bytes());
+            guarded(side.calls, &[&side.device, &side.staging, &side.out, &report])?;
+        }
+        let (first, rest) = sides.split_first().unwrap();
+        let equal = rest.iter().zip(&answers[1..]).all(|(side, answer)| {
+            *answer == answers[0]
+                && side.device.bytes() == first.device.bytes()
+                && side.out.bytes() == first.out.bytes()
+                && side.staging.bytes() == first.staging.bytes()
+        });
+        if !equal {
+            let told: Vec<(&str, String)> = sides.iter().zip(&answers).map(|(side, answer)| (side.calls.name(), side_text(side, *answer))).collect();
+            return Err(difference(&format!("packet {place}"), &told));
+        }
+        if report.bytes() != packet {
+            return Err(format!("packet {place}: the report was written to"));
+        }
+        count_call(tally, *what, answers[0], first.out.bytes());
+        if place == 0 && case.aim.starts_with(&tally::row(answers[0].0)[5..]) {
+            tally.one(case.aim);
+        }
+    }
+    Ok(())
+}
+
+fn one_call(side: &mut Side, what: u8, report: &[u8]) -> (u32, u32) {
+    match what {
+        CONTENT | CONTENT_SHORT => {
+            let told = side.calls.content(side.device.lend(), side.staging.lend(), report, side.out.lend());
+            (told.number, told.count)
+        }
+        VERSIONS | VERSIONS_SHORT => (side.calls.version_reply(side.device.bytes(), side.out.lend()), 0),
+        RESET => (side.calls.reset(side.device.lend()), 0),
+        _ => {
+            let told = side.calls.offer(side.device.lend(), side.staging.bytes(), report, side.out.lend());
+            (told.number, told.count)
+        }
+    }
+}
+
+fn side_text(side: &Side, (number, count): (u32, u32)) -> String {
+    format!(
+        "number {number:X}, count {count}, out {}, device {}, staging {}",
+        hex(side.out.bytes()),
+        hex(side.device.bytes()),
+        hex(side.staging.bytes())
+    )
+}
+
+fn count_call(tally: &mut Tally, what: u8, (number, count): (u32, u32), out: &[u8]) {
+    tally.one(tally::row(number));
+    match what {
+        OFFER | OFFER_SHORT | CONTENT | CONTENT_SHORT => tally.one("packets to the device"),
+        RESET => tally.one("calls: reset"),
+        _ => tally.one("calls: version reply"),
+    }
+    if number != SERVED {
+        return;
+    }
+    match (what, count) {
+        (OFFER, 0) => tally.one("replies: none due"),
+        (OFFER, _) => tally.one(tally::offer_status(out)),
+        (CONTENT, n) => {
+            tally.one(tally::content_status(out[4]));
+            if n == 2 {
+                tally.one("replies: READY follows");
+            }
+        }
+        _ => {}
+    }
+}
+
+/// Two more that a script is made to meet.
+pub const LENGTHS: [&str; 2] = ["D2: another staging length", "C1: another record length"];

@@ -1,0 +1,360 @@
+//! Steps of the host: fresh and written records, good and bad bundles, replies that fit and hostile ones. The step over the bundle and the step over its
+//! contents are held against each other.
+
+use second::host::{Host as SecondHost, Packet, Stage as SecondStage};
+
+use crate::bundles::{any_bundle, any_entries, bundle, entries_in};
+use crate::calls::Calls;
+use crate::case::{difference, hex, Case, Outcome};
+use crate::devices::guarded;
+use crate::header::*;
+use crate::layout::*;
+use crate::lent::Lent;
+use crate::other;
+use crate::random::Random;
+use crate::tally::{self, Tally};
+use crate::{library, made, ALL};
+
+/// What a record is made to break: the clauses of row N1, and the forms of bytes that are no record.
+pub const BROKEN: [&str; 16] = [
+    "N1: offering past the entries",
+    "N1: waiting past the entries",
+    "N1: sending past the entries",
+    "N1: block past the body",
+    "N1: over 8 BUSY",
+    "N1: more passes than offers",
+    "N1: 2^31 packets",
+    "N1: mask bit past the offers",
+    "N1: no stage",
+    "N1: words where the stage has none",
+    "N1: no end",
+    "N1: H1 with a status over 255",
+    "N1: a status where the end has none",
+    "N1: SKIP flag neither 0 nor 1",
+    "N1: image flag neither 0 nor 1",
+    "N1: random bytes",
+];
+
+/// A record that fits a bundle with bodies of so many records.
+fn fitting(r: &mut Random, records: &[usize]) -> HostRecord {
+    let count = records.len();
+    let entry = r.below(count);
+    let stage = match r.below(8) {
+        0 => Stage::Opening,
+        1 => Stage::Listing,
+        2 => Stage::Offering { entry: entry as u32, busy: r.below(9) as u32 },
+        3 => Stage::Waiting { entry: entry as u32, busy: r.below(9) as u32 },
+        4 | 5 => Stage::Sending { entry: entry as u32, block: r.below(records[entry]) as u32 },
+        6 => Stage::Closing,
+        _ => {
+            let end = r.below(5) as u32;
+            Stage::Ended { end, status: if end == 1 { r.byte() } else { 0 } }
+        }
+    };
+    HostRecord {
+        token: r.byte(),
+        stage,
+        mask: r.below(1 << count) as u32,
+        packets: r.pick(&[0, 1, 100, 0x7FFF_FFFF, 0x7FFF_FFFE]),
+        passes: r.below(count + 1) as u32,
+        skipped: r.percent(50),
+        landed: r.percent(50),
+    }
+}
+
+fn broken(r: &mut Random, records: &[usize], aim: &'static str) -> Vec<u8> {
+    let count = records.len() as u32;
+    let mut host = fitting(r, records);
+    let entry = r.below(records.len());
+    let past = r.pick(&[count, count + 1, 7, 255, 256, u32::MAX]);
+    match aim {
+        "N1: offering past the entries" => host.stage = Stage::Offering { entry: past, busy: 0 },
+        "N1: waiting past the entries" => host.stage = Stage::Waiting { entry: past, busy: 1 },
+        "N1: sending past the entries" => host.stage = Stage::Sending { entry: past, block: 0 },
+        "N1: block past the body" => {
+            let block = records[entry] as u32 + r.pick(&[0, 1, 65_536, 1 << 30]);
+            host.stage = Stage::Sending { entry: entry as u32, block };
+        }
+        "N1: over 8 BUSY" => {
+            let busy = r.pick(&[9, 10, 255, 256, u32::MAX]);
+            host.stage = if r.percent(50) { Stage::Offering { entry: entry as u32, busy } } else { Stage::Waiting { entry: entry as u32, busy } };
+        }
+        "N1: more passes than offers" => host.passes = r.pick(&[count + 1, 8, 255, u32::MAX]).max(count + 1),
+        "N1: 2^31 packets" => host.packets = r.pick(&[1 << 31, (1 << 31) + 1, u32::MAX]),
+        "N1: mask bit past the offers" => host.mask |= 1 << r.between(records.len(), 31),
+        _ => {}
+    }
+    let mut bytes = host.bytes().to_vec();
+    match aim {
+        "N1: no stage" => bytes[1] = r.pick(&[8, 9, 255]),
+        "N1: words where the stage has none" => {
+            bytes[1] = r.pick(&[0, 1, 2, 6]);
+            bytes[r.between(2, 9)] = r.between(1, 255) as u8;
+        }
+        "N1: no end" => bytes[1..10].copy_from_slice(&[7, r.pick(&[5, 6, 255]), 0, 0, 0, 0, 0, 0, 0]),
+        "N1: H1 with a status over 255" => bytes[1..10].copy_from_slice(&[7, 1, 0, 0, 0, r.byte(), 1, 0, 0]),
+        "N1: a status where the end has none" => bytes[1..10].copy_from_slice(&[7, r.pick(&[0, 2, 3, 4]), 0, 0, 0, r.between(1, 255) as u8, 0, 0, 0]),
+        "N1: SKIP flag neither 0 nor 1" => bytes[22] = r.between(2, 255) as u8,
+        "N1: image flag neither 0 nor 1" => bytes[23] = r.between(2, 255) as u8,
+        "N1: random bytes" => bytes = r.bytes(HOST_SIZE),
+        _ => {}
+    }
+    bytes
+}
+
+/// A reply to the packet that the host sent last, by its stage: mostly one that goes on.
+pub fn reply_for(r: &mut Random, token: u8, stage: SecondStage, busy: bool) -> Vec<u8> {
+    let mut reply = vec![0; 16];
+    match stage {
+        SecondStage::Sending { record, .. } => {
+            reply[..2].copy_from_slice(&(record as u16).to_le_bytes());
+            if r.percent(4) {
+                reply[4] = r.pick(&[0x05, 0x04, 0x07, 0x09, 0x0A, 0x0B, 0xFF, 1]);
+            }
+            if r.percent(2) {
+                reply[r.below(2)] ^= 1 << r.below(8);
+            }
+        }
+        _ => {
+            reply[3] = token;
+            reply[12] = match stage {
+                SecondStage::Offering { .. } if busy => 3,
+                SecondStage::Offering { .. } => r.pick(&[0, 0, 1, 1, 1, 2, 2, 3]),
+                SecondStage::Waiting { .. } => 4,
+                _ => 1,
+            };
+            if r.percent(3) {
+                reply[12] = r.pick(&[0, 1, 2, 3, 4, 5, 0xFF, r.clone().byte()]);
+            }
+            if r.percent(2) {
+                reply[3] ^= 1 << r.below(8);
+            }
+            reply[8] = r.pick(&[0, 0, 1, 0xE0]);
+        }
+    }
+    match r.below(60) {
+        0 => reply.truncate(r.below(16)),
+        1 => reply.extend(r.bytes(r.clone().pick(&[1, 16, 44]))),
+        2 => reply = r.bytes(16),
+        // Bytes that no reader looks at.
+        3 => reply[13..].copy_from_slice(&[1, 2, 3]),
+        _ => {}
+    }
+    reply
+}
+
+pub fn make_host(r: &mut Random) -> Case {
+    let bytes = if r.percent(85) {
+        let most = r.pick(&[1, 3, 6]);
+        bundle(&any_entries(r, most))
+    } else {
+        any_bundle(r)
+    };
+    let accepted = second::bundle::check(&bytes).ok();
+    let records: Vec<usize> = accepted.map_or(vec![1], |read| read.entries.iter().map(|entry| entry.records.len()).collect());
+    let mut aim = "";
+    let host = match r.below(10) {
+        0..=4 => HostRecord::fresh(r.byte()).bytes().to_vec(),
+        5..=7 => fitting(r, &records).bytes().to_vec(),
+        8 => {
+            aim = r.pick(&BROKEN);
+            broken(r, &records, aim)
+        }
+        _ if r.percent(10) => r.bytes(r.clone().pick(&[0, 23, 25])),
+        _ => fitting(r, &records).bytes().to_vec(),
+    };
+    // The second implementation follows along, so that the replies fit the record that they meet.
+    let mut followed = other::host_of(&HostRecord::read(&host).unwrap_or(HostRecord::lost()));
+    let busy = r.percent(10);
+    let wanted = if aim.is_empty() { r.between(2, 40) } else { 2 };
+    let mut replies = Vec::new();
+    for _ in 0..wanted {
+        let reply = reply_for(r, followed.token, followed.stage, busy);
+        followed = follow(followed, &bytes, &reply);
+        replies.push(reply);
+        if matches!(followed.stage, SecondStage::Ended(_)) && r.percent(70) {
+            break;
+        }
+    }
+    Case::aimed(aim).bytes("host", host).bytes("bundle", bytes).list("replies", replies)
+}
+
+fn follow(host: SecondHost, bundle: &[u8], reply: &[u8]) -> SecondHost {
+    let stepped = host.step(bundle, reply);
+    let _: Option<Packet> = stepped.packet;
+    stepped.host
+}
+
+/// The contents that the check left, with the cursor that belongs to this record.
+fn contents_for(calls: &dyn Calls, bundle: &[u8], host: &[u8]) -> (u32, Vec<u8>) {
+    let mut contents = vec![0; CONTENTS_SIZE];
+    let told = calls.check(bundle, &mut contents);
+    if told.number == SERVED {
+        if let Some(HostRecord { stage: Stage::Sending { entry, block }, .. }) = HostRecord::read(host) {
+            let entries = entries_in(bundle);
+            if let Some(own) = entries.get(entry as usize) {
+                let start = four(&bundle[8 + 24 * entry as usize + 16..]) as u64;
+                let passed: usize = own.records.iter().take(block as usize + 1).map(|(_, data)| 5 + data.len()).sum();
+                contents[85..93].copy_from_slice(&(start + passed as u64).to_le_bytes());
+            }
+        }
+    }
+    (told.number, contents)
+}
+
+struct Side {
+    calls: &'static dyn Calls,
+    host: Lent,
+    packet: Lent,
+    kept: Lent,
+    contents: Lent,
+    kept_packet: Lent,
+}
+
+pub fn run_host(case: &Case, tally: &mut Tally) -> Outcome {
+    let bundle = Lent::new(case.bytes_at("bundle"));
+    let mut sides = Vec::new();
+    let mut accepted = false;
+    for calls in ALL {
+        let (number, contents) = contents_for(calls, bundle.bytes(), case.bytes_at("host"));
+        accepted = number == SERVED;
+        sides.push(Side {
+            calls,
+            host: Lent::new(case.bytes_at("host")),
+            packet: Lent::new(&[0; LONG_SIZE]),
+            kept: Lent::new(case.bytes_at("host")),
+            contents: Lent::new(&contents),
+            kept_packet: Lent::new(&[0; LONG_SIZE]),
+        });
+    }
+    for (place, reply) in case.list_at("replies").iter().enumerate() {
+        let reply = Lent::new(reply);
+        let mut answers = Vec::new();
+        for side in &mut sides {
+            side.packet.lend().fill(0x5A);
+            side.kept_packet.lend().fill(0x5A);
+            let told = side.calls.step(side.host.lend(), bundle.bytes(), reply.bytes(), side.packet.lend());
+            guarded(side.calls, &[&side.host, &bundle, &reply, &side.packet])?;
+            let report = side.calls.report(side.host.bytes());
+            if accepted {
+                let kept = side.calls.step_checked(side.kept.lend(), side.contents.lend(), bundle.bytes(), reply.bytes(), side.kept_packet.lend());
+                guarded(side.calls, &[&side.kept, &side.contents, &bundle, &reply, &side.kept_packet])?;
+                if kept != told || side.kept.bytes() != side.host.bytes() || side.kept_packet.bytes() != side.packet.bytes() {
+                    let name = side.calls.name();
+                    let answers = [("step", side_text(side, told)), ("step over contents", kept_text(side, kept))];
+                    return Err(difference(&format!("reply {place}, {name}: the two steps differ"), &answers));
+                }
+            }
+            answers.push((told, report));
+        }
+        let (first, rest) = sides.split_first().unwrap();
+        let equal = rest.iter().zip(&answers[1..]).all(|(side, answer)| {
+            *answer == answers[0]
+                && side.host.bytes() == first.host.bytes()
+                && side.packet.bytes() == first.packet.bytes()
+                && side.contents.bytes() == first.contents.bytes()
+        });
+        if !equal {
+            let told: Vec<(&str, String)> = sides
+                .iter()
+                .zip(&answers)
+                .map(|(side, (told, report))| (side.calls.name(), format!("{}, {report:X?}", side_text(side, *told))))
+                .collect();
+            return Err(difference(&format!("reply {place}"), &told));
+        }
+        let (told, report) = answers[0];
+        tally.one("host steps");
+        tally.one(tally::row(told.number));
+        tally.one(tally::ending(report.ending));
+        if place == 0 && case.aim.starts_with(&tally::row(told.number)[5..]) {
+            tally.one(case.aim);
+        }
+    }
+    if bundle.bytes() != case.bytes_at("bundle") {
+        return Err("the bundle was written to".to_string());
+    }
+    Ok(())
+}
+
+fn side_text(side: &Side, told: Step) -> String {
+    let (host, packet) = (hex(side.host.bytes()), hex(side.packet.bytes()));
+    format!("{told:X?}, host {host}, packet {packet}, contents {}", hex(side.contents.bytes()))
+}
+
+fn kept_text(side: &Side, told: Step) -> String {
+    let (host, packet) = (hex(side.kept.bytes()), hex(side.kept_packet.bytes()));
+    format!("{told:X?}, host {host}, packet {packet}, contents {}", hex(side.contents.bytes()))
+}
+
+// ------------------------------------------------------ any contents
+
+/// Contents that no check left: the library and the made crate, for the second implementation knows none.
+pub fn make_contents(r: &mut Random) -> Case {
+    let most = r.pick(&[1, 3, 6]);
+    let entries = any_entries(r, most);
+    let bytes = bundle(&entries);
+    let records: Vec<usize> = entries.iter().map(|entry| entry.records.len()).collect();
+    let mut contents = vec![0; CONTENTS_SIZE];
+    made::Made.check(&bytes, &mut contents);
+    for _ in 0..r.between(1, 3) {
+        let place = 1 + 12 * r.below(7) + 4 * r.below(3);
+        match r.below(6) {
+            0 => contents[0] = r.pick(&[0, 1, 7, 8, 31, 32, 255]),
+            1 => contents = r.bytes(CONTENTS_SIZE),
+            2 => {
+                let cursor = r.pick(&[0, 1, u64::MAX, u64::MAX - 4, bytes.len() as u64, r.clone().below(300) as u64]);
+                contents[85..93].copy_from_slice(&cursor.to_le_bytes());
+            }
+            _ => {
+                let was = four(&contents[place..]);
+                let next = r.pick(&[0, 1, u32::MAX, was.wrapping_add(1), was.wrapping_sub(1), was / 2, bytes.len() as u32]);
+                contents[place..place + 4].copy_from_slice(&next.to_le_bytes());
+            }
+        }
+    }
+    let host = if r.percent(30) { HostRecord::fresh(r.byte()) } else { fitting(r, &records) };
+    let mut followed = other::host_of(&host);
+    let mut replies = Vec::new();
+    for _ in 0..r.between(2, 20) {
+        let reply = reply_for(r, followed.token, followed.stage, false);
+        followed = follow(followed, &bytes, &reply);
+        replies.push(reply);
+    }
+    let size = if r.percent(2) { r.pick(&[0, 92, 94]) } else { CONTENTS_SIZE };
+    contents.resize(size, 0);
+    Case::aimed("").bytes("host", host.bytes()).bytes("bundle", bytes).bytes("contents", contents).list("replies", replies)
+}
+
+pub fn run_contents(case: &Case, tally: &mut Tally) -> Outcome {
+    let two: [&dyn Calls; 2] = [&library::Library, &made::Made];
+    let bundle = Lent::new(case.bytes_at("bundle"));
+    let mut hosts = two.map(|_| Lent::new(case.bytes_at("host")));
+    let mut contents = two.map(|_| Lent::new(case.bytes_at("contents")));
+    for (place, reply) in case.list_at("replies").iter().enumerate() {
+        let reply = Lent::new(reply);
+        let mut answers = Vec::new();
+        for (side, calls) in two.iter().enumerate() {
+            let mut packet = Lent::new(&[0x5A; LONG_SIZE]);
+            let before = hosts[side].bytes().to_vec();
+            let told = calls.step_checked(hosts[side].lend(), contents[side].lend(), bundle.bytes(), reply.bytes(), packet.lend());
+            guarded(*calls, &[&hosts[side], &contents[side], &bundle, &reply, &packet])?;
+            if told.number != SERVED && hosts[side].bytes() != before {
+                return Err(format!("reply {place}, {}: a refused step changed the record", calls.name()));
+            }
+            answers.push((told, packet.bytes().to_vec(), hosts[side].bytes().to_vec(), contents[side].bytes().to_vec()));
+        }
+        if answers[0] != answers[1] {
+            let told: Vec<(&str, String)> = two
+                .iter()
+                .zip(&answers)
+                .map(|(calls, (told, packet, host, contents))| {
+                    (calls.name(), format!("{told:X?}, host {}, packet {}, contents {}", hex(host), hex(packet), hex(contents)))
+                })
+                .collect();
+            return Err(difference(&format!("reply {place}"), &told));
+        }
+        tally.one("steps over any contents");
+        tally.one(tally::row(answers[0].0.number));
+    }
+    Ok(())
+}

@@ -1,0 +1,484 @@
+//! Whole runs: a fresh host and a device of each implementation, over random devices and bundles; demand 3 wherever its premise holds; and hostile
+//! devices, against which every host has to end within its bound.
+
+use cfu_updater::update::{run as made_run, RunRefusal};
+
+use crate::bundles::{self, bundle, entries_in, Entry};
+use crate::calls::Calls;
+use crate::case::{difference, hex, Case, Outcome};
+use crate::demand::{self, Shown};
+use crate::devices::{broken_device, guarded, valid_device, BROKEN};
+use crate::header::*;
+use crate::layout::*;
+use crate::lent::Lent;
+use crate::library::Library;
+use crate::random::Random;
+use crate::tally::{self, Tally};
+use crate::{made, other, ALL};
+
+// -------------------------------------------------------------- bundles
+
+/// The records of an image: any cut, any order, what is 0xFF left out or not, and before them perhaps records that they write over.
+fn records_for(r: &mut Random, image: &[u8]) -> Vec<(u32, Vec<u8>)> {
+    let mut records = Vec::new();
+    let least = 1 + image.len() / 20;
+    let mut at = 0;
+    while at < image.len() {
+        let length = r.between(1, 52).max(least).min(52).min(image.len() - at);
+        let data = image[at..at + length].to_vec();
+        if data.iter().any(|byte| *byte != 0xFF) || r.percent(30) {
+            records.push((at as u32, data));
+        }
+        at += length;
+    }
+    if r.percent(50) {
+        r.shuffle(&mut records);
+    }
+    if r.percent(25) {
+        // A record whose bytes later ones write again: only where all of them are written later.
+        let length = r.between(1, 52.min(image.len()));
+        let at = r.below(image.len() - length + 1);
+        let mut covered = vec![false; image.len()];
+        for (address, data) in &records {
+            covered[*address as usize..*address as usize + data.len()].fill(true);
+        }
+        if covered[at..at + length].iter().all(|covered| *covered) {
+            records.insert(0, (at as u32, r.bytes(length)));
+        }
+    }
+    if records.is_empty() {
+        records.push((0, image[..1].to_vec()));
+    }
+    records
+}
+
+/// The records with a fault.
+fn bad_records(r: &mut Random, part: &Part, version: u32) -> Vec<(u32, Vec<u8>)> {
+    let length = part.length as usize;
+    match r.below(6) {
+        0 => {
+            let mut image = demand::image(r, length, version, part.id);
+            let place = r.below(length);
+            image[place] ^= 1 << r.below(8);
+            records_for(r, &image)
+        }
+        1 => {
+            let image = demand::image(r, length, version, part.id ^ 1);
+            records_for(r, &image)
+        }
+        2 => {
+            let image = demand::image(r, length, part.running.wrapping_sub(1), part.id);
+            records_for(r, &image)
+        }
+        3 => {
+            // Good in itself, but not of the offered version.
+            let image = demand::image(r, length, version.wrapping_add(1), part.id);
+            records_for(r, &image)
+        }
+        4 => {
+            let image = demand::image(r, length, version, part.id);
+            let mut records = records_for(r, &image);
+            let place = r.below(records.len() + 1);
+            let address = r.pick(&[part.length, part.length - 1, u32::MAX, u32::MAX - 1]);
+            records.insert(place, (address, r.bytes(2)));
+            records
+        }
+        _ => vec![(r.below(length) as u32, r.bytes(r.clone().between(1, 52)))],
+    }
+}
+
+/// Offers for the device's components and some others, with needs that form chains, cycles and dead ends.
+fn entries_for(r: &mut Random, device: &DeviceRecord) -> Vec<Entry> {
+    let all_good = r.percent(75);
+    let chain = r.percent(30);
+    let mut ids: Vec<u8> = device.listed().iter().map(|part| part.id).collect();
+    ids.extend((10..=12).filter(|_| r.percent(12)));
+    r.shuffle(&mut ids);
+    let count = if r.percent(50) { ids.len().min(7) } else { r.between(1, ids.len().min(7)) };
+    ids.truncate(count);
+    // First the versions, for needs refer to them.
+    let offered: Vec<(u8, u32)> = ids
+        .iter()
+        .map(|id| {
+            let running = device.listed().iter().find(|part| part.id == *id).map_or(0x0100_0000, |part| part.running);
+            let version = match r.below(20) {
+                0 => running,
+                1 => running.wrapping_sub(1),
+                2 | 3 => running.wrapping_add(1),
+                4 => running.wrapping_add(0x0100_0000),
+                _ => running.wrapping_add(256),
+            };
+            (*id, version)
+        })
+        .collect();
+    let mut entries = Vec::new();
+    for (place, (id, version)) in offered.iter().enumerate() {
+        let need = need_for(r, device, &offered, place, chain);
+        let platform = if r.percent(96) { device.platform } else { device.platform ^ 1 };
+        let offer = bundles::offer(*id, *version, need, platform);
+        let records = match device.listed().iter().find(|part| part.id == *id) {
+            None => vec![(r.next() as u32, r.bytes(r.clone().between(1, 52))), (0, vec![1])],
+            Some(part) if all_good || r.percent(60) => {
+                let image = demand::image(r, part.length as usize, *version, part.id);
+                records_for(r, &image)
+            }
+            Some(part) => bad_records(r, part, *version),
+        };
+        entries.push(Entry { offer, records });
+    }
+    if chain && r.percent(50) {
+        r.shuffle(&mut entries);
+    }
+    entries
+}
+
+fn need_for(r: &mut Random, device: &DeviceRecord, offered: &[(u8, u32)], place: usize, chain: bool) -> [u8; 4] {
+    let told = |id: u8, least: u32| {
+        let bytes = least.to_le_bytes();
+        [id, bytes[0], bytes[1], bytes[2]]
+    };
+    if chain && place + 1 < offered.len() {
+        let (id, version) = offered[place + 1];
+        return told(id, version / 256);
+    }
+    match r.below(10) {
+        0..=4 => [0; 4],
+        5 | 6 => {
+            // Another offer's new version, or its own; sometimes one more than it.
+            let (id, version) = r.pick(offered);
+            told(id, version / 256 + r.pick(&[0, 0, 0, 1]))
+        }
+        7 | 8 => {
+            let part = r.pick(device.listed());
+            told(part.id, part.staged.unwrap_or(part.running) / 256 + r.pick(&[0, 0, 1]))
+        }
+        _ => told(r.pick(&[0xFE, 0xFF, 13, 0xE0]), r.below(2) as u32),
+    }
+}
+
+pub fn make_run(r: &mut Random) -> Case {
+    let device = valid_device(r);
+    let entries = entries_for(r, &device);
+    let hostile = if r.percent(20) { r.next() | 1 } else { 0 };
+    let (mut record, mut laid) = (device.bytes().to_vec(), bundle(&entries));
+    match r.below(50) {
+        0 => laid = bundles::any_bundle(r),
+        1 => {
+            let aim = r.pick(&BROKEN);
+            record = broken_device(r, aim);
+        }
+        _ => {}
+    }
+    Case::aimed("")
+        .number("token", r.byte() as u64)
+        .number("hostile", hostile)
+        .number("order", r.next())
+        .bytes("device", record)
+        .bytes("staging", r.bytes(device.staging as usize))
+        .bytes("bundle", laid)
+}
+
+// ----------------------------------------------------------------- runs
+
+/// What a run leaves.
+#[derive(Clone, Debug, PartialEq, Eq)]
+struct Left {
+    /// The number of the check or of a step that refused.
+    number: u32,
+    packets: Vec<Vec<u8>>,
+    replies: Vec<Vec<u8>>,
+    host: Vec<u8>,
+    device: Vec<u8>,
+    staging: Vec<u8>,
+    report: Report,
+}
+
+impl Left {
+    fn text(&self) -> String {
+        let lines: Vec<String> = self.packets.iter().zip(&self.replies).map(|(packet, reply)| format!("{} : {}", hex(packet), hex(reply))).collect();
+        format!(
+            "number {:X}, {:X?}, host {}, device {}, staging {}\n      {}",
+            self.number,
+            self.report,
+            hex(&self.host),
+            hex(&self.device),
+            hex(&self.staging),
+            lines.join("\n      ")
+        )
+    }
+}
+
+/// Which step the host takes.
+#[derive(Clone, Copy, PartialEq, Eq)]
+enum By {
+    Bundle,
+    Contents,
+}
+
+struct Start<'a> {
+    token: u8,
+    device: &'a [u8],
+    staging: &'a [u8],
+    bundle: &'a [u8],
+    /// 0 for the device's own replies, otherwise the seed of hostile ones.
+    hostile: u64,
+}
+
+/// The packets that a host sends at most, whatever it hears: in each of n passes code 1, code 2, r blocks, and for each offer nine offers and eight
+/// notifies; and code 0.
+fn most_packets(bundle: &[u8]) -> usize {
+    let entries = entries_in(bundle);
+    let records: usize = entries.iter().map(|entry| entry.records.len()).sum();
+    1 + entries.len() * (17 * entries.len() + 2 + records)
+}
+
+/// A reply to a packet from a device that keeps no rule.
+fn hostile_reply(seed: u64, place: usize, packet: &[u8]) -> Vec<u8> {
+    let mut r = Random::of_case(seed, 99, place as u64);
+    let style = seed >> 8 & 3;
+    let mut reply = vec![0; 16];
+    if packet.len() == 60 {
+        reply[..2].copy_from_slice(&packet[2..4]);
+        if r.percent(1) {
+            reply[4] = r.byte();
+        }
+    } else {
+        reply[3] = packet[3];
+        reply[12] = match (packet[2], style) {
+            (0xFF, _) => 1,
+            (0xFE, _) => 4,
+            // BUSY without end; SKIP and ACCEPT so that every pass is repeated; anything.
+            (_, 0) => 3,
+            (_, 1) => r.pick(&[0, 1]),
+            (_, 2) => r.pick(&[3, 3, 3, 3, 1, 0]),
+            _ => r.pick(&[0, 1, 2, 3]),
+        };
+        if r.percent(1) {
+            reply[12] = r.byte();
+        }
+    }
+    match r.below(150) {
+        0 => reply = r.bytes(16),
+        1 => reply.truncate(r.below(16)),
+        _ => {}
+    }
+    reply
+}
+
+fn whole_run(calls: &dyn Calls, start: &Start, by: By) -> Result<Left, String> {
+    let bundle = Lent::new(start.bundle);
+    let mut contents = Lent::new(&[0; CONTENTS_SIZE]);
+    let mut host = Lent::new(&[0x5A; HOST_SIZE]);
+    let mut device = Lent::new(start.device);
+    let mut staging = Lent::new(start.staging);
+    let mut packet = Lent::new(&[0; LONG_SIZE]);
+    let mut replies = Lent::new(&[0; REPLIES_SIZE]);
+    let mut left = Left {
+        number: SERVED,
+        packets: Vec::new(),
+        replies: Vec::new(),
+        host: Vec::new(),
+        device: Vec::new(),
+        staging: Vec::new(),
+        report: Report::default(),
+    };
+    calls.fresh(host.lend(), start.token);
+    let told = calls.check(bundle.bytes(), contents.lend());
+    left.number = told.number;
+    let most = if told.number == SERVED { most_packets(start.bundle) } else { 0 };
+    // The first step awaits no reply, so any will do.
+    let mut reply = vec![0x77; start.token as usize % 20];
+    while left.number == SERVED {
+        let step = match by {
+            By::Bundle => calls.step(host.lend(), bundle.bytes(), &reply, packet.lend()),
+            By::Contents => calls.step_checked(host.lend(), contents.lend(), bundle.bytes(), &reply, packet.lend()),
+        };
+        guarded(calls, &[&host, &contents, &bundle, &packet])?;
+        left.number = step.number;
+        if step.number != SERVED || step.length == 0 {
+            break;
+        }
+        let sent = packet.bytes()[..step.length as usize].to_vec();
+        if left.packets.len() == most {
+            return Err(format!("{}: the host does not end within {most} packets", calls.name()));
+        }
+        reply = if start.hostile != 0 {
+            hostile_reply(start.hostile, left.packets.len(), &sent)
+        } else {
+            let told = if step.length == 16 {
+                calls.offer(device.lend(), staging.bytes(), &sent, replies.lend())
+            } else {
+                calls.content(device.lend(), staging.lend(), &sent, replies.lend())
+            };
+            guarded(calls, &[&device, &staging, &replies])?;
+            // A READY that was owed would follow as another reply; after code 0 none is.
+            replies.bytes()[..16 * told.count as usize].to_vec()
+        };
+        left.packets.push(sent);
+        left.replies.push(reply.clone());
+    }
+    if bundle.bytes() != start.bundle {
+        return Err(format!("{}: the bundle was written to", calls.name()));
+    }
+    left.report = calls.report(host.bytes());
+    left.host = host.bytes().to_vec();
+    left.device = device.bytes().to_vec();
+    left.staging = staging.bytes().to_vec();
+    Ok(left)
+}
+
+pub fn run_run(case: &Case, tally: &mut Tally) -> Outcome {
+    let start = Start {
+        token: case.number_at("token") as u8,
+        device: case.bytes_at("device"),
+        staging: case.bytes_at("staging"),
+        bundle: case.bytes_at("bundle"),
+        hostile: case.number_at("hostile"),
+    };
+    let mut lefts = Vec::new();
+    for calls in ALL {
+        lefts.push((calls.name(), whole_run(calls, &start, By::Contents)?));
+    }
+    lefts.push(("library, step over the bundle", whole_run(&Library, &start, By::Bundle)?));
+    if lefts.iter().any(|(_, left)| *left != lefts[0].1) {
+        let told: Vec<(&str, String)> = lefts.iter().map(|(name, left)| (*name, left.text())).collect();
+        return Err(difference("whole run", &told));
+    }
+    let left = &lefts[0].1;
+    tally.one("whole runs");
+    tally.add("packets in whole runs", left.packets.len() as u64);
+    tally.one(tally::row(left.number));
+    tally.one(tally::ending(left.report.ending));
+    if left.number == SERVED && left.report.ending == RUNNING {
+        return Err("the run stopped before the host ended".to_string());
+    }
+    if start.hostile != 0 {
+        tally.one("whole runs against a hostile device");
+        return Ok(());
+    }
+    whole_functions(&start, left)?;
+    run_demand(case, &start, left, tally)
+}
+
+/// The made crate's and the second implementation's own runs leave the same.
+fn whole_functions(start: &Start, left: &Left) -> Outcome {
+    let Some(device) = DeviceRecord::read(start.device) else { return Ok(()) };
+    let mut staging = start.staging.to_vec();
+    let ran = made_run(start.bundle, start.token, made::device_of(&device), &mut staging);
+    match ran.refusal {
+        RunRefusal::Served => {
+            let same = made::record_of(&ran.device).bytes()[..] == left.device[..]
+                && staging == left.staging
+                && ran.report.packets == left.report.packets
+                && ran.report.passes == left.report.passes
+                && ran.report.mask == left.report.mask
+                && ran.report.completed == left.report.completed;
+            if !same {
+                return Err(format!("the made crate's run differs: {ran:?}\n    the steps: {}", left.text()));
+            }
+        }
+        // Refused runs change nothing.
+        _ => {
+            if made::record_of(&ran.device) != device || staging != start.staging {
+                return Err(format!("the made crate's refused run changed something: {ran:?}"));
+            }
+            let number = match ran.refusal {
+                RunRefusal::Bundle { verdict, .. } => made::bundle_number(verdict),
+                RunRefusal::D1 => D1,
+                _ => D2,
+            };
+            if left.number != SERVED && number != left.number {
+                return Err(format!("the made crate's run is refused by {number:X}, the check by {:X}", left.number));
+            }
+            return Ok(());
+        }
+    }
+    let mut staging = start.staging.to_vec();
+    let ran = second::run::run(start.token, start.bundle, other::device_of(&device), &mut staging);
+    let host = other::host_record(&ran.host).bytes();
+    if other::record_of(&ran.device).bytes()[..] != left.device[..] || staging != left.staging || host[..] != left.host[..] {
+        return Err(format!("the second implementation's run differs: {ran:?}\n    the steps: {}", left.text()));
+    }
+    Ok(())
+}
+
+fn run_demand(case: &Case, start: &Start, left: &Left, tally: &mut Tally) -> Outcome {
+    let Some(device) = DeviceRecord::read(start.device) else { return Ok(()) };
+    let mut packet = [0; LONG_SIZE];
+    let allowed = Library.version_reply(start.device, &mut packet) == SERVED && start.staging.len() == device.staging as usize;
+    if left.number != SERVED || !allowed {
+        return Ok(());
+    }
+    let entries = entries_in(start.bundle);
+    if !demand::premise(&device, &entries) {
+        return Ok(());
+    }
+    tally.one("demand 3: runs where its premise holds");
+    let set = demand_of(start, left, &device, &entries)?;
+    tally.add("demand 3: images staged", set.count_ones() as u64);
+    if left.report.passes > 2 {
+        tally.one("demand 3: runs of more than two passes");
+    }
+    if device.session != Session::Idle {
+        tally.one("demand 3: runs that begin in an open session");
+    }
+    // Other orders of the same offers with their bodies, another token: the same device and bytes.
+    let mut r = Random::new(case.number_at("order"));
+    for order in orders(&mut r, entries.len()) {
+        let permuted: Vec<Entry> = order.iter().map(|place| entries[*place].clone()).collect();
+        let bytes = bundle(&permuted);
+        let other = Start { token: r.byte(), bundle: &bytes, ..*start };
+        let again = whole_run(&Library, &other, By::Contents)?;
+        let permuted_set = demand_of(&other, &again, &device, &permuted)?;
+        let same_set = (0..order.len()).all(|place| permuted_set >> place & 1 == set >> order[place] & 1);
+        if !same_set || again.device != left.device || again.staging != left.staging {
+            return Err(format!("demand 3: order {order:?} gives another end\n    {}\n    {}", left.text(), again.text()));
+        }
+        tally.one("demand 3: runs in another order");
+    }
+    Ok(())
+}
+
+fn demand_of(start: &Start, left: &Left, device: &DeviceRecord, entries: &[Entry]) -> Result<usize, String> {
+    let (Some(host), Some(after)) = (HostRecord::read(&left.host), DeviceRecord::read(&left.device)) else {
+        return Err("a run left bytes that are no record".to_string());
+    };
+    let shown = Shown {
+        before: device,
+        staging_before: start.staging,
+        entries,
+        packets: &left.packets,
+        replies: &left.replies,
+        host,
+        after,
+        staging_after: &left.staging,
+    };
+    demand::check(&shown).map_err(|what| format!("{what}\n    {}", left.text()))
+}
+
+/// All orders of up to three offers, and some of more.
+fn orders(r: &mut Random, count: usize) -> Vec<Vec<usize>> {
+    let first: Vec<usize> = (0..count).collect();
+    match count {
+        1 => Vec::new(),
+        2 => vec![vec![1, 0]],
+        3 => vec![vec![0, 2, 1], vec![1, 0, 2], vec![1, 2, 0], vec![2, 0, 1], vec![2, 1, 0]],
+        _ => (0..3)
+            .map(|_| {
+                let mut order = first.clone();
+                r.shuffle(&mut order);
+                order
+            })
+            .collect(),
+    }
+}
+
+/// What the gate's run has to have met in whole runs.
+pub const RUNS: [&str; 6] = [
+    "whole runs against a hostile device",
+    "demand 3: runs where its premise holds",
+    "demand 3: images staged",
+    "demand 3: runs of more than two passes",
+    "demand 3: runs that begin in an open session",
+    "demand 3: runs in another order",
+];

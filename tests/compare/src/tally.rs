@@ -1,0 +1,158 @@
+//! How often each thing was met: calls, refusals, statuses, ends.
+
+use std::collections::HashMap;
+
+use crate::header::*;
+
+#[derive(Clone, Debug, Default)]
+pub struct Tally {
+    counts: HashMap<&'static str, u64>,
+}
+
+impl Tally {
+    pub fn add(&mut self, name: &'static str, times: u64) {
+        *self.counts.entry(name).or_insert(0) += times;
+    }
+
+    pub fn one(&mut self, name: &'static str) {
+        self.add(name, 1);
+    }
+
+    pub fn of(&self, name: &str) -> u64 {
+        self.counts.get(name).copied().unwrap_or(0)
+    }
+
+    pub fn join(&mut self, other: &Tally) {
+        for (name, times) in &other.counts {
+            self.add(name, *times);
+        }
+    }
+
+    /// The names in order, each with its count.
+    pub fn lines(&self) -> Vec<(&'static str, u64)> {
+        let mut lines: Vec<_> = self.counts.iter().map(|(name, times)| (*name, *times)).collect();
+        lines.sort();
+        lines
+    }
+}
+
+/// The row or end that a number is.
+pub fn row(number: u32) -> &'static str {
+    match number {
+        SERVED => "row: served",
+        C1 => "row: C1",
+        C2 => "row: C2",
+        C3 => "row: C3",
+        S1 => "row: S1",
+        S2 => "row: S2",
+        S3 => "row: S3",
+        S4 => "row: S4",
+        D1 => "row: D1",
+        D2 => "row: D2",
+        D3 => "row: D3",
+        P1 => "row: P1",
+        P2 => "row: P2",
+        N1 => "row: N1",
+        B1 => "row: B1",
+        B2 => "row: B2",
+        B3 => "row: B3",
+        B4 => "row: B4",
+        B5 => "row: B5",
+        B6 => "row: B6",
+        B7 => "row: B7",
+        B8 => "row: B8",
+        _ => "row: unknown",
+    }
+}
+
+pub fn ending(number: u32) -> &'static str {
+    match number {
+        RUNNING => "end: running",
+        DONE => "end: done",
+        H1 => "end: H1",
+        H2 => "end: H2",
+        H3 => "end: H3",
+        H4 => "end: H4",
+        _ => "end: unknown",
+    }
+}
+
+/// The status of a reply of the offer channel, with a REJECT's reason.
+pub fn offer_status(reply: &[u8]) -> &'static str {
+    match (reply[12], reply[8]) {
+        (0, 0) => "offer reply: SKIP",
+        (1, 0) => "offer reply: ACCEPT",
+        (2, 0) => "offer reply: REJECT 0",
+        (2, 1) => "offer reply: REJECT 1",
+        (2, 2) => "offer reply: REJECT 2",
+        (2, 0xE0) => "offer reply: REJECT 0xE0",
+        (2, 0xE1) => "offer reply: REJECT 0xE1",
+        (3, 0) => "offer reply: BUSY",
+        (4, 0) => "offer reply: READY",
+        (0xFF, 0) => "offer reply: unsupported",
+        _ => "offer reply: unknown",
+    }
+}
+
+pub fn content_status(status: u8) -> &'static str {
+    match status {
+        0x00 => "content reply: 0x00",
+        0x04 => "content reply: 0x04",
+        0x05 => "content reply: 0x05",
+        0x07 => "content reply: 0x07",
+        0x09 => "content reply: 0x09",
+        0x0A => "content reply: 0x0A",
+        0x0B => "content reply: 0x0B",
+        _ => "content reply: unknown",
+    }
+}
+
+/// What the gate's run has to have met at least once.
+pub const REQUIRED: [&str; 46] = [
+    "row: served",
+    "row: C1",
+    "row: C2",
+    "row: C3",
+    "row: S1",
+    "row: S2",
+    "row: S3",
+    "row: S4",
+    "row: D1",
+    "row: D2",
+    "row: D3",
+    "row: P1",
+    "row: P2",
+    "row: N1",
+    "row: B1",
+    "row: B2",
+    "row: B3",
+    "row: B4",
+    "row: B5",
+    "row: B6",
+    "row: B7",
+    "row: B8",
+    "end: done",
+    "end: H1",
+    "end: H2",
+    "end: H3",
+    "end: H4",
+    "offer reply: SKIP",
+    "offer reply: ACCEPT",
+    "offer reply: REJECT 0",
+    "offer reply: REJECT 1",
+    "offer reply: REJECT 2",
+    "offer reply: REJECT 0xE0",
+    "offer reply: REJECT 0xE1",
+    "offer reply: BUSY",
+    "offer reply: READY",
+    "offer reply: unsupported",
+    "replies: none due",
+    "replies: READY follows",
+    "content reply: 0x00",
+    "content reply: 0x04",
+    "content reply: 0x05",
+    "content reply: 0x07",
+    "content reply: 0x09",
+    "content reply: 0x0A",
+    "content reply: 0x0B",
+];

@@ -1,0 +1,399 @@
+//! The time of each call and of whole sessions: the static library, the made crate and the second implementation, in one table. Not a test of times: it ends
+//! with status 1 only where the three leave different bytes.
+
+mod plain;
+
+use std::hint::black_box;
+
+use cfu_updater::bundle::check as made_check;
+use cfu_updater::update::run as made_run;
+use compare::bundles::{bundle, offer, Entry};
+use compare::calls::Calls;
+use compare::demand;
+use compare::header::*;
+use compare::layout::*;
+use compare::library::Library;
+use compare::random::Random;
+use compare::{made, other};
+use second::device::Answer;
+use second::host::{Host as SecondHost, Packet};
+
+/// How often each is measured; the least counts.
+const REPETITIONS: usize = 40;
+/// How long one measurement takes at least, in nanoseconds.
+const LEAST: u64 = 500_000;
+
+const TOKEN: u8 = 0xA5;
+
+/// A row of the table.
+struct Row {
+    what: String,
+    times: Vec<f64>,
+}
+
+#[repr(C)]
+struct Timespec {
+    seconds: i64,
+    nanoseconds: i64,
+}
+
+extern "C" {
+    /// The C library's own: the time of a clock.
+    fn clock_gettime(clock: i32, time: *mut Timespec) -> i32;
+}
+
+/// The clock of the processor time of this thread: what other programs take of the processor does not count.
+const THREAD_TIME: i32 = 3;
+
+/// Nanoseconds of the processor that this thread has had.
+fn now() -> u64 {
+    let mut time = Timespec { seconds: 0, nanoseconds: 0 };
+    let failed = unsafe { clock_gettime(THREAD_TIME, &mut time) };
+    assert!(failed == 0, "there is no clock of the thread's processor time");
+    time.seconds as u64 * 1_000_000_000 + time.nanoseconds as u64
+}
+
+/// The least time of a call of each, measured in turn so that all meet the same machine.
+fn measure(what: String, calls: &mut [&mut dyn FnMut()]) -> Row {
+    let mut rounds = Vec::new();
+    for call in calls.iter_mut() {
+        call();
+        let mut count = 1u32;
+        loop {
+            let begun = now();
+            for _ in 0..count {
+                call();
+            }
+            if now() - begun >= LEAST || count > 1 << 24 {
+                break;
+            }
+            count *= 2;
+        }
+        rounds.push(count);
+    }
+    let mut times = vec![f64::MAX; calls.len()];
+    for _ in 0..REPETITIONS {
+        for (place, call) in calls.iter_mut().enumerate() {
+            let begun = now();
+            for _ in 0..rounds[place] {
+                call();
+            }
+            times[place] = times[place].min((now() - begun) as f64 / rounds[place] as f64);
+        }
+    }
+    Row { what, times }
+}
+
+fn expect(what: &str, same: bool) {
+    if !same {
+        println!("speed: FAILED: {what}: the three leave different bytes");
+        std::process::exit(1);
+    }
+}
+
+// ------------------------------------------------------------ the inputs
+
+/// A device whose components share the staging buffer equally.
+fn device(count: usize, staging: usize) -> DeviceRecord {
+    let mut record = DeviceRecord { platform: 0x0042, staging: staging as u32, count: count as u8, ..Default::default() };
+    let length = (staging / count) as u32;
+    for slot in 0..count {
+        record.parts[slot] = Part { id: slot as u8 + 1, running: 0x0100_0100, base: slot as u32 * length, length, staged: None };
+    }
+    record
+}
+
+/// The records of an image, each of so many bytes; a record of erased bytes is left out.
+fn records(image: &[u8], size: usize) -> Vec<(u32, Vec<u8>)> {
+    let mut out = Vec::new();
+    for (place, data) in image.chunks(size).enumerate() {
+        if data.iter().any(|byte| *byte != 0xFF) {
+            out.push(((place * size) as u32, data.to_vec()));
+        }
+    }
+    out
+}
+
+/// An image of a component of which only the first so many bytes, and the CRC, are not 0xFF.
+fn image(length: usize, used: usize, id: u8) -> Vec<u8> {
+    let mut r = Random::new(length as u64 + id as u64);
+    let mut out = vec![0xFF; length];
+    let used = used.min(length - 2);
+    out[..used].copy_from_slice(&r.bytes(used));
+    out[..4].copy_from_slice(&0x0100_0200u32.to_le_bytes());
+    out[4] = id;
+    let check = demand::crc(&out[..length - 2]);
+    out[length - 2..].copy_from_slice(&check.to_be_bytes());
+    out
+}
+
+/// A bundle for every component of a device, with records of so many bytes; the bodies share the room of the largest bundle.
+fn bundle_for(record: &DeviceRecord, size: usize) -> Vec<u8> {
+    let count = record.count as usize;
+    let room = (65_536 - 8 - 24 * count) / count;
+    // The record with the CRC stands apart.
+    let used = (room - 5 - 2 * size) / (size + 5) * size;
+    let entries: Vec<Entry> = record
+        .listed()
+        .iter()
+        .map(|part| {
+            let image = image(part.length as usize, used, part.id);
+            Entry { offer: offer(part.id, 0x0100_0200, [0; 4], record.platform), records: records(&image, size) }
+        })
+        .collect();
+    bundle(&entries)
+}
+
+fn offer_packet(record: &DeviceRecord) -> [u8; 16] {
+    let id = record.listed().last().map_or(1, |part| part.id);
+    let mut packet = offer(id, 0x0100_0200, [0; 4], record.platform);
+    packet[3] = TOKEN;
+    packet
+}
+
+fn content_packet(flags: u8, sequence: u16, address: u32, data: &[u8]) -> [u8; 60] {
+    let mut packet = [0; 60];
+    packet[0] = flags;
+    packet[1] = data.len() as u8;
+    packet[2..4].copy_from_slice(&sequence.to_le_bytes());
+    packet[4..8].copy_from_slice(&address.to_le_bytes());
+    packet[8..8 + data.len()].copy_from_slice(data);
+    packet
+}
+
+// --------------------------------------------------------------- the rows
+
+fn check_row(what: &str, bytes: &[u8]) -> Row {
+    let mut left = [[0; CONTENTS_SIZE]; 3];
+    expect("bundle check", Library.check(bytes, &mut left[0]) == made::Made.check(bytes, &mut left[1]));
+    expect("bundle check", other::Other.check(bytes, &mut left[2]).number == SERVED && left[0] == left[1] && left[1] == left[2]);
+    let mut contents = [0; CONTENTS_SIZE];
+    measure(
+        format!("bundle check, {what}"),
+        &mut [
+            &mut || {
+                black_box(Library.check(black_box(bytes), &mut contents));
+            },
+            &mut || {
+                black_box(made_check(black_box(bytes)));
+            },
+            &mut || {
+                black_box(second::bundle::check(black_box(bytes)).is_ok());
+            },
+        ],
+    )
+}
+
+/// The first reply of the second implementation, which every call here gives.
+fn reply_of(answer: Answer) -> [u8; 16] {
+    match answer {
+        Answer::Reply(reply) | Answer::ReplyThenReady(reply, _) | Answer::Refused(_, reply) => reply,
+        Answer::NoReply => [0; 16],
+    }
+}
+
+/// One packet to a device that is in the same state each time.
+fn packet_row(what: String, record: &DeviceRecord, staging: &[u8], packet: &[u8]) -> Row {
+    let before = record.bytes();
+    let mut stagings = [staging.to_vec(), staging.to_vec(), staging.to_vec()];
+    let [own, made_own, other_own] = &mut stagings;
+    let (made_device, other_device) = (made::device_of(record), other::device_of(record));
+    let mut replies = [0; REPLIES_SIZE];
+    let content = packet.len() == 60;
+    // Once, to be compared.
+    let mut kept = before;
+    if content {
+        Library.content(&mut kept, own, packet, &mut replies);
+    } else {
+        Library.offer(&mut kept, own, packet, &mut replies);
+    }
+    let made_answer = if content { made_device.content(made_own, packet) } else { made_device.offer(made_own, packet) };
+    let (next, answer) = if content { other_device.content(other_own, packet) } else { other_device.offer(other_own, packet) };
+    expect(&what, made_answer.reply == replies[..16] && reply_of(answer) == replies[..16]);
+    expect(&what, made::record_of(&made_answer.device).bytes() == kept && other::record_of(&next).bytes() == kept);
+    expect(&what, own == made_own && made_own == other_own);
+    // The region is written as it stands, so each repetition leaves the same.
+    if content {
+        measure(
+            what,
+            &mut [
+                &mut || {
+                    let mut device = before;
+                    black_box(Library.content(black_box(&mut device), own, black_box(packet), &mut replies));
+                },
+                &mut || {
+                    black_box(black_box(made_device).content(made_own, black_box(packet)));
+                },
+                &mut || {
+                    black_box(black_box(other_device).content(other_own, black_box(packet)));
+                },
+            ],
+        )
+    } else {
+        measure(
+            what,
+            &mut [
+                &mut || {
+                    let mut device = before;
+                    black_box(Library.offer(black_box(&mut device), own, black_box(packet), &mut replies));
+                },
+                &mut || {
+                    black_box(black_box(made_device).offer(made_own, black_box(packet)));
+                },
+                &mut || {
+                    black_box(black_box(other_device).offer(other_own, black_box(packet)));
+                },
+            ],
+        )
+    }
+}
+
+/// A whole session by the library: one check, then a step and a packet in turn.
+fn library_session(bundle: &[u8], device: &mut [u8; DEVICE_SIZE], staging: &mut [u8]) -> Report {
+    let mut contents = [0; CONTENTS_SIZE];
+    let mut host = [0; HOST_SIZE];
+    let mut packet = [0; LONG_SIZE];
+    let mut replies = [0; REPLIES_SIZE];
+    let mut due = 0;
+    Library.check(bundle, &mut contents);
+    Library.fresh(&mut host, TOKEN);
+    loop {
+        let step = Library.step_checked(&mut host, &mut contents, bundle, &replies[..16 * due], &mut packet);
+        due = match step.length {
+            0 => return Library.report(&host),
+            16 => Library.offer(device, staging, &packet[..16], &mut replies).count,
+            _ => Library.content(device, staging, &packet, &mut replies).count,
+        } as usize;
+    }
+}
+
+/// The same steps with the second implementation's check, packets and device, and the plain host.
+fn second_session(bundle: &[u8], device: second::device::Device, staging: &mut [u8]) -> (SecondHost, second::device::Device) {
+    let mut host = SecondHost::fresh(TOKEN);
+    let mut device = device;
+    let Ok(read) = second::bundle::check(bundle) else { return (host, device) };
+    let mut reply = [0; 16];
+    loop {
+        let (next, answer) = match plain::step(&read, &mut host, &reply) {
+            plain::Next::Packet(Packet::ForOffer(packet)) => device.offer(staging, &packet),
+            plain::Next::Packet(Packet::ForContent(packet)) => device.content(staging, &packet),
+            _ => return (host, device),
+        };
+        device = next;
+        reply = reply_of(answer);
+    }
+}
+
+/// The same session with the device changed in place and no row D1.
+fn plain_session(bundle: &[u8], device: second::device::Device, staging: &mut [u8]) -> (SecondHost, second::device::Device) {
+    let mut host = SecondHost::fresh(TOKEN);
+    let mut device = device;
+    let Ok(read) = second::bundle::check(bundle) else { return (host, device) };
+    let mut reply = [0; 16];
+    loop {
+        reply = match plain::step(&read, &mut host, &reply) {
+            plain::Next::Packet(Packet::ForOffer(packet)) => plain::offer_in_place(&mut device, &packet),
+            plain::Next::Packet(Packet::ForContent(packet)) => plain::content_in_place(&mut device, staging, &packet),
+            _ => return (host, device),
+        };
+    }
+}
+
+/// A whole session of all, and last the one in place.
+fn session_row(what: &str, record: &DeviceRecord, bytes: &[u8]) -> Row {
+    let staging = vec![0; record.staging as usize];
+    let mut stagings = [staging.clone(), staging.clone(), staging.clone(), staging];
+    let [own, made_own, other_own, plain_own] = &mut stagings;
+    let before = record.bytes();
+    let (made_device, other_device) = (made::device_of(record), other::device_of(record));
+    let mut kept = before;
+    let report = library_session(bytes, &mut kept, own);
+    let made_left = made_run(bytes, TOKEN, made_device, made_own);
+    let (host, left) = second_session(bytes, other_device, other_own);
+    let (plain_host, plain_left) = plain_session(bytes, other_device, plain_own);
+    expect(what, report.ending == DONE && report.completed == record.count as u32);
+    expect(what, made_left.report.packets == report.packets && host.packets == report.packets && plain_host == host);
+    expect(what, made_left.report.mask == report.mask && host.mask == report.mask);
+    expect(what, made::record_of(&made_left.device).bytes() == kept);
+    expect(what, other::record_of(&left).bytes() == kept && plain_left == left);
+    expect(what, own == made_own && made_own == other_own && other_own == plain_own);
+    measure(
+        format!("session, {what}, {} packets", report.packets),
+        &mut [
+            &mut || {
+                let mut device = before;
+                black_box(library_session(black_box(bytes), &mut device, own));
+            },
+            &mut || {
+                black_box(made_run(black_box(bytes), TOKEN, made_device, made_own));
+            },
+            &mut || {
+                black_box(second_session(black_box(bytes), other_device, other_own));
+            },
+            &mut || {
+                black_box(plain_session(black_box(bytes), other_device, plain_own));
+            },
+        ],
+    )
+}
+
+fn packet_rows(rows: &mut Vec<Row>) {
+    for (count, staging) in [(1, 4096), (7, 65_536)] {
+        let record = device(count, staging);
+        let bytes = vec![0; staging];
+        let what = format!("{count} component{}, {staging} bytes of staging", if count == 1 { "" } else { "s" });
+        rows.push(packet_row(format!("offer, {what}"), &record, &bytes, &offer_packet(&record)));
+        let slot = count as u8 - 1;
+        let receiving = DeviceRecord { session: Session::Receiving { slot, token: TOKEN, next: 7 }, ..record };
+        let packet = content_packet(0, 7, 100, &[0x3C; 52]);
+        rows.push(packet_row(format!("content packet, {what}"), &receiving, &bytes, &packet));
+    }
+    for length in [64, 4096, 65_536] {
+        let record = device(1, length);
+        let receiving = DeviceRecord { session: Session::Receiving { slot: 0, token: TOKEN, next: 7 }, ..record };
+        let image = image(length, length, 1);
+        let packet = content_packet(0x40, 7, length as u32 - 20, &image[length - 20..]);
+        rows.push(packet_row(format!("last block, image of {length} bytes"), &receiving, &image, &packet));
+    }
+}
+
+fn main() {
+    let mut rows = Vec::new();
+    let two = device(2, 128);
+    let small = bundle_for(&two, 52);
+    let seven = device(7, 65_536);
+    let one = device(1, 65_536);
+    rows.push(check_row(&format!("{} bytes", small.len()), &small));
+    for (record, size) in [(device(1, 4096), 52), (one, 52), (seven, 52), (one, 1)] {
+        let bytes = bundle_for(&record, size);
+        let (length, count) = (bytes.len(), record.count);
+        rows.push(check_row(&format!("{length} bytes, {count} offer{}, records of {size}", if count == 1 { "" } else { "s" }), &bytes));
+    }
+    packet_rows(&mut rows);
+    let mut sessions = vec![session_row("2 images of 64 bytes", &two, &small)];
+    for (record, size) in [(device(1, 4096), 52), (device(1, 16_384), 52), (one, 52), (seven, 52), (one, 1)] {
+        let bytes = bundle_for(&record, size);
+        let (count, length) = (record.count, record.parts[0].length);
+        let plural = if count == 1 { "" } else { "s" };
+        sessions.push(session_row(&format!("{count} image{plural} of {length} bytes, records of {size}"), &record, &bytes));
+    }
+    println!("nanoseconds of the processor, least of {REPETITIONS}; a session is one bundle check and then the host's steps and the device's calls in turn:");
+    println!("  library: cfu_bundle_check, cfu_host_step_checked, cfu_device_offer and cfu_device_content");
+    println!("  crate:   bundle::check, Device::offer and Device::content; update::run for a session");
+    println!("  second:  the second implementation's check, packets and device (row D1 at each packet), a plain host with row N1 at each step");
+    println!("  in place: the same plain host, a plain device that is changed by reference and does not judge row D1");
+    println!();
+    println!("| | library | crate | second | library/second | crate/second |");
+    println!("|---|---:|---:|---:|---:|---:|");
+    for row in rows.iter().chain(&sessions) {
+        let t = &row.times;
+        println!("| {} | {:.0} | {:.0} | {:.0} | {:.2} | {:.2} |", row.what, t[0], t[1], t[2], t[0] / t[2], t[1] / t[2]);
+    }
+    println!();
+    println!("| | in place | library/in place | crate/in place | second/in place |");
+    println!("|---|---:|---:|---:|---:|");
+    for row in &sessions {
+        let t = &row.times;
+        println!("| {} | {:.0} | {:.2} | {:.2} | {:.2} |", row.what, t[3], t[0] / t[3], t[1] / t[3], t[2] / t[3]);
+    }
+}

@@ -1,5 +1,5 @@
 #!/usr/bin/env python3
-"""Holds include/cfu.h against what is proved: each function and struct against crates/capi/src, each number against the constants of specs/ and src/.
+"""Holds include/cfu.h against what is proved: each function against crates/capi/src, each struct against crates/c_numbers/src, each number against the constants of specs/ and src/.
 
 fit.py [HEADER]    HEADER is include/cfu.h unless it is given
 
@@ -73,10 +73,10 @@ def variants(name):
 
 
 # The rooms that say what a lent buffer holds.
-LENT = ("capi", "*_bytes")
+LENT = ("c_*", "*_bytes")
 
-NUMBERS = files("capi/specs/Numbers.antt")
-PACKETS = files("capi/specs/Packets.antt")
+NUMBERS = files("c_numbers/specs/Numbers.antt")
+READ = files("c_read/specs/Read.antt")
 
 
 def found(pattern, text):
@@ -126,7 +126,7 @@ def expected_numbers():
     say("DONE", "specs/Numbers.antt", found(r"^endingNumber done = (\d+)$", NUMBERS))
     for name, pattern in (("OFFER", r"Row\.served \(kind\.offer o\)"), ("INFORMATION", r"Row\.served \(kind\.information s\)"),
                           ("EXTENDED", r"Row\.served \(kind\.extended s\)"), ("NONE", r"\(P k\) any")):
-        say(f"KIND_{name}", "specs/Packets.antt", found(rf"^packetOf {pattern} = record \{{ [^}}]*kind = (\d+);", PACKETS))
+        say(f"KIND_{name}", "specs/Read.antt", found(rf"^packetOf {pattern} = record \{{ [^}}]*kind = (\d+);", READ))
     for place, read in (("specs", spec_constants), ("src", source_constants)):
         limits = read("component", "layout")
         for name in ("STAGING_LIMIT", "BUNDLE_LIMIT", "COMPONENT_LIMIT", "OFFER_LIMIT", "REGION_LEAST"):
@@ -164,7 +164,7 @@ def hold_layouts(text):
             misfit(f"{', '.join(names)}: the header's comment has {given}, specs has {[known[name] for name in names]}")
 
 
-# What the header declares, and what crates/capi/src exports, in C's words
+# What the header declares, and what crates/capi/src exports with the structs of crates/c_numbers/src, in C's words
 
 WIDTHS = {"u8": "uint8_t", "u16": "uint16_t", "u32": "uint32_t", "u64": "uint64_t", "usize": "size_t"}
 
@@ -175,7 +175,7 @@ def c_type(text):
         return WIDTHS[text]
     if re.fullmatch(r"C[A-Z]\w*", text):
         return "cfu" + re.sub(r"([A-Z])", lambda m: "_" + m.group(1).lower(), text[1:])
-    misfit(f"crates/capi/src: the type {text} has no place in C")
+    misfit(f"crates/capi/src or crates/c_numbers/src: the type {text} has no place in C")
     return text
 
 
@@ -196,6 +196,7 @@ def exported():
     if len(functions) != len(re.findall(r'extern "C"', text)):
         misfit("crates/capi/src: an exported function that this test does not read")
     structs = {}
+    text = re.sub(r"//[^\n]*", "", files("c_numbers/src/types.rt"))
     for c_layout, name, fields in re.findall(r"(#\[repr\(C\)\]\s+)?pub struct (C\w+) \{(.*?)\}", text, re.S):
         if not c_layout:
             misfit(f"{name}: crosses without repr(C)")
@@ -248,7 +249,7 @@ def hold(what, ours, theirs):
         if name not in ours:
             misfit(f"{what} {name}: not in the header")
         elif ours[name] != theirs[name]:
-            misfit(f"{what} {name}: the header has {ours[name]}, crates/capi/src has {theirs[name]}")
+            misfit(f"{what} {name}: the header has {ours[name]}, the source has {theirs[name]}")
     for name in ours:
         if name not in theirs:
             misfit(f"{what} {name}: only in the header")
@@ -263,7 +264,7 @@ def main():
     hold("function", functions, their_functions)
     hold("struct", structs, their_structs)
     if list(structs) != list(their_structs):
-        misfit("the structs stand in another order than in crates/capi/src/types.rt")
+        misfit("the structs stand in another order than in crates/c_numbers/src/types.rt")
     expected = expected_numbers()
     for name, places in expected.items():
         for place, number in places:

@@ -21,8 +21,9 @@ use Rattle.device.specs.Content.{contentEntry}
 use Rattle.device.specs.Entries.{setUpOf, versionEntry}
 use Rattle.device_bytes.specs.Layout.{partsBytes, deviceBytes, partsIn, deviceIn, readDevice, listIn}
 use Rattle.host_bytes.specs.Layout.{hostBytes, bodiesBytes, contentsBytes}
-use Rattle.capi.specs.Device.{setUpCall, versionsCall, offerCall, contentCall}
-use Rattle.capi.specs.Packets.{buildOfferCall, readOfferCall}
+use Rattle.c_device.specs.Device.{setUpCall, versionsCall, offerCall, contentCall}
+use Rattle.c_build.specs.Build.{buildOfferCall}
+use Rattle.c_read.specs.Read.{readOfferCall}
 use Rattle.capi.specs.Bench.{CallsHold}
 
 pub calls-hold : CallsHold

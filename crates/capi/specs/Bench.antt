@@ -13,10 +13,12 @@ use Rattle.host_record.specs.declared.record.Host.{Host}
 use Rattle.host_record.specs.declared.record.HostStage.the-variants.{Sending, Ended}
 use Rattle.host_record.specs.declared.record.End.the-variants as end
 use Rattle.host_bytes.specs.Layout.{hostBytes, contentsBytes}
-use Rattle.capi.specs.declared.types.COffer.{COffer}
-use Rattle.capi.specs.Numbers.{SERVED}
-use Rattle.capi.specs.Device.{leaves, setUpCall, offerCall, contentCall, versionsCall}
-use Rattle.capi.specs.Packets.{buildOfferCall, readOfferCall}
+use Rattle.c_numbers.specs.declared.types.COffer.{COffer}
+use Rattle.c_numbers.specs.Numbers.{SERVED}
+use Rattle.c_numbers.specs.Lent.{leaves}
+use Rattle.c_device.specs.Device.{setUpCall, offerCall, contentCall, versionsCall}
+use Rattle.c_build.specs.Build.{buildOfferCall}
+use Rattle.c_read.specs.Read.{readOfferCall}
 
 -- id, running version, region base, region length; five slots are not in use
 abbrev pub list : List ℕ

@@ -1,69 +1,15 @@
-// Building each packet from C (document 01, "Packets", row P2).
+// Building each packet from C (document 01, "Packets", row P2): the calls of c_build.
 ghost use mathlib.Core.Path.{_≡_};
-ghost use mathlib.Core.Bool.{cond};
-ghost use lib.ListN.{replicate};
-ghost use Rattle.wire.specs.Rows.{P};
-ghost use Rattle.offers.specs.Offer.{toldBuilt, buildOf};
-ghost use Rattle.capi.specs.Device.{leaves};
-ghost use Rattle.capi.specs.Packets.{buildVersionReplyCall, fieldsOf, flagsFit, buildOfferCall, buildInformationCall, buildExtendedCall, buildOfferReplyCall, buildContentCall, buildContentReplyCall};
-use crate::lent::leave;
-use crate::numbers::DATA_SIZE;
-use crate::numbers::SERVED;
-use crate::numbers::WRONG_LIST;
-use crate::numbers::packet_number;
-use crate::types::COffer;
-use contents::content::ContentFields;
-use contents::content::build_content;
-use contents::reply::ContentReply;
-use contents::reply::build_content_reply;
-use offers::offer::BuiltOffer;
-use offers::offer::OfferFields;
-use offers::offer::build_offer;
-use offers::reply::OfferReply;
-use offers::reply::build_offer_reply;
-use offers::signal::Signal;
-use offers::signal::build_extended;
-use offers::signal::build_information;
-use versions::VersionReply;
-use versions::build_version_reply;
-use versions_bytes::COMPONENTS_SIZE;
-use versions_bytes::read_components;
-use wire::address::RegionAddress;
-use wire::verdict::Verdict;
-use wire::version::Version;
-use wire::words;
-
-fn fields(o: COffer) -> OfferFields
-    ensures { λ r. ⌜ r ≡ fieldsOf o ⌝ }
-{
-    let v = o.version;
-    OfferFields {
-        segment: o.segment,
-        force_immediate_reset: o.force_immediate_reset == 1,
-        force_ignore_version: o.force_ignore_version == 1,
-        id: o.id,
-        token: o.token,
-        version: Version::new(v.major, v.minor, v.variant),
-        need: o.need,
-        least: o.least,
-        protocol: o.protocol,
-        platform: o.platform,
-    }
-}
-
-// P2 where a flag does not fit its bit, or what building the offer tells.
-fn built_offer(o: COffer) -> BuiltOffer
-    ensures { λ r. ⌜ toldBuilt r ≡ cond (flagsFit o) (buildOf (fieldsOf o)) (record { row = P 2; value = replicate 16 0 }) ⌝ }
-{
-    if (o.force_immediate_reset <= 1) & (o.force_ignore_version <= 1) {
-        build_offer(fields(o))
-    } else {
-        BuiltOffer {
-            verdict: Verdict::P2,
-            packet: [0u8; 16],
-        }
-    }
-}
+ghost use Rattle.c_numbers.specs.Lent.{leaves};
+ghost use Rattle.c_build.specs.Build.{buildVersionReplyCall, buildOfferCall, buildInformationCall, buildExtendedCall, buildOfferReplyCall, buildContentCall, buildContentReplyCall};
+use c_build::build_content_call;
+use c_build::build_content_reply_call;
+use c_build::build_extended_call;
+use c_build::build_information_call;
+use c_build::build_offer_call;
+use c_build::build_offer_reply_call;
+use c_build::build_version_reply_call;
+use c_numbers::types::COffer;
 
 #[no_mangle]
 pub extern "C" fn cfu_build_version_reply(
@@ -74,56 +20,35 @@ pub extern "C" fn cfu_build_version_reply(
 ) -> u32
     ensures { λ r. ⌜ leaves r (now (packet .exit)) ≡ buildVersionReplyCall count protocol (now (components .entry)) (now (packet .entry)) ⌝ }
 {
-    if components.len() != COMPONENTS_SIZE {
-        return WRONG_LIST;
-    }
-    let es = read_components(components);
-    let built = build_version_reply(VersionReply {
-        count,
-        protocol,
-        components: es,
-    });
-    let p = built.packet;
-    let verdict = built.verdict;
-    leave(packet, packet_number(verdict), &p)
+    build_version_reply_call(count, protocol, components, packet)
 }
 
 #[no_mangle]
 pub extern "C" fn cfu_build_offer(offer: COffer, packet: &mut [u8]) -> u32
     ensures { λ r. ⌜ leaves r (now (packet .exit)) ≡ buildOfferCall offer (now (packet .entry)) ⌝ }
 {
-    let built = built_offer(offer);
-    let p = built.packet;
-    let verdict = built.verdict;
-    leave(packet, packet_number(verdict), &p)
+    build_offer_call(offer, packet)
 }
 
 #[no_mangle]
 pub extern "C" fn cfu_build_information(code: u8, token: u8, packet: &mut [u8]) -> u32
     ensures { λ r. ⌜ leaves r (now (packet .exit)) ≡ buildInformationCall code token (now (packet .entry)) ⌝ }
 {
-    let p = build_information(Signal { code, token });
-    leave(packet, SERVED, &p)
+    build_information_call(code, token, packet)
 }
 
 #[no_mangle]
 pub extern "C" fn cfu_build_extended(code: u8, token: u8, packet: &mut [u8]) -> u32
     ensures { λ r. ⌜ leaves r (now (packet .exit)) ≡ buildExtendedCall code token (now (packet .entry)) ⌝ }
 {
-    let p = build_extended(Signal { code, token });
-    leave(packet, SERVED, &p)
+    build_extended_call(code, token, packet)
 }
 
 #[no_mangle]
 pub extern "C" fn cfu_build_offer_reply(token: u8, reason: u8, status: u8, packet: &mut [u8]) -> u32
     ensures { λ r. ⌜ leaves r (now (packet .exit)) ≡ buildOfferReplyCall token reason status (now (packet .entry)) ⌝ }
 {
-    let p = build_offer_reply(OfferReply {
-        token,
-        reason,
-        status,
-    });
-    leave(packet, SERVED, &p)
+    build_offer_reply_call(token, reason, status, packet)
 }
 
 #[no_mangle]
@@ -137,27 +62,12 @@ pub extern "C" fn cfu_build_content(
 ) -> u32
     ensures { λ r. ⌜ leaves r (now (packet .exit)) ≡ buildContentCall flags length sequence address (now (bytes .entry)) (now (packet .entry)) ⌝ }
 {
-    if bytes.len() != DATA_SIZE {
-        return WRONG_LIST;
-    }
-    let mut data = [0u8; 52];
-    words::copy(&mut data, bytes);
-    let built = build_content(ContentFields {
-        flags,
-        length,
-        sequence,
-        address: RegionAddress(address),
-        data,
-    });
-    let p = built.packet;
-    let verdict = built.verdict;
-    leave(packet, packet_number(verdict), &p)
+    build_content_call(flags, length, sequence, address, bytes, packet)
 }
 
 #[no_mangle]
 pub extern "C" fn cfu_build_content_reply(sequence: u16, status: u8, packet: &mut [u8]) -> u32
     ensures { λ r. ⌜ leaves r (now (packet .exit)) ≡ buildContentReplyCall sequence status (now (packet .entry)) ⌝ }
 {
-    let p = build_content_reply(ContentReply { sequence, status });
-    leave(packet, SERVED, &p)
+    build_content_reply_call(sequence, status, packet)
 }

@@ -1,0 +1,58 @@
+-- `build_content_call` meets its contract: the data is copied, and the built packet is left. Assumes nothing.
+use Rattle.wire.proofs.words.Copies.{copy-same}
+use lib.ListN.{length, replicate}
+use mathlib.Core.Path.{_≡_, sym, _∙_}
+use Rattle.c_build.specs.Build.{buildContentCall}
+use Rattle.c_build.proofs.Laws.{built-left}
+use borrow.Author.Tests.{eq-eqb, ne-eqb}
+use borrow.Author.Needs.{needs}
+use Rattle.c_build.proofs.build_content_call.Statement.{statement}
+use Rattle.c_build.proofs.build_content_call.Tie as tie
+
+returns : tie.Need-returns
+unfolding buildContentCall
+returns c = rw (ne-eqb _ _ (c .if1 .taken))
+
+slice-aggregate-copy : tie.Need-slice-aggregate-copy
+slice-aggregate-copy c = search needs
+
+copy-requires : tie.Need-copy-requires
+copy-requires c κs = search needs
+
+build-content-requires : tie.Need-build-content-requires
+build-content-requires c κs = search needs
+
+packet-number-requires : tie.Need-packet-number-requires
+packet-number-requires c κs = search needs
+
+slice-aggregate-leave : tie.Need-slice-aggregate-leave
+slice-aggregate-leave c = search needs
+
+leave-requires : tie.Need-leave-requires
+leave-requires c κs = search needs
+
+same-length : tie.Need-same-length
+same-length c = search needs
+
+returns-2 : tie.Need-returns-2
+unfolding buildContentCall
+returns-2 c =
+    let a = c .before .before .before .before .before .before .before .before .before .before .before .before .before .before .args in
+    let l : length (a .bytes .now) ≡ 52 = c .before .before .before .before .before .before .before .before .before .before .before .if1 .left in
+    let d = c .before .before .before .before .before .before .before .before .before .copy .ensures ∙ copy-same (replicate 52 0) (a .bytes .now) (sym l) in
+    let b = rw d at (c .before .before .before .before .before .before .before .build-content .ensures) in
+    rw (eq-eqb _ _ l) (built-left (a .packet .now) 60 (c .before .before .leave .ensures) (c .before .before .before .before .packet-number .ensures) b (search needs))
+
+pub build-content-call-spec : {M : Type 1} → statement M
+build-content-call-spec =
+    tie.close
+    (tie.spec
+    returns
+    slice-aggregate-copy
+    copy-requires
+    build-content-requires
+    packet-number-requires
+    slice-aggregate-leave
+    leave-requires
+    same-length
+    returns-2)

@@ -1,0 +1,52 @@
+-- `build_version_reply_call` meets its contract: the components are read, and the built packet is left. Assumes nothing.
+use Rattle.c_build.proofs.Laws.{built-left}
+use lib.ListN.{length}
+use mathlib.Core.Path.{_≡_}
+use Rattle.c_build.specs.Build.{buildVersionReplyCall}
+use borrow.Author.Tests.{eq-eqb, ne-eqb}
+use borrow.Author.Needs.{needs}
+use Rattle.c_build.proofs.build_version_reply_call.Statement.{statement}
+use Rattle.c_build.proofs.build_version_reply_call.Tie as tie
+
+returns : tie.Need-returns
+unfolding buildVersionReplyCall
+returns c = rw (ne-eqb _ _ (c .if1 .taken))
+
+read-components-requires : tie.Need-read-components-requires
+read-components-requires c κs = search needs
+
+build-version-reply-requires : tie.Need-build-version-reply-requires
+build-version-reply-requires c κs = search needs
+
+packet-number-requires : tie.Need-packet-number-requires
+packet-number-requires c κs = search needs
+
+slice-aggregate-leave : tie.Need-slice-aggregate-leave
+slice-aggregate-leave c = search needs
+
+leave-requires : tie.Need-leave-requires
+leave-requires c κs = search needs
+
+same-length : tie.Need-same-length
+same-length c = search needs
+
+returns-2 : tie.Need-returns-2
+unfolding buildVersionReplyCall
+returns-2 c =
+    let a = c .before .before .before .before .before .before .before .before .before .before .before .before .args in
+    let l : length (a .components .now) ≡ 49 = c .before .before .before .before .before .before .before .before .before .if1 .left in
+    let b = rw (c .before .before .before .before .before .before .before .before .read-components .ensures) at (c .before .before .before .before .before .before .before .build-version-reply .ensures) in
+    rw (eq-eqb _ _ l) (built-left (a .packet .now) 60 (c .before .before .leave .ensures) (c .before .before .before .before .packet-number .ensures) b (search needs))
+
+pub build-version-reply-call-spec : {M : Type 1} → statement M
+build-version-reply-call-spec =
+    tie.close
+    (tie.spec
+    returns
+    read-components-requires
+    build-version-reply-requires
+    packet-number-requires
+    slice-aggregate-leave
+    leave-requires
+    same-length
+    returns-2)

@@ -1,0 +1,64 @@
+-- `set_up_call` meets its contract: C1, C2, or set-up. Assumes nothing.
+use Rattle.c_device.proofs.Laws.{stored-made}
+use lib.ListN.{length}
+use mathlib.Core.Path.{_≡_, sym, _∙_}
+use Rattle.c_device.specs.Device.{setUpCall}
+use borrow.Author.Tests.{eq-eqb, ne-eqb}
+use borrow.Author.Needs.{needs}
+use Rattle.c_device.proofs.set_up_call.Statement.{statement}
+use Rattle.c_device.proofs.set_up_call.Tie as tie
+
+returns : tie.Need-returns
+unfolding setUpCall
+returns c = rw (ne-eqb _ _ (c .if1 .taken))
+
+returns-2 : tie.Need-returns-2
+unfolding setUpCall
+returns-2 c = rw (eq-eqb _ _ (c .before .if1 .left), ne-eqb _ _ (c .if2 .taken))
+
+read-list-requires : tie.Need-read-list-requires
+read-list-requires c κs = search needs
+
+set-up-requires : tie.Need-set-up-requires
+set-up-requires c κs = search needs
+
+device-bytes-requires : tie.Need-device-bytes-requires
+device-bytes-requires c κs = search needs
+
+setup-number-requires : tie.Need-setup-number-requires
+setup-number-requires c κs = search needs
+
+slice-aggregate-store : tie.Need-slice-aggregate-store
+slice-aggregate-store c = search needs
+
+store-requires : tie.Need-store-requires
+store-requires c κs = search needs
+
+same-length : tie.Need-same-length
+same-length c = search needs
+
+returns-3 : tie.Need-returns-3
+unfolding setUpCall
+returns-3 c =
+    let q = c .before .before .before .before .before .before .before .before .before .before .before .before .before .before .before .args .device .now in
+    let a = c .before .before .before .before .before .before .before .before .set-up in
+    let b = c .before .before .before .before .before .before .device-bytes in
+    let l : length q ≡ 140 = c .before .before .before .before .before .before .before .before .before .before .before .if1 .left in
+    let m : length (b .result) ≡ 140 = search needs in
+    rw (eq-eqb _ _ l, eq-eqb _ _ (c .before .before .before .before .before .before .before .before .before .before .if2 .left), ← c .before .before .before .before .before .before .before .before .before .read-list .ensures, ← a .ensures)
+    (stored-made (a .result .verdict) q (b .result) (a .result .device) (c .before .before .before .before .setup-number .result) (c .before .before .store .ensures) (l ∙ sym m) (c .before .before .before .before .setup-number .ensures) (b .ensures))
+
+pub set-up-call-spec : {M : Type 1} → statement M
+set-up-call-spec =
+    tie.close
+    (tie.spec
+    returns
+    returns-2
+    read-list-requires
+    set-up-requires
+    device-bytes-requires
+    setup-number-requires
+    slice-aggregate-store
+    store-requires
+    same-length
+    returns-3)

@@ -1,0 +1,51 @@
+-- `fresh_call` meets its contract: C1, or the fresh record. Assumes nothing.
+use Rattle.host_bytes.specs.Layout.{hostBytes}
+use Rattle.c_numbers.specs.Lent.{leaves}
+use Rattle.c_numbers.proofs.lent.Laws.{stored}
+use lib.ListN.{length}
+use mathlib.Core.Path.{_≡_, sym, ap, _∙_}
+use Rattle.c_host.specs.Host.{freshCall}
+use borrow.Author.Tests.{eq-eqb, ne-eqb}
+use borrow.Author.Needs.{needs}
+use Rattle.c_host.proofs.fresh_call.Statement.{statement}
+use Rattle.c_host.proofs.fresh_call.Tie as tie
+
+returns : tie.Need-returns
+unfolding freshCall
+returns c = rw (ne-eqb _ _ (c .if1 .taken))
+
+fresh-requires : tie.Need-fresh-requires
+fresh-requires c κs = search needs
+
+host-bytes-requires : tie.Need-host-bytes-requires
+host-bytes-requires c κs = search needs
+
+slice-aggregate-store : tie.Need-slice-aggregate-store
+slice-aggregate-store c = search needs
+
+store-requires : tie.Need-store-requires
+store-requires c κs = search needs
+
+same-length : tie.Need-same-length
+same-length c = search needs
+
+returns-2 : tie.Need-returns-2
+unfolding freshCall
+returns-2 c =
+    let q = c .before .before .before .before .before .before .before .before .before .args .host .now in
+    let b = c .before .before .before .before .before .host-bytes in
+    let l : length q ≡ 24 = c .before .before .before .before .before .before .before .if1 .left in
+    let m : length (b .result) ≡ 24 = search needs in
+    rw (eq-eqb _ _ l) (stored q (b .result) 0 (c .before .before .store .ensures) (l ∙ sym m) ∙ ap (leaves 0) (b .ensures ∙ ap hostBytes (c .before .before .before .before .before .before .fresh .ensures)))
+
+pub fresh-call-spec : {M : Type 1} → statement M
+fresh-call-spec =
+    tie.close
+    (tie.spec
+    returns
+    fresh-requires
+    host-bytes-requires
+    slice-aggregate-store
+    store-requires
+    same-length
+    returns-2)

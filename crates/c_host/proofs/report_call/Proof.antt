@@ -1,0 +1,41 @@
+-- `report_call` meets its contract: C1, or the report. Assumes nothing.
+use Rattle.c_host.specs.Host.{reportCall}
+use borrow.Author.Tests.{eq-eqb, ne-eqb}
+use borrow.Author.Needs.{needs}
+use Rattle.c_host.proofs.report_call.Statement.{statement}
+use Rattle.c_host.proofs.report_call.Tie as tie
+
+returns : tie.Need-returns
+unfolding reportCall
+returns c = rw (ne-eqb _ _ (c .if1 .taken))
+
+read-host-requires : tie.Need-read-host-requires
+read-host-requires c κs = search needs
+
+report-requires : tie.Need-report-requires
+report-requires c κs = search needs
+
+report-number-requires : tie.Need-report-number-requires
+report-number-requires c κs = search needs
+
+ending-number-requires : tie.Need-ending-number-requires
+ending-number-requires c κs = search needs
+
+ending-status-requires : tie.Need-ending-status-requires
+ending-status-requires c κs = search needs
+
+returns-2 : tie.Need-returns-2
+unfolding reportCall
+returns-2 c = rw (eq-eqb _ _ (c .before .before .before .before .before .if1 .left), ← c .before .before .before .before .read-host .ensures, ← c .before .before .before .report .ensures, c .before .before .report-number .ensures, c .before .ending-number .ensures, c .ending-status .ensures)
+
+pub report-call-spec : {M : Type 1} → statement M
+report-call-spec =
+    tie.close
+    (tie.spec
+    returns
+    read-host-requires
+    report-requires
+    report-number-requires
+    ending-number-requires
+    ending-status-requires
+    returns-2)

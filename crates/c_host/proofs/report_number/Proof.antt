@@ -1,0 +1,17 @@
+-- `report_number` meets its contract: the test, and each answer. Assumes nothing.
+use borrow.Author.Tests.{le-leb, lt-leb}
+use borrow.Author.Needs.{needs}
+use Rattle.c_host.proofs.report_number.Statement.{statement}
+use Rattle.c_host.proofs.report_number.Tie as tie
+
+add-result : tie.Need-add-result
+add-result c = search needs
+
+returns : tie.Need-returns
+returns c = rw (le-leb _ _ (c .if1 .taken))
+
+returns-2 : tie.Need-returns-2
+returns-2 c = rw (lt-leb _ _ (c .if1 .left))
+
+pub report-number-spec : {M : Type 1} → statement M
+report-number-spec = tie.close (tie.spec add-result returns returns-2)

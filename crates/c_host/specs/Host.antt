@@ -1,0 +1,118 @@
+-- The bundle's and the host's calls from C: what each answers and leaves in each lent buffer. A refused call leaves the record as it is.
+use Prim.Native.Nat.{ℕ}
+use mathlib.Core.Bool.{cond, _&&_}
+use mathlib.Core.List.{List, flatten}
+use lib.Dec.{leb}
+use lib.ListN.{length}
+use Rattle.layout.specs.Layout.{OFFER-LIMIT}
+use Rattle.bundle.specs.Contents.{Contents, checkOf}
+use Rattle.host_record.specs.declared.record.Host.{Host}
+use Rattle.host_record.specs.Record.{Reported, reportOf, freshHost}
+use Rattle.make.specs.Answer.{Row, served, B}
+use Rattle.host.specs.Step.{stepOf}
+use Rattle.make.specs.Answer.{N, Step}
+use Rattle.host_record.specs.Fits.{PACKET-LIMIT}
+use Rattle.host.specs.Inner.{innerOf}
+use Rattle.host_bytes.specs.Layout.{HOST-SIZE, CONTENTS-SIZE, hostBytes, readHost, lostHost, contentsBytes, contentsIn, cursorIn, withCursor}
+use Rattle.c_numbers.specs.declared.types.CCheck.{CCheck}
+use Rattle.c_numbers.specs.declared.types.CStep.{CStep}
+use Rattle.c_numbers.specs.declared.types.CReport.{CReport}
+use Rattle.c_numbers.specs.Numbers.{SERVED, WRONG-RECORD, WRONG-OUTPUT, bundleNumber, stepNumber, stepEntry, endingNumber, endingStatus, sized}
+use Rattle.c_numbers.specs.Lent.{Left, leaves}
+
+-- the size of a buffer for a packet of the host
+abbrev pub PACKET-SIZE : ℕ
+PACKET-SIZE = 60
+
+-- what the check leaves: the contents, with the cursor at 0
+pub record CheckLeft : Type 0 where
+  pub check : CCheck
+  pub contents : List ℕ
+
+abbrev pub toldCheck : CCheck → (contents : List ℕ) → CheckLeft
+toldCheck check contents = record { check = check; contents = contents }
+
+abbrev pub checkBy : Contents → CheckLeft
+checkBy c = record {
+  check = record { number = bundleNumber (c .row); entry = c .place; count = c .count };
+  contents = contentsBytes c 0;
+}
+
+unfoldable pub checkCall : (bundle contents : List ℕ) → CheckLeft
+checkCall bundle contents =
+    sized contents CONTENTS-SIZE (record { check = record { number = WRONG-OUTPUT; entry = 0; count = 0 }; contents = contents })
+    (checkBy (checkOf bundle))
+
+-- a fresh host, and the record that it leaves
+unfoldable pub freshCall : (host : List ℕ) → (token : ℕ) → Left
+freshCall host token = sized host HOST-SIZE (leaves WRONG-RECORD host) (leaves SERVED (hostBytes (freshHost token)))
+
+-- the record after a step: the next where it is served, and as it was where a row refuses
+abbrev pub keptBy : Row → (before after : List ℕ) → List ℕ
+keptBy served before after = after
+keptBy (B k entry) before after = before
+keptBy (N k) before after = before
+
+-- what a step leaves: the record, and the packet, zeros behind what is sent
+pub record StepLeft : Type 0 where
+  pub step : CStep
+  pub host : List ℕ
+  pub packet : List ℕ
+
+abbrev pub toldStep : CStep → (host packet : List ℕ) → StepLeft
+toldStep step host packet = record { step = step; host = host; packet = packet }
+
+abbrev pub refusedStep : (number : ℕ) → (host packet : List ℕ) → StepLeft
+refusedStep number host packet = record { step = record { number = number; entry = 0; length = 0 }; host = host; packet = packet }
+
+abbrev pub stepBy : (host : List ℕ) → Step → StepLeft
+stepBy host s = record {
+  step = record { number = stepNumber (s .row); entry = stepEntry (s .row); length = length (flatten (s .sent)) };
+  host = keptBy (s .row) host (hostBytes (s .host));
+  packet = s .packet;
+}
+
+unfoldable pub stepCall : (host bundle reply packet : List ℕ) → StepLeft
+stepCall host bundle reply packet =
+    sized host HOST-SIZE (refusedStep WRONG-RECORD host packet)
+    (sized packet PACKET-SIZE (refusedStep WRONG-OUTPUT host packet)
+    (stepBy host (stepOf bundle (readHost host) reply)))
+
+-- the host whose step it is: contents whose count is not 1 to 7 are no accepted bundle's, and every step over them is N1
+abbrev pub hostOver : (contents host : List ℕ) → Host
+hostOver contents host =
+    cond (leb 1 (contentsIn contents .count) && leb (contentsIn contents .count) OFFER-LIMIT) (readHost host) lostHost
+
+-- the step over contents that the check left
+unfoldable pub stepCheckedCall : (host contents bundle reply packet : List ℕ) → StepLeft
+stepCheckedCall host contents bundle reply packet =
+    sized host HOST-SIZE (refusedStep WRONG-RECORD host packet)
+    (sized contents CONTENTS-SIZE (refusedStep WRONG-RECORD host packet)
+    (sized packet PACKET-SIZE (refusedStep WRONG-OUTPUT host packet)
+    (stepBy host (innerOf bundle (contentsIn contents) (cursorIn contents) (hostOver contents host) reply .step))))
+
+-- the contents after it: the same, with the cursor that the inner step leaves
+unfoldable pub stepCheckedContents : (host contents bundle reply packet : List ℕ) → List ℕ
+stepCheckedContents host contents bundle reply packet =
+    sized host HOST-SIZE contents
+    (sized contents CONTENTS-SIZE contents
+    (sized packet PACKET-SIZE contents
+    (withCursor contents (innerOf bundle (contentsIn contents) (cursorIn contents) (hostOver contents host) reply .cursor))))
+
+-- the report; a record that counts 2^31 packets or more is N1 over every bundle, and so here
+abbrev pub reportBy : Reported → CReport
+reportBy r = record {
+  number = cond (leb PACKET-LIMIT (r .packets)) (stepNumber (N 1)) SERVED;
+  completed = r .completed;
+  mask = r .mask;
+  packets = r .packets;
+  passes = r .passes;
+  ending = endingNumber (r .ending);
+  status = endingStatus (r .ending);
+}
+
+abbrev pub wrongReport : CReport
+wrongReport = record { number = WRONG-RECORD; completed = 0; mask = 0; packets = 0; passes = 0; ending = 0; status = 0 }
+
+unfoldable pub reportCall : (host : List ℕ) → CReport
+reportCall host = sized host HOST-SIZE wrongReport (reportBy (reportOf (readHost host)))

@@ -1,0 +1,19 @@
+-- `read_offer_call` meets its contract: the packet that is read, in numbers. Assumes nothing.
+use Rattle.c_read.specs.Read.{readOfferCall}
+use borrow.Author.Needs.{needs}
+use Rattle.c_read.proofs.read_offer_call.Statement.{statement}
+use Rattle.c_read.proofs.read_offer_call.Tie as tie
+
+read-offer-packet-requires : tie.Need-read-offer-packet-requires
+read-offer-packet-requires c κs = search needs
+
+packet-fields-requires : tie.Need-packet-fields-requires
+packet-fields-requires c κs = search needs
+
+returns : tie.Need-returns
+unfolding readOfferCall
+returns c = rw (← c .before .read-offer-packet .ensures) (c .packet-fields .ensures)
+
+pub read-offer-call-spec : {M : Type 1} → statement M
+read-offer-call-spec =
+    tie.close (tie.spec read-offer-packet-requires packet-fields-requires returns)

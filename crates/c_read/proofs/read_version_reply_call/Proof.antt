@@ -1,0 +1,54 @@
+-- `read_version_reply_call` meets its contract: the fields, and the components that are left. Assumes nothing.
+use Rattle.wire.proofs.words.Copies.{copy-same}
+use lib.ListN.{length}
+use mathlib.Core.Path.{_≡_, sym, _∙_}
+use Rattle.c_read.specs.Read.{readVersionReplyCall}
+use borrow.Author.Tests.{eq-eqb, ne-eqb}
+use borrow.Author.Needs.{needs}
+use Rattle.c_read.proofs.read_version_reply_call.Statement.{statement}
+use Rattle.c_read.proofs.read_version_reply_call.Tie as tie
+
+returns : tie.Need-returns
+unfolding readVersionReplyCall
+returns c = rw (ne-eqb _ _ (c .if1 .taken))
+
+read-version-reply-requires : tie.Need-read-version-reply-requires
+read-version-reply-requires c κs = search needs
+
+components-bytes-requires : tie.Need-components-bytes-requires
+components-bytes-requires c κs = search needs
+
+slice-aggregate-copy : tie.Need-slice-aggregate-copy
+slice-aggregate-copy c = search needs
+
+copy-requires : tie.Need-copy-requires
+copy-requires c κs = search needs
+
+packet-number-requires : tie.Need-packet-number-requires
+packet-number-requires c κs = search needs
+
+same-length : tie.Need-same-length
+same-length c = search needs
+
+returns-2 : tie.Need-returns-2
+unfolding readVersionReplyCall
+returns-2 c =
+    let q = c .before .before .before .before .before .before .before .before .before .before .before .before .before .args .components .now in
+    let s = c .before .before .before .before .before .before .components-bytes .result in
+    let l : length q ≡ 49 = c .before .before .before .before .before .before .before .before .before .before .if1 .left in
+    let m : length s ≡ 49 = search needs in
+    let d = c .before .before .before .copy .ensures ∙ copy-same q s (l ∙ sym m) ∙ c .before .before .before .before .before .before .components-bytes .ensures in
+    rw (eq-eqb _ _ l, ← c .before .before .before .before .before .before .before .before .before .read-version-reply .ensures, c .packet-number .ensures, d)
+
+pub read-version-reply-call-spec : {M : Type 1} → statement M
+read-version-reply-call-spec =
+    tie.close
+    (tie.spec
+    returns
+    read-version-reply-requires
+    components-bytes-requires
+    slice-aggregate-copy
+    copy-requires
+    packet-number-requires
+    same-length
+    returns-2)

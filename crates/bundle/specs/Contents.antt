@@ -49,10 +49,7 @@ checkOf b = contentsBy (bundleRow b) b
 abbrev pub toldChecked : Checked → Contents
 toldChecked c = record { row = rowOf (c .verdict) (c .place); place = c .place; count = c .count; table = c .table }
 
--- the offers of a bundle, with their bodies and the records of each
-abbrev pub offersOf : List ℕ → List (List ℕ)
-offersOf b = map offerIn (entriesIn b)
-
+-- the bodies of a bundle
 abbrev pub bodiesOf : List ℕ → List (List ℕ)
 bodiesOf b = map (bodyIn b) (entriesIn b)
 

@@ -115,8 +115,6 @@ def expected_numbers():
     lent = spec_constants(*LENT)
     for name in ("DEVICE_SIZE", "LIST_SIZE", "HOST_SIZE", "CONTENTS_SIZE", "REPLIES_SIZE", "SHORT_SIZE", "LONG_SIZE", "DATA_SIZE", "COMPONENTS_SIZE", "SERVED"):
         say(name, "specs", lent[name])
-    for name in ("VERSIONS_SIZE", "PACKET_SIZE"):
-        say("LONG_SIZE", f"specs, {name}", lent[name])
     own = {"C1": "WRONG_RECORD", "C2": "WRONG_LIST", "C3": "WRONG_OUTPUT"}
     for name, theirs in own.items():
         say(name, f"specs, {theirs}", lent[theirs])
@@ -134,7 +132,7 @@ def expected_numbers():
         for name, number in read("wire").items():
             if not name.startswith("KIND_") and not name.endswith("BITS"):
                 say(name, f"wire, {place}", number)
-    aliases = {theirs: name for name, theirs in own.items()} | {"PACKET_SIZE": "LONG_SIZE"}
+    aliases = {theirs: name for name, theirs in own.items()}
     for name, number in source_constants(*LENT).items():
         name = aliases.get(name, name)
         letter = re.fullmatch(r"ROW_([A-Z])", name)

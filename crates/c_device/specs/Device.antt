@@ -11,14 +11,11 @@ use Rattle.device.specs.Content.{contentEntry, contentStaging}
 use Rattle.device_bytes.specs.Layout.{DEVICE-SIZE, LIST-SIZE, deviceBytes, readDevice, listIn}
 use Rattle.c_numbers.specs.declared.types.CReplies.{CReplies}
 use Rattle.c_numbers.specs.Numbers.{WRONG-RECORD, WRONG-LIST, WRONG-OUTPUT, setupNumber, deviceNumber, sized, filledTo}
-use Rattle.c_numbers.specs.Lent.{Left, leaves}
+use Rattle.c_numbers.specs.Lent.{LONG-SIZE, Left, leaves}
 
 -- the size of a buffer for replies: two of 16 bytes
 abbrev pub REPLIES-SIZE : ℕ
 REPLIES-SIZE = 32
-
-abbrev pub VERSIONS-SIZE : ℕ
-VERSIONS-SIZE = 60
 
 -- the record after a call: the next where it is served, and as it was where a row refuses
 abbrev pub keptBy : Row → (before after : List ℕ) → List ℕ
@@ -41,7 +38,7 @@ setUpCall device platform list count n =
 unfoldable pub versionsCall : (device packet : List ℕ) → Left
 versionsCall device packet =
     sized device DEVICE-SIZE (leaves WRONG-RECORD packet)
-    (sized packet VERSIONS-SIZE (leaves WRONG-OUTPUT packet)
+    (sized packet LONG-SIZE (leaves WRONG-OUTPUT packet)
     (leaves (deviceNumber (versionEntry (readDevice device) .row)) (versionEntry (readDevice device) .packet)))
 
 -- the reset, and the record that it leaves

@@ -18,11 +18,7 @@ use Rattle.c_numbers.specs.declared.types.CCheck.{CCheck}
 use Rattle.c_numbers.specs.declared.types.CStep.{CStep}
 use Rattle.c_numbers.specs.declared.types.CReport.{CReport}
 use Rattle.c_numbers.specs.Numbers.{SERVED, WRONG-RECORD, WRONG-OUTPUT, bundleNumber, stepNumber, stepEntry, endingNumber, endingStatus, sized}
-use Rattle.c_numbers.specs.Lent.{Left, leaves}
-
--- the size of a buffer for a packet of the host
-abbrev pub PACKET-SIZE : ℕ
-PACKET-SIZE = 60
+use Rattle.c_numbers.specs.Lent.{LONG-SIZE, Left, leaves}
 
 -- what the check leaves: the contents, with the cursor at 0
 pub record CheckLeft : Type 0 where
@@ -75,7 +71,7 @@ stepBy host s = record {
 unfoldable pub stepCall : (host bundle reply packet : List ℕ) → StepLeft
 stepCall host bundle reply packet =
     sized host HOST-SIZE (refusedStep WRONG-RECORD host packet)
-    (sized packet PACKET-SIZE (refusedStep WRONG-OUTPUT host packet)
+    (sized packet LONG-SIZE (refusedStep WRONG-OUTPUT host packet)
     (stepBy host (stepOf bundle (readHost host) reply)))
 
 -- the host whose step it is: contents whose count is not 1 to 7 are no accepted bundle's, and every step over them is N1
@@ -88,7 +84,7 @@ unfoldable pub stepCheckedCall : (host contents bundle reply packet : List ℕ) 
 stepCheckedCall host contents bundle reply packet =
     sized host HOST-SIZE (refusedStep WRONG-RECORD host packet)
     (sized contents CONTENTS-SIZE (refusedStep WRONG-RECORD host packet)
-    (sized packet PACKET-SIZE (refusedStep WRONG-OUTPUT host packet)
+    (sized packet LONG-SIZE (refusedStep WRONG-OUTPUT host packet)
     (stepBy host (innerOf bundle (contentsIn contents) (cursorIn contents) (hostOver contents host) reply .step))))
 
 -- the contents after it: the same, with the cursor that the inner step leaves
@@ -96,7 +92,7 @@ unfoldable pub stepCheckedContents : (host contents bundle reply packet : List �
 stepCheckedContents host contents bundle reply packet =
     sized host HOST-SIZE contents
     (sized contents CONTENTS-SIZE contents
-    (sized packet PACKET-SIZE contents
+    (sized packet LONG-SIZE contents
     (withCursor contents (innerOf bundle (contentsIn contents) (cursorIn contents) (hostOver contents host) reply .cursor))))
 
 -- the report; a record that counts 2^31 packets or more is N1 over every bundle, and so here

@@ -12,11 +12,11 @@ ghost use Rattle.host_record.specs.Fits.{PACKET-LIMIT};
 ghost use Rattle.make.specs.Answer.{told};
 ghost use Rattle.host_bytes.specs.Layout.{HOST-SIZE, readHost, lostHost};
 ghost use Rattle.c_numbers.specs.Numbers.{SERVED, stepNumber};
-ghost use Rattle.c_numbers.specs.Lent.{leaves};
-ghost use Rattle.c_host.specs.Host.{PACKET-SIZE, toldCheck, checkCall, freshCall, toldStep, refusedStep, stepBy, stepCall, stepCheckedCall, stepCheckedContents, reportCall};
+ghost use Rattle.c_numbers.specs.Lent.{LONG-SIZE, leaves};
+ghost use Rattle.c_host.specs.Host.{toldCheck, checkCall, freshCall, toldStep, refusedStep, stepBy, stepCall, stepCheckedCall, stepCheckedContents, reportCall};
 use bundle::check;
 use c_numbers::lent::store;
-use c_numbers::numbers::PACKET_SIZE;
+use c_numbers::numbers::LONG_SIZE;
 use c_numbers::numbers::ROW_N;
 use c_numbers::numbers::SERVED;
 use c_numbers::numbers::WRONG_OUTPUT;
@@ -104,7 +104,7 @@ fn length_of(sent: Sent, packet: [u8; 60]) -> u32
 
 // What a step leaves.
 fn stepped(s: StepAnswer, host: &mut [u8], packet: &mut [u8]) -> CStep
-    requires { ⌜ (length (now host) ≡ HOST-SIZE) × (length (now packet) ≡ PACKET-SIZE) ⌝ }
+    requires { ⌜ (length (now host) ≡ HOST-SIZE) × (length (now packet) ≡ LONG-SIZE) ⌝ }
     ensures { λ r. ⌜ toldStep r (now (host .exit)) (now (packet .exit)) ≡ stepBy (now (host .entry)) (told s) ⌝ }
 {
     let refusal = s.refusal;
@@ -126,7 +126,7 @@ pub fn step_call(host: &mut [u8], bundle: &[u8], reply: &[u8], packet: &mut [u8]
     if host.len() != HOST_SIZE {
         return refused(WRONG_RECORD);
     }
-    if packet.len() != PACKET_SIZE {
+    if packet.len() != LONG_SIZE {
         return refused(WRONG_OUTPUT);
     }
     let h = read_host(host);
@@ -162,7 +162,7 @@ pub fn step_checked_call(
     if contents.len() != CONTENTS_SIZE {
         return refused(WRONG_RECORD);
     }
-    if packet.len() != PACKET_SIZE {
+    if packet.len() != LONG_SIZE {
         return refused(WRONG_OUTPUT);
     }
     let c = read_contents(contents);

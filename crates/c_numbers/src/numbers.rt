@@ -61,8 +61,8 @@ pub const DATA_SIZE: usize = 52;
 // The replies of the device: two of 16 bytes.
 pub const REPLIES_SIZE: usize = 32;
 
-// A packet of the host.
-pub const PACKET_SIZE: usize = 60;
+// A content packet or a version reply, and a buffer for any packet of the host.
+pub const LONG_SIZE: usize = 60;
 
 // The number of each verdict.
 pub fn packet_number(v: Verdict) -> u32

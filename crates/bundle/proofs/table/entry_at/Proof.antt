@@ -1,9 +1,9 @@
+-- `table::entry_at`: the part from the entry's place. Assumes nothing.
 use mathlib.Core.Path.{_≡_}
 use Prim.Native.Nat.{_+_, _-_}
 use native.Mathlib.Omega.{arith}
 use Rattle.layout.specs.Layout.{ENTRY}
 use Rattle.bundle.proofs.table.Laws.{length-entry}
--- `table::entry_at`: the part from the entry's place. Assumes nothing.
 use borrow.Author.Needs.{needs}
 use Rattle.bundle.proofs.table.entry_at.Statement.{statement}
 use Rattle.bundle.proofs.table.entry_at.Tie as tie

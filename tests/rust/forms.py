@@ -108,9 +108,9 @@ MADE = {
     'src/low/mod.rs': ['//! The low room: \\[brackets\\] and \\<signs\\> in words, `a[0]` as code.\npub mod part; // part.rt: a module\n',
                        '/// A pair.\n#[repr(C)]\n#[derive(Clone, Copy, Debug, PartialEq, Eq)]\npub struct Pair {\n    /// The left one.\n',
                        '#[derive(Debug, PartialEq, Eq)]\npub struct Lent', '    /// Nothing.\n    Nothing,\n'],
-    'src/low/part.rs': ['use crate::low::Pair;\n\n/// For C.\npub fn next(a: u16) -> u16 {\n    u16::wrapping_add(a, 1)\n}\n',
-                        'pub(in crate::low) fn before(a: u8) -> u8 {\n    u8::wrapping_sub(a, b', '    // Not documentation.\n',
-                        '    /// The left one, whatever b is.\n    #[allow(unused_variables)] // only the contract names b\n    pub fn left_of(self, b'],
+    'src/low/part.rs': ['use crate::low::Pair;\n\n/// For C.\n#[inline]\npub fn next(a: u16) -> u16 {\n    u16::wrapping_add(a, 1)\n}\n',
+                        '#[inline]\npub(in crate::low) fn before(a: u8) -> u8 {\n    u8::wrapping_sub(a, b', '    // Not documentation.\n',
+                        '    /// The left one, whatever b is.\n    #[inline]\n    #[allow(unused_variables)] // only the contract names b\n    pub fn left_of(self, b'],
     'src/high/mod.rs': ['use crate::low::Pair;\nuse crate::low::part as below;\n', '= crate::low::part::next(p.left);\n    part::kept(left) + below::next('],
 }
 

@@ -8,8 +8,8 @@ use cfu_updater::decide::{Action, Move};
 use cfu_updater::device::setup::set_up;
 use cfu_updater::host::inner::inner_step;
 use cfu_updater::host::step::step;
-use cfu_updater::host_bytes::{contents_bytes, read_contents, read_cursor};
-use cfu_updater::host_record::fits::is_last;
+use cfu_updater::host_bytes::{contents_bytes, read_body, read_cursor};
+use cfu_updater::host_record::fits::{body_at, is_last};
 use cfu_updater::host_record::record::{End, Host, HostStage, Place};
 use cfu_updater::host_record::report::Progress;
 use cfu_updater::image::region::{Region, StagingOffset};
@@ -171,7 +171,7 @@ fn blocks_past_32_bits() {
             entry: 0,
             block: 0xFFFFFFFF,
         };
-        assert!(!is_last(c, place), "{records}");
+        assert!(!is_last(records, place), "{records}");
     }
 }
 
@@ -185,7 +185,7 @@ fn offers_past_32_bits() {
             action: Action::Offer(entry),
             host: sending(0, 0),
         };
-        let a = made(&b, c, 9, h, m);
+        let a = made(&b, body_at(c.table, entry), 9, h, m);
         if entry == 2 {
             // The table ends, but the bytes go on.
             assert_eq!((a.step.refusal, a.step.sent), (StepRefusal::Served, Sent::Offer));
@@ -204,10 +204,10 @@ fn ends_past_32_bits() {
         action: Action::Block(Place { entry: 0, block: 1 }),
         host: h,
     };
-    let a = made(&b, moved(56, 74, 2), 113, h, m);
+    let a = made(&b, body_at(moved(56, 74, 2).table, 0), 113, h, m);
     assert_eq!((a.step.refusal, a.step.sent, a.cursor), (StepRefusal::Served, Sent::Content, 130));
     for (offset, length) in [(0xFFFFFFFF, 131), (131, 0xFFFFFFFF), (0xFFFFFFFF, 0xFFFFFFFF)] {
-        let a = made(&b, moved(offset, length, 2), 113, h, m);
+        let a = made(&b, body_at(moved(offset, length, 2).table, 0), 113, h, m);
         n1(a.step, h);
         assert_eq!(a.cursor, 113);
     }
@@ -223,8 +223,8 @@ fn numbers_in_bytes() {
     for cursor in [0, 130, 65536, 0xFFFFFFFF] {
         let q = contents_bytes(c, cursor);
         assert_eq!(read_cursor(&q), cursor);
-        let e = read_contents(&q).table[0];
-        assert_eq!((e.offset, e.length, e.records), (0xFFFFFFFF, 0xFFFFFFFF, 0xFFFFFFFF));
+        let body = read_body(&q, 0);
+        assert_eq!((body.start, body.end, body.records), (0xFFFFFFFF, 0x1_FFFF_FFFE, 0xFFFFFFFF));
     }
     assert_eq!((word16_at(&[1, 2], 1), word16_at(&[1, 2], 0xFFFF)), (2, 0));
     assert_eq!((word32_at(&[1, 2, 3, 4], 2), word32_at(&[1, 2, 3, 4], 0xFFFF)), (0x0403, 0));

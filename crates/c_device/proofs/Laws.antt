@@ -1,5 +1,5 @@
 -- The replies of an answer, one after the other, and the record that a call leaves. Assumes nothing.
-use mathlib.Core.Path.{_≡_, refl, sym, ap, _∙_}
+use mathlib.Core.Path.{_≡_, refl, sym, ap, subst, _∙_}
 use mathlib.Core.Bool.{cond}
 use mathlib.Core.List.{List, [], _∷_, _++_, flatten, append-nil}
 use Prim.Native.Nat.{ℕ, _-_}
@@ -12,13 +12,15 @@ use Rattle.wire.proofs.Pieces.{put-more}
 use Rattle.component.specs.Setup as setup
 use Rattle.component.specs.declared.setup.SetupVerdict.{SetupVerdict}
 use Rattle.component.specs.declared.setup.SetupVerdict.the-variants.{Fine, S1, S2, S3, S4}
-use Rattle.device.specs.Refusals.{rowOf}
+use Rattle.device.specs.Refusals.{rowOf, Outcome}
 use Rattle.device.specs.declared.answer.Refusal.{Refusal}
 use Rattle.device.specs.declared.answer.Refusal.the-variants.{Served, D1, D2, D3}
 use Rattle.device.specs.declared.record.Device.{Device}
 use Rattle.device_bytes.specs.Layout.{deviceBytes}
+use Rattle.c_numbers.specs.declared.types.CReplies.{CReplies}
 use Rattle.c_numbers.specs.Numbers.{setupNumber, deviceNumber, filledTo}
-use Rattle.c_device.specs.Device.{REPLIES-SIZE, keptBy, madeBy}
+use Rattle.in_place.specs.InPlace.{keptBy, leftBy}
+use Rattle.c_device.specs.Device.{REPLIES-SIZE, madeBy, toldReplies, repliedBy}
 use Rattle.c_numbers.specs.Lent.{Left, leaves}
 use Rattle.c_numbers.proofs.lent.Laws.{stored}
 
@@ -78,3 +80,7 @@ pub stored-made : {l : Left} (v : SetupVerdict) (lent b : List ℕ) (d : Device)
 stored-made v lent b d n e h f g =
     stored lent b n e h ∙ ap (λ (t : List ℕ). leaves n (cond (eqb n 0) t lent)) g ∙ ap (leaves n) (made-by v lent d f)
     ∙ ap (λ (m : ℕ). leaves m (madeBy (setup.rowOf v) lent d)) f
+
+-- what an outcome leaves, told by another that is the same
+pub answers : (r : CReplies) (device replies : List ℕ) {x y : Outcome} → x ≡ y → toldReplies r (leftBy device x) replies ≡ repliedBy device x → toldReplies r (leftBy device y) replies ≡ repliedBy device y
+answers r device replies e h = subst (λ (o : Outcome). toldReplies r (leftBy device o) replies ≡ repliedBy device o) e h

@@ -4,10 +4,11 @@ use mathlib.Core.List.{List, flatten}
 use lib.ListN.{length}
 use Rattle.component.specs.Setup as setup
 use Rattle.device.specs.declared.record.Device.{Device}
-use Rattle.device.specs.Refusals.{Row, served, D, Outcome}
+use Rattle.device.specs.Refusals.{Outcome}
 use Rattle.device.specs.Entries.{setUpOf, versionEntry, Reset, resetEntry}
 use Rattle.device.specs.Offer.{offerEntry}
 use Rattle.device.specs.Content.{contentEntry, contentStaging}
+use Rattle.in_place.specs.InPlace.{keptBy}
 use Rattle.device_bytes.specs.Layout.{DEVICE-SIZE, LIST-SIZE, deviceBytes, readDevice, listIn}
 use Rattle.c_numbers.specs.declared.types.CReplies.{CReplies}
 use Rattle.c_numbers.specs.Numbers.{WRONG-RECORD, WRONG-LIST, WRONG-OUTPUT, setupNumber, deviceNumber, sized, filledTo}
@@ -16,11 +17,6 @@ use Rattle.c_numbers.specs.Lent.{LONG-SIZE, Left, leaves}
 -- the size of a buffer for replies: two of 16 bytes
 abbrev pub REPLIES-SIZE : ℕ
 REPLIES-SIZE = 32
-
--- the record after a call: the next where it is served, and as it was where a row refuses
-abbrev pub keptBy : Row → (before after : List ℕ) → List ℕ
-keptBy served before after = after
-keptBy (D k) before after = before
 
 -- set-up, with a staging buffer of n bytes
 abbrev pub madeBy : setup.Row → (before : List ℕ) → Device → List ℕ

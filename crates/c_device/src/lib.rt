@@ -1,9 +1,11 @@
 // The device's calls from C (document 01, "The device", rows S, D and C). The record is lent bytes; where a row refuses, it stays as it is.
 ghost use mathlib.Core.Path.{_≡_};
-ghost use mathlib.Core.List.{_++_, flatten};
+ghost use mathlib.Core.List.{List, _++_, flatten};
+ghost use Prim.Native.Nat.{ℕ};
 ghost use lib.ListN.{length};
-ghost use Rattle.device.specs.Refusals.{readyBytes, readySent, dueSent, told};
-ghost use Rattle.device_bytes.specs.Layout.{DEVICE-SIZE};
+ghost use Rattle.device.specs.Refusals.{readyBytes, readySent, dueSent};
+ghost use Rattle.device.specs.declared.record.Device.{Device};
+ghost use Rattle.in_place.specs.InPlace.{outcomeOf, leftBy};
 ghost use Rattle.c_numbers.specs.Numbers.{filledTo};
 ghost use Rattle.c_device.specs.Device.{REPLIES-SIZE, toldReplies, repliedBy, setUpCall, versionsCall, resetCall, offerCall, contentCall, contentCallStaging};
 ghost use Rattle.c_numbers.specs.Lent.{leaves};
@@ -16,13 +18,15 @@ use c_numbers::numbers::WRONG_RECORD;
 use c_numbers::numbers::device_number;
 use c_numbers::numbers::setup_number;
 use c_numbers::types::CReplies;
-use device::answer::Answer;
 use device::setup::set_up;
 use device_bytes::DEVICE_SIZE;
 use device_bytes::LIST_SIZE;
 use device_bytes::device_bytes;
 use device_bytes::read_device;
 use device_bytes::read_list;
+use in_place::Reply;
+use in_place::content::content_in_place;
+use in_place::offer::offer_in_place;
 use offers::reply::OfferReply;
 use offers::reply::build_offer_reply;
 use session::owed::Owed;
@@ -77,20 +81,18 @@ fn count_of(due: bool, reply: [u8; 16], ready: Owed) -> u32
     }
 }
 
-// What an answer leaves.
-fn answered(a: Answer, device: &mut [u8], replies: &mut [u8]) -> CReplies
-    requires { ⌜ (length (now device) ≡ DEVICE-SIZE) × (length (now replies) ≡ REPLIES-SIZE) ⌝ }
-    ensures { λ r. ⌜ toldReplies r (now (device .exit)) (now (replies .exit)) ≡ repliedBy (now (device .entry)) (told a) ⌝ }
+// What an answer leaves; the record is left already.
+fn answered(a: Reply, replies: &mut [u8]) -> CReplies
+    requires { ⌜ length (now replies) ≡ REPLIES-SIZE ⌝ }
+    ensures { λ r. ⌜ ((device : List ℕ) → (d : Device) → toldReplies r (leftBy device (outcomeOf a d)) (now (replies .exit)) ≡ repliedBy device (outcomeOf a d)) ⌝ }
 {
     let refusal = a.refusal;
     let reply = a.reply;
     let ready = a.ready;
-    let d = a.device;
     let out = replies_of(a.due, reply, ready);
     words::copy(replies, &out);
-    let b = device_bytes(d);
     CReplies {
-        number: store(device, device_number(refusal), &b),
+        number: device_number(refusal),
         count: count_of(a.due, reply, ready),
     }
 }
@@ -142,9 +144,8 @@ pub fn offer_call(device: &mut [u8], staging: &[u8], report: &[u8], replies: &mu
             count: 0,
         };
     }
-    let d = read_device(device);
-    let a = d.offer(staging, report);
-    answered(a, device, replies)
+    let a = offer_in_place(device, staging, report);
+    answered(a, replies)
 }
 
 pub fn content_call(
@@ -168,9 +169,8 @@ pub fn content_call(
             count: 0,
         };
     }
-    let d = read_device(device);
-    let a = d.content(staging, report);
-    answered(a, device, replies)
+    let a = content_in_place(device, staging, report);
+    answered(a, replies)
 }
 
 pub fn reset_call(device: &mut [u8]) -> u32

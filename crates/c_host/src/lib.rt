@@ -5,12 +5,13 @@ ghost use mathlib.Core.Bool.{cond, _&&_};
 ghost use mathlib.Core.List.{List, flatten};
 ghost use Prim.Native.Nat.{ℕ};
 ghost use lib.Dec.{leb};
-ghost use lib.ListN.{length};
+ghost use lib.ListN.{length, replicate};
 ghost use Rattle.layout.specs.Layout.{OFFER-LIMIT};
 ghost use Rattle.make.specs.Answer.{N, sentBy};
 ghost use Rattle.host_record.specs.Fits.{PACKET-LIMIT};
 ghost use Rattle.make.specs.Answer.{told};
-ghost use Rattle.host_bytes.specs.Layout.{HOST-SIZE, readHost, lostHost};
+ghost use Rattle.make.specs.Made.{madeOf};
+ghost use Rattle.host_bytes.specs.Layout.{HOST-SIZE, CONTENTS-SIZE, readHost, lostHost, contentsIn, cursorIn, withCursor};
 ghost use Rattle.c_numbers.specs.Numbers.{SERVED, stepNumber};
 ghost use Rattle.c_numbers.specs.Lent.{LONG-SIZE, leaves};
 ghost use Rattle.c_host.specs.Host.{toldCheck, checkCall, freshCall, toldStep, refusedStep, stepBy, stepCall, stepCheckedCall, stepCheckedContents, reportCall};
@@ -29,7 +30,10 @@ use c_numbers::numbers::step_number;
 use c_numbers::types::CCheck;
 use c_numbers::types::CReport;
 use c_numbers::types::CStep;
-use host::inner::inner_step;
+use decide::Decided;
+use decide::Move;
+use decide::decision;
+use decide::entry_of;
 use host::step::step;
 use host_bytes::CONTENTS_SIZE;
 use host_bytes::CURSOR_START;
@@ -37,12 +41,14 @@ use host_bytes::HOST_SIZE;
 use host_bytes::contents_bytes;
 use host_bytes::host_bytes;
 use host_bytes::lost_host;
-use host_bytes::read_contents;
+use host_bytes::read_body;
 use host_bytes::read_cursor;
 use host_bytes::read_host;
+use host_record::fits::in_hand;
 use host_record::record::Host;
 use host_record::record::PACKET_LIMIT;
 use layout::limits::OFFER_LIMIT;
+use make::action::written;
 use make::answer::Sent;
 use make::answer::StepAnswer;
 use wire::words;
@@ -91,9 +97,9 @@ fn refused(number: u32) -> CStep
     }
 }
 
-// How many bytes are sent.
-fn length_of(sent: Sent, packet: [u8; 60]) -> u32
-    ensures { λ r. ⌜ r ≡ length (flatten (sentBy sent packet)) ⌝ }
+// How many bytes of a packet are sent.
+fn length_of(sent: Sent) -> u32
+    ensures { λ r. ⌜ ((packet : List ℕ) → length packet ≡ LONG-SIZE → r ≡ length (flatten (sentBy sent packet))) ⌝ }
 {
     match sent {
         Sent::Nothing => 0,
@@ -116,7 +122,7 @@ fn stepped(s: StepAnswer, host: &mut [u8], packet: &mut [u8]) -> CStep
     CStep {
         number: store(host, step_number(refusal), &b),
         entry: step_entry(refusal),
-        length: length_of(sent, p),
+        length: length_of(sent),
     }
 }
 
@@ -145,6 +151,56 @@ fn host_over(count: u8, host: &[u8]) -> Host
     }
 }
 
+// The cursor is kept behind the bodies.
+fn keep_cursor(contents: &mut [u8], cursor: usize)
+    requires { ⌜ length (now contents) ≡ CONTENTS-SIZE ⌝ }
+    ensures { λ _. ⌜ now (contents .exit) ≡ withCursor (now (contents .entry)) cursor ⌝ }
+{
+    let b = words::bytes64(cursor);
+    words::copy(&mut contents[CURSOR_START..CONTENTS_SIZE], &b);
+}
+
+// N1: the packet becomes zero.
+fn cleared(packet: &mut [u8]) -> CStep
+    requires { ⌜ length (now packet) ≡ LONG-SIZE ⌝ }
+    ensures { λ r. ⌜ ((host : List ℕ) → toldStep r host (now (packet .exit)) ≡ refusedStep (stepNumber (N 1)) host (replicate LONG-SIZE 0)) ⌝ }
+{
+    words::copy(packet, &[0u8; 60]);
+    refused(ROW_N + 1)
+}
+
+// What a move leaves: the packet and the cursor, and the next record where the step is served.
+fn moved(m: Move, host: &mut [u8], contents: &mut [u8], bundle: &[u8], packet: &mut [u8]) -> CStep
+    requires { ⌜ (length (now host) ≡ HOST-SIZE) × (length (now contents) ≡ CONTENTS-SIZE) × (length (now packet) ≡ LONG-SIZE) ⌝ }
+    ensures { λ r. ⌜ ((before : Host) → toldStep r (now (host .exit)) (now (packet .exit)) ≡ stepBy (now (host .entry)) (madeOf (now (bundle .entry)) (contentsIn (now (contents .entry))) (cursorIn (now (contents .entry))) before (m .host) (m .action) .step)) ⌝ }
+    ensures { λ _. ⌜ ((before : Host) → now (contents .exit) ≡ withCursor (now (contents .entry)) (madeOf (now (bundle .entry)) (contentsIn (now (contents .entry))) (cursorIn (now (contents .entry))) before (m .host) (m .action) .cursor)) ⌝ }
+{
+    let action = m.action;
+    let next = m.host;
+    let body = read_body(contents, entry_of(action));
+    let w = written(
+        packet,
+        bundle,
+        body,
+        read_cursor(contents),
+        action,
+        next.token,
+    );
+    keep_cursor(contents, w.cursor);
+    if w.served {
+        let b = host_bytes(next);
+        words::copy(host, &b);
+        let sent = w.sent;
+        CStep {
+            number: SERVED,
+            entry: 0,
+            length: length_of(sent),
+        }
+    } else {
+        refused(ROW_N + 1)
+    }
+}
+
 // The step over contents that the check left: the bundle is not checked again.
 pub fn step_checked_call(
     host: &mut [u8],
@@ -165,13 +221,15 @@ pub fn step_checked_call(
     if packet.len() != LONG_SIZE {
         return refused(WRONG_OUTPUT);
     }
-    let c = read_contents(contents);
-    let h = host_over(c.count, host);
-    let a = inner_step(c, read_cursor(contents), h, bundle, reply);
-    let cursor = words::bytes64(a.cursor);
-    words::copy(&mut contents[CURSOR_START..CONTENTS_SIZE], &cursor);
-    let s = a.step;
-    stepped(s, host, packet)
+    let count = contents[0];
+    let h = host_over(count, host);
+    let stage = h.stage;
+    let hand = read_body(contents, in_hand(stage));
+    let d = decision(count, hand.records, h, reply);
+    match d {
+        Decided::N1 => cleared(packet),
+        Decided::Moves(m) => moved(m, host, contents, bundle, packet),
+    }
 }
 
 // N1 for a record that counts more packets than any host may.

@@ -1,13 +1,28 @@
 -- The rules over the list as the code names them, so that one loop serves them all.
-use mathlib.Core.Bool.{Bool, not}
+use Prim.Native.Nat.{ℕ}
+use mathlib.Core.Bool.{Bool, not, _||_}
+use mathlib.Core.List.{List}
 use lib.Dec.{eqb}
+use Rattle.wire.specs.Checks.{any, pairs}
 use Rattle.component.specs.Setup.{badId, badRegion, overlap}
 use Rattle.component.specs.Versions.{keepsStaged}
 use Rattle.component.specs.declared.record.Component.{Component}
 use Rattle.component.specs.declared.rule.Rule.{Rule}
-use Rattle.component.specs.declared.rule.Rule.the-variants.{BadId, SameId, BadRegion, Overlaps, Stale}
+use Rattle.component.specs.declared.rule.Rule.the-variants.{BadId, SameId, BadRegion, Overlaps}
 use Rattle.component.specs.declared.rule.Pair.{Pair}
 use Rattle.component.specs.declared.rule.Pair.the-variants as pair
+
+-- D1, of one component and a staging buffer of n bytes: S3, S4, or a staged version below running
+abbrev pub flawed : (n : ℕ) → Component → Bool
+flawed n c = badId (c .id) || (badRegion n (c .region) || not (keepsStaged c (c .staged)))
+
+-- D1, of two: the same id, or regions that overlap
+abbrev pub clash : Component → Component → Bool
+clash c c′ = eqb (c .id) (c′ .id) || overlap (c .region) (c′ .region)
+
+-- D1, of the components in use: one is flawed, or two clash
+unfoldable pub unsound : (n : ℕ) → List Component → Bool
+unsound n cs = any (flawed n) cs || pairs clash cs
 
 -- a rule holds of a component
 abbrev pub ruleHolds : Rule → Component → Bool
@@ -15,7 +30,6 @@ ruleHolds BadId c = badId (c .id)
 ruleHolds (SameId id) c = eqb id (c .id)
 ruleHolds (BadRegion n) c = badRegion n (c .region)
 ruleHolds (Overlaps r) c = overlap r (c .region)
-ruleHolds Stale c = not (keepsStaged c (c .staged))
 
 -- what a pair's rule asks of the other, where this is the one
 abbrev pub ruleOf : Pair → Component → Rule

@@ -3,17 +3,17 @@ use crate::record::Component;
 use crate::rule::Pair;
 use crate::rule::Rule;
 use crate::rule::applies;
+use crate::rule::clash;
+use crate::rule::flawed;
 use crate::rule::rule_of;
 use crate::setup::COMPONENT_LIMIT;
 ghost use mathlib.Core.Path.{_≡_};
-ghost use mathlib.Core.Bool.{not};
 ghost use Prim.Native.Nat.{min};
 ghost use lib.ListN.{take, drop};
 ghost use Rattle.wire.specs.Checks.{any, pairs};
 ghost use Rattle.component.specs.Lists.{firstFrom, find as findIn};
-ghost use Rattle.component.specs.Rules.{ruleHolds, pairHolds};
+ghost use Rattle.component.specs.Rules.{clash as clashOf, unsound, ruleHolds, pairHolds};
 ghost use Rattle.component.specs.Setup.{COMPONENT-LIMIT};
-ghost use Rattle.component.specs.Versions.{keepsStaged};
 
 // A place in the list of components, or none.
 pub enum Found {
@@ -83,9 +83,34 @@ pub fn find(parts: [Component; 7], count: u8, id: u8) -> Found
     first(Rule::SameId(id), parts, 0, count)
 }
 
-// D1: some component has a staged version below running.
-pub fn some_stale(parts: [Component; 7], count: u8) -> bool
-    ensures { λ r. ⌜ r ≡ any (λ c. not (keepsStaged c (c .staged))) (take count parts) ⌝ }
+// D1: a component from `from` on clashes with this one.
+fn some_clash(c: Component, parts: [Component; 7], from: u8, count: u8) -> bool
+    ensures { λ r. ⌜ r ≡ any (clashOf c) (drop from (take count parts)) ⌝ }
 {
-    some(Rule::Stale, parts, 0, count)
+    let end = within_slots(count);
+    let mut i = from;
+    while i < end {
+        let d = parts[i as usize];
+        if clash(c, d) {
+            return true;
+        }
+        i += 1;
+    }
+    false
+}
+
+// D1: some component is flawed, or two clash.
+pub fn some_unsound(n: usize, parts: [Component; 7], count: u8) -> bool
+    ensures { λ r. ⌜ r ≡ unsound n (take count parts) ⌝ }
+{
+    let end = within_slots(count);
+    let mut i: u8 = 0;
+    while i < end {
+        let c = parts[i as usize];
+        if flawed(n, c) | some_clash(c, parts, i + 1, count) {
+            return true;
+        }
+        i += 1;
+    }
+    false
 }

@@ -6,7 +6,7 @@ use image::region::Region;
 use wire::version::Version;
 ghost use mathlib.Core.Path.{_≡_};
 ghost use Rattle.component.specs.Versions.{offerVersion, imageVersionFits, stagedVersionFits, keepsStaged};
-ghost use Rattle.component.specs.Rules.{ruleHolds, ruleOf};
+ghost use Rattle.component.specs.Rules.{flawed as isFlawed, clash as clashes, ruleHolds, ruleOf};
 ghost use Rattle.component.specs.Setup.{badId, badRegion, overlap};
 
 // What the rule on an offered version says.
@@ -66,8 +66,6 @@ pub enum Rule {
     BadRegion(usize),
     // S4: its region overlaps this one.
     Overlaps(Region),
-    // D1: its staged version is below running.
-    Stale,
 }
 
 // What is asked of two components.
@@ -95,6 +93,23 @@ fn overlaps(r: Region, other: Region) -> bool
         & ((other.base.0 as u64) < (r.base.0 as u64) + (r.len as u64))
 }
 
+// D1, of one component: S3, S4 for a buffer of so many bytes, or its staged version is below running.
+pub fn flawed(n: usize, c: Component) -> bool
+    ensures { λ r. ⌜ r ≡ isFlawed n c ⌝ }
+{
+    let region = c.region;
+    bad_id(c.id) | (bad_region(n, region) | !c.keeps_staged())
+}
+
+// D1, of two: the same id, or regions that overlap.
+pub fn clash(c: Component, other: Component) -> bool
+    ensures { λ r. ⌜ r ≡ clashes c other ⌝ }
+{
+    let region = c.region;
+    let next = other.region;
+    (c.id == other.id) | overlaps(region, next)
+}
+
 pub fn applies(rule: Rule, c: Component) -> bool
     ensures { λ r. ⌜ r ≡ ruleHolds rule c ⌝ }
 {
@@ -104,7 +119,6 @@ pub fn applies(rule: Rule, c: Component) -> bool
         Rule::SameId(id) => id == c.id,
         Rule::BadRegion(n) => bad_region(n, region),
         Rule::Overlaps(r) => overlaps(r, region),
-        Rule::Stale => !c.keeps_staged(),
     }
 }
 

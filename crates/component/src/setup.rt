@@ -25,13 +25,13 @@ pub enum SetupVerdict {
     S4,
 }
 
-fn staging_too_long(n: usize) -> bool
+pub fn staging_too_long(n: usize) -> bool
     ensures { λ r. ⌜ r ≡ stagingTooLong n ⌝ }
 {
     (STAGING_LIMIT as usize) < n
 }
 
-fn bad_count(count: u8) -> bool
+pub fn bad_count(count: u8) -> bool
     ensures { λ r. ⌜ r ≡ badCount count ⌝ }
 {
     (count < 1) | (COMPONENT_LIMIT < count)

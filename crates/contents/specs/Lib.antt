@@ -1,3 +1,4 @@
 pub mod Content
+pub mod Head
 pub mod Reply
 pub mod RoundTrip

@@ -37,7 +37,7 @@ fn is_allowed(flags: u8, length: u8) -> bool
 }
 
 // Bytes 0-7.
-fn head(flags: u8, length: u8, sequence: u16, address: RegionAddress) -> [u8; 8]
+pub fn head(flags: u8, length: u8, sequence: u16, address: RegionAddress) -> [u8; 8]
     ensures { λ r. ⌜ r ≡ headOf flags length sequence address ⌝ }
 {
     let s = words::bytes16(sequence);

@@ -160,6 +160,14 @@ decideIn (Ended e) n last h reply = record { action = Nothing; host = h }
 abbrev pub decideOf : (n : ℕ) → (last : Bool) → Host → (reply : List ℕ) → Move
 decideOf n last h reply = decideIn (h .stage) n last h reply
 
+-- the entry of what is sent, and 0 where there is none
+abbrev pub entryOf : Action → ℕ
+entryOf Nothing = 0
+entryOf (Information code) = 0
+entryOf Notify = 0
+entryOf (Offer entry) = entry
+entryOf (Block p) = p .entry
+
 -- what is decided over the contents of a bundle: N1, or a move
 unfoldable pub decisionOf : Contents → Host → (reply : List ℕ) → Decided
 decisionOf c h reply =

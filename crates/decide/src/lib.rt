@@ -1,13 +1,13 @@
 // What the host decides on a reply (document 01, "The host"): N1, or what to send and the next record.
 ghost use mathlib.Core.Path.{_≡_};
-ghost use Rattle.bundle.specs.Contents.{toldChecked};
-ghost use Rattle.decide.specs.Decide.{decisionOf};
+ghost use Rattle.bundle.specs.Contents.{Contents};
+ghost use Rattle.host_record.specs.Fits.{recordsOn, inHand, UpToSeven};
+ghost use Rattle.decide.specs.Decide.{entryOf, decisionOf};
 use crate::decide::decide;
 use host_record::fits::breaks;
 use host_record::fits::last_in;
 use host_record::record::Host;
 use host_record::record::Place;
-use layout::Checked;
 
 pub mod decide; // decide.rt: what the host does on a reply
 
@@ -33,15 +33,28 @@ pub enum Decided {
     Moves(Move),
 }
 
-// Over the contents of a bundle: N1, or the move.
-pub fn decision(c: Checked, h: Host, reply: &[u8]) -> Decided
-    ensures { λ r. ⌜ r ≡ decisionOf (toldChecked c) h (now (reply .entry)) ⌝ }
+// The entry of what is sent, and 0 where there is none.
+pub fn entry_of(action: Action) -> u32
+    ensures { λ r. ⌜ r ≡ entryOf action ⌝ }
 {
-    if breaks(c, h) {
+    match action {
+        Action::Nothing => 0,
+        Action::Information(_) => 0,
+        Action::Notify => 0,
+        Action::Offer(entry) => entry,
+        Action::Block(p) => p.entry,
+    }
+}
+
+// Over the contents of a bundle with n offers, where the body in hand has k records: N1, or the move.
+pub fn decision(n: u8, k: u32, h: Host, reply: &[u8]) -> Decided
+    ensures { λ r. ⌜ ((c : Contents) → UpToSeven (recordsOn c) → c .count ≡ n → recordsOn c (inHand (h .stage)) ≡ k → r ≡ decisionOf c h (now (reply .entry))) ⌝ }
+{
+    if breaks(n, k, h) {
         return Decided::N1;
     }
     let stage = h.stage;
-    let last = last_in(c, stage);
-    let m = decide(h, c.count as u32, last, reply);
+    let last = last_in(k, stage);
+    let m = decide(h, n as u32, last, reply);
     Decided::Moves(m)
 }

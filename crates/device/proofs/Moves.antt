@@ -31,12 +31,10 @@ use Rattle.offering.specs.declared.verdict.OfferVerdict.{OfferVerdict}
 use Rattle.offering.specs.declared.verdict.OfferVerdict.the-variants.{Busy, Reject, Skip, Accept}
 use Rattle.offering.proofs.checks.Laws.{OfferSays, offer-says}
 use Rattle.receiving.specs.Content.{isLast, takeBlock}
-use Rattle.receiving.specs.Finish.{judge, finish}
+use Rattle.receiving.specs.Finish.{Finished, judge, finish}
 use Rattle.receiving.specs.Receive.{goesOn, onBlock, onVerdict}
 use Rattle.receiving.specs.declared.checks.ContentVerdict.{ContentVerdict}
 use Rattle.receiving.specs.declared.checks.ContentVerdict.the-variants.{Refuse, Take}
-use Rattle.receiving.specs.declared.finish.Finished.{Finished}
-use Rattle.receiving.specs.declared.content.Received.{Received}
 use Rattle.receiving.proofs.checks.Laws.{ContentSays, content-says}
 use Rattle.device.specs.declared.record.Device.{Device}
 use Rattle.device.specs.declared.answer.Channel.{Channel}

@@ -29,11 +29,10 @@ use Rattle.session.specs.declared.effect.Effect.{Effect}
 use Rattle.offering.specs.Offer.{onOffer}
 use Rattle.offering.specs.Signal.{onInformation, onNotify, onExtended}
 use Rattle.receiving.specs.Content.{isLast, takeBlock}
-use Rattle.receiving.specs.Finish.{judge, finish}
+use Rattle.receiving.specs.Finish.{Finished, judge, finish}
 use Rattle.receiving.specs.Receive.{onBlock, onVerdict}
 use Rattle.receiving.specs.declared.checks.ContentVerdict.{ContentVerdict}
 use Rattle.receiving.specs.declared.checks.ContentVerdict.the-variants.{Refuse, Take}
-use Rattle.receiving.specs.declared.finish.Finished.{Finished}
 use Rattle.receiving.proofs.checks.Laws.{ContentSays, content-says}
 use Rattle.device.specs.declared.record.Device.{Device}
 use Rattle.device.specs.Record.{sessionOf}

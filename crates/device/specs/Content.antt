@@ -6,9 +6,8 @@ use Rattle.contents.specs.Content.{fieldsIn}
 use Rattle.contents.specs.declared.content.ContentFields.{ContentFields}
 use Rattle.image.specs.declared.region.Region.{Region}
 use Rattle.receiving.specs.Content as receiving
-use Rattle.receiving.specs.Receive.{onContent, stagingAfter}
+use Rattle.receiving.specs.Receive.{Received, onContent, stagingAfter}
 use Rattle.receiving.specs.declared.checks.ContentVerdict.{ContentVerdict}
-use Rattle.receiving.specs.declared.content.Received.{Received}
 use Rattle.device.specs.declared.record.Device.{Device}
 use Rattle.device.specs.Record.{sessionOf}
 use Rattle.device.specs.Refusals.{Row, served, D, Outcome, refusalOf, unlessRefused, servedWith}

@@ -1,11 +1,15 @@
 // The content entry (document 01, "The device").
 use crate::answer::Answer;
 use crate::record::Device;
-use contents::content::ContentFields;
-use contents::content::read_content;
+use contents::head::read_head;
 use receiving::content;
 use session::effect::Session;
+use slots::slot::part_at;
+use slots::slot::slot_of;
+use slots::slot::with_part;
 ghost use mathlib.Core.Path.{_≡_};
+ghost use lib.ListN.{length};
+ghost use Rattle.contents.specs.Content.{fieldsIn};
 ghost use Rattle.receiving.specs.Receive.{onContent, stagingAfter};
 ghost use Rattle.device.specs.Record.{sessionOf};
 ghost use Rattle.device.specs.Refusals.{told};
@@ -13,15 +17,20 @@ ghost use Rattle.device.specs.Content.{received as receivedBy, contentEn
 
 impl Device {
     // A packet that no row refuses.
-    fn on_content(self, c: ContentFields, staging: &mut [u8]) -> Answer
-        ensures { λ r. ⌜ (told r ≡ receivedBy self (onContent (self .parts) (sessionOf self) c (now (staging .entry)))) × (now (staging .exit) ≡ stagingAfter (self .parts) (self .stage) c (now (staging .entry))) ⌝ }
+    fn on_content(self, report: &[u8], staging: &mut [u8]) -> Answer
+        requires { ⌜ length (now report) ≡ 60 ⌝ }
+        ensures { λ r. ⌜ (told r ≡ receivedBy self (onContent (self .parts) (sessionOf self) (fieldsIn (now (report .entry))) (now (staging .entry)))) × (now (staging .exit) ≡ stagingAfter (self .parts) (self .stage) (fieldsIn (now (report .entry))) (now (staging .entry))) ⌝ }
     {
         let parts = self.parts;
         let stage = self.stage;
         let owed = self.owed;
-        let received = content::on_content(parts, Session { stage, owed }, c, staging);
-        let next = received.parts;
-        let effect = received.effect;
+        let slot = slot_of(stage.open_slot());
+        let part = part_at(parts, slot);
+        let head = read_head(report);
+        let taken = content::on_content(part, Session { stage, owed }, head, &report[8..], staging);
+        let effect = taken.effect;
+        let after = taken.part;
+        let next = with_part(parts, slot, after);
         self.served(next, effect)
     }
 
@@ -33,8 +42,6 @@ impl Device {
         if refusal.is_refused() {
             return self.refused(refusal);
         }
-        let read = read_content(report);
-        let c = read.content;
-        self.on_content(c, staging)
+        self.on_content(report, staging)
     }
 }

@@ -5,6 +5,7 @@ use offering::packet;
 use offers::kind::OfferPacket;
 use offers::kind::read_offer_packet;
 use session::effect::Session;
+use slots::standing::standing_of;
 ghost use mathlib.Core.Path.{_≡_};
 ghost use lib.ListN.{length};
 ghost use Rattle.offering.specs.Packet.{onPacket};
@@ -20,13 +21,9 @@ impl Device {
         let parts = self.parts;
         let stage = self.stage;
         let owed = self.owed;
-        let effect = packet::on_packet(
-            self.platform,
-            self.count,
-            parts,
-            Session { stage, owed },
-            p,
-        );
+        let target = standing_of(parts, self.count, packet::id_of(p));
+        let needed = standing_of(parts, self.count, packet::need_of(p));
+        let effect = packet::on_packet(self.platform, Session { stage, owed }, target, needed, p);
         self.served(parts, effect)
     }
 

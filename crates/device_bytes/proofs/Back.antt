@@ -164,7 +164,7 @@ device-fits b h = record {
 }
 
 -- the blank record breaks D1: it has no component
-blank-breaks : breaksD1 blankDevice ≡ true
+pub blank-breaks : breaksD1 blankDevice ≡ true
 unfolding sound.breaksD1 setupVerdict firstOf
 blank-breaks = refl
 

@@ -1,20 +1,23 @@
 -- The record's bytes as they are written and read, component by component. Assumes nothing.
 use mathlib.Core.Path.{_≡_, refl, sym, ap, _∙_}
-use mathlib.Core.Bool.{Bool, cond}
+use mathlib.Core.Bool.{Bool, true, false, cond}
 use mathlib.Core.List.{List, [], _∷_, _++_, append-assoc}
-use Prim.Native.Nat.{ℕ, _+_, _*_, _-_, _<_}
+use Prim.Native.Nat.{ℕ, _+_, _*_, _<_}
 use native.Mathlib.Omega.{arith}
-use lib.ListN.{length, getD, set, take, drop, length-append}
+use borrow.Author.Tests.{eq-eqb, lt-ltb, ltb-true, ltb-false}
+use lib.Dec.{ltb}
+use lib.ListN.{length, getD, set, take, drop, length-append, List·getD-eq-default}
 use lib.Seq.{take-all, drop-drop}
 use Rattle.wire.specs.Bytes.{bytesOf, copyOf, same}
-use Rattle.wire.proofs.Pieces.{put-more, piece-written, read-more, read-all, read-sized, rest}
+use Rattle.wire.proofs.Pieces.{put-more, piece-written, read-more, read-all, read-sized, read-at}
 use Rattle.wire.proofs.words.Sames.{same-sized}
+use Rattle.component.specs.Lists.{partAt}
 use Rattle.component.specs.Record.{blankComponent}
 use Rattle.component.specs.declared.record.Component.{Component}
 use Rattle.component.specs.declared.record.Listed.{Listed}
 use Rattle.device.specs.Record.{blankDevice}
 use Rattle.device.specs.declared.record.Device.{Device}
-use Rattle.device_bytes.specs.Layout.{DEVICE-SIZE, PART-SIZE, PARTS-START, LISTED-SIZE, stageBytes, owedBytes, partBytes, partsBytes, deviceBytes, partIn, partsIn, deviceIn, readDevice, listedIn, listIn}
+use Rattle.device_bytes.specs.Layout.{DEVICE-SIZE, PART-SIZE, PARTS-START, LISTED-SIZE, stageBytes, owedBytes, partBytes, partsBytes, deviceBytes, partIn, partOf, partsIn, deviceIn, readDevice, listedIn, listIn}
 use Rattle.device_bytes.proofs.part.Laws.{part-sized}
 use Rattle.device_bytes.proofs.stage.Laws.{stage-sized, owed-sized}
 
@@ -47,24 +50,35 @@ device-of out h last d k e whole f g =
     let n : length h ≡ PARTS-START = ap length f ∙ simp length-append (omega (arith, stage-sized (d .stage), owed-sized (d .owed))) in
     ap (λ (l : List ℕ). l ++ partsBytes (d .parts)) (put-more out h last 0 PARTS-START k e n (omega arith) g .1 ∙ f) ∙ simp append-assoc
 
--- one component more is read
-pub part-read : (i : ℕ) (b : List ℕ) (l : List Component) (x : Component) → i < 7 → length l ≡ 7 → take i l ≡ partsIn i (drop PARTS-START b)
-    → x ≡ partIn (take (length b - (PARTS-START + i * PART-SIZE)) (drop (PARTS-START + i * PART-SIZE) b))
-    → take (i + 1) (set l i x) ≡ partsIn (i + 1) (drop PARTS-START b)
+-- there are seven
+pub parts-seven : (q : List ℕ) → length (partsIn 7 q) ≡ 7
 unfolding partsIn
-part-read i b l x h seven e f =
+parts-seven q = read-sized PART-SIZE partIn partsIn (λ q. refl) (λ n q. refl) 7 q
+
+-- the component in a slot is the one that is read there, and past the seven there is none
+pub part-in-slot : (b : List ℕ) (slot : ℕ) → length b ≡ DEVICE-SIZE → partOf slot b ≡ partAt (deviceIn b .parts) slot
+unfolding deviceIn partsIn
+part-in-slot b slot e = go (ltb slot 7) refl
+  where
+    go : (t : Bool) → ltb slot 7 ≡ t → partOf slot b ≡ partAt (deviceIn b .parts) slot
+    go true h =
+        rw (eq-eqb (length b) DEVICE-SIZE e, h)
+        (ap partIn (sym (drop-drop (slot * PART-SIZE) PARTS-START b))
+        ∙ sym (read-at PART-SIZE partIn partsIn (λ q. refl) (λ n q. refl) 7 slot (drop PARTS-START b) blankComponent (ltb-true slot 7 h)))
+    go false h = rw (eq-eqb (length b) DEVICE-SIZE e, h) (sym (List·getD-eq-default (partsIn 7 (drop PARTS-START b)) blankComponent {n = slot} (omega (arith, ltb-false slot 7 h, parts-seven (drop PARTS-START b)))))
+
+-- one component more is read
+pub part-read : (i : ℕ) (b : List ℕ) (l : List Component) (x : Component) → i < 7 → length l ≡ 7 → length b ≡ DEVICE-SIZE → take i l ≡ partsIn i (drop PARTS-START b)
+    → x ≡ partOf i b → take (i + 1) (set l i x) ≡ partsIn (i + 1) (drop PARTS-START b)
+unfolding partsIn
+part-read i b l x h seven whole e f =
     read-more PART-SIZE partIn partsIn (λ q. refl) (λ n q. refl) i (drop PARTS-START b) l x (omega arith) e
-    (f ∙ ap partIn (rest (PARTS-START + i * PART-SIZE) b ∙ sym (drop-drop (i * PART-SIZE) PARTS-START b)))
+    (f ∙ rw (eq-eqb (length b) DEVICE-SIZE whole, lt-ltb i 7 h) (ap partIn (sym (drop-drop (i * PART-SIZE) PARTS-START b))))
 
 -- all of them are read
 pub parts-read : (i : ℕ) (q : List ℕ) (l : List Component) → i ≡ 7 → length l ≡ 7 → take i l ≡ partsIn i q → l ≡ partsIn 7 q
 unfolding partsIn
 parts-read i q l = read-all PART-SIZE partIn partsIn (λ q. refl) (λ n q. refl) i 7 q l
-
--- there are seven
-pub parts-seven : (q : List ℕ) → length (partsIn 7 q) ≡ 7
-unfolding partsIn
-parts-seven q = read-sized PART-SIZE partIn partsIn (λ q. refl) (λ n q. refl) 7 q
 
 -- one listed component more is read
 pub listed-read : (i : ℕ) (q : List ℕ) (l : List Listed) (x : Listed) → i < length l → take i l ≡ listIn i q → x ≡ listedIn (drop (i * LISTED-SIZE) q) → take (i + 1) (set l i x) ≡ listIn (i + 1) q

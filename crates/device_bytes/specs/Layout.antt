@@ -1,12 +1,13 @@
 -- The device's record as bytes of a fixed length, little-endian, for whoever keeps it outside of Rattle; and the list that set-up takes, as bytes.
 use Prim.Native.Nat.{ℕ, zero, suc, _+_, _*_}
-use mathlib.Core.Bool.{cond}
+use mathlib.Core.Bool.{cond, _&&_}
 use mathlib.Core.List.{List, [], _∷_, _++_}
-use lib.Dec.{eqb}
-use lib.ListN.{getD, drop}
+use lib.Dec.{eqb, ltb}
+use lib.ListN.{length, getD, drop}
 use Rattle.wire.specs.Bytes.{number, bytesOf, bytesAt, same}
 use Rattle.wire.specs.Version.{versionAt, versionBytes}
 use Rattle.image.specs.declared.region.Region.{Region}
+use Rattle.component.specs.Record.{blankComponent}
 use Rattle.component.specs.declared.record.Component.{Component}
 use Rattle.component.specs.declared.record.Listed.{Listed}
 use Rattle.component.specs.declared.record.Staged.{Staged}
@@ -81,6 +82,10 @@ partIn q = record {
   region = regionIn 5 q;
   staged = cond (eqb (getD q 13 0) 1) (staged.Pending (versionAt 14 q)) staged.Nothing;
 }
+
+-- the component in a slot; past the seven there is none, and none in bytes of another length
+abbrev pub partOf : (slot : ℕ) → List ℕ → Component
+partOf slot b = cond (eqb (length b) DEVICE-SIZE && ltb slot 7) (partIn (drop (PARTS-START + slot * PART-SIZE) b)) blankComponent
 
 unfoldable pub partsIn : ℕ → List ℕ → List Component
 partsIn zero q = []

@@ -6,7 +6,7 @@ ghost use Rattle.wire.specs.Bytes.{bytesOf};
 ghost use Rattle.device_bytes.specs.Layout.{DEVICE-SIZE, PARTS-START, stageBytes, owedBytes, partsBytes, partsIn, deviceBytes, deviceIn, readDevice, listIn};
 use crate::list::listed_at;
 use crate::part::part_bytes;
-use crate::part::part_in;
+use crate::part::part_of;
 use crate::stage::owed_bytes;
 use crate::stage::owed_in;
 use crate::stage::stage_bytes;
@@ -16,16 +16,16 @@ use component::record::Listed;
 use device::record::Device;
 use wire::words;
 
-mod part; // part.rt: a component
-mod stage; // stage.rt: the stage, and the ready-reply that is owed
+pub mod part; // part.rt: a component
+pub mod stage; // stage.rt: the stage, and the ready-reply that is owed
 mod list; // list.rt: a component of the list that set-up takes
 
 // The lengths of a record, of the part of it for each component and of what stands before these, of a list, and of the part of it for each component.
 pub const DEVICE_SIZE: usize = 140;
 
-const PART_SIZE: usize = 18;
+pub const PART_SIZE: usize = 18;
 
-const PARTS_START: usize = 14;
+pub const PARTS_START: usize = 14;
 
 pub const LIST_SIZE: usize = 91;
 
@@ -89,12 +89,11 @@ fn parts_in(b: &[u8]) -> [Component; 7]
     requires { ⌜ length (now b) ≡ DEVICE-SIZE ⌝ }
     ensures { λ r. ⌜ r ≡ partsIn 7 (drop PARTS-START (now (b .entry))) ⌝ }
 {
-    let first = part_in(b);
+    let first = part_of(b, 0);
     let mut parts = [first; 7];
-    let mut i = 0;
+    let mut i: u8 = 0;
     while i < 7 {
-        let at = PARTS_START + i * PART_SIZE;
-        parts[i] = part_in(&b[at..]);
+        parts[i as usize] = part_of(b, i);
         i += 1;
     }
     parts

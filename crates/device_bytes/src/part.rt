@@ -1,18 +1,24 @@
 // A component as 18 bytes: id, running version, region, what is staged.
 ghost use mathlib.Core.Path.{_≡_};
 ghost use mathlib.Core.Bool.{cond};
+ghost use Prim.Native.Nat.{_+_, _≤_};
 ghost use lib.Dec.{eqb};
+ghost use lib.ListN.{length, drop};
 ghost use Rattle.component.specs.declared.record.Staged.the-variants.{Nothing, Pending};
 ghost use Rattle.wire.specs.Version.{versionAt};
-ghost use Rattle.device_bytes.specs.Layout.{stagedBytes, partBytes, regionIn, partIn};
+ghost use Rattle.device_bytes.specs.Layout.{PART-SIZE, stagedBytes, partBytes, regionIn, partIn, partOf};
+use crate::DEVICE_SIZE;
+use crate::PART_SIZE;
+use crate::PARTS_START;
 use component::record::Component;
 use component::record::Staged;
 use image::region::Region;
 use image::region::StagingOffset;
+use slots::slot::blank_component;
 use wire::version::Version;
 use wire::words;
 
-fn staged_bytes(s: Staged) -> [u8; 5]
+pub fn staged_bytes(s: Staged) -> [u8; 5]
     ensures { λ r. ⌜ r ≡ stagedBytes s ⌝ }
 {
     match s {
@@ -24,7 +30,7 @@ fn staged_bytes(s: Staged) -> [u8; 5]
     }
 }
 
-pub(crate) fn part_bytes(c: Component) -> [u8; 18]
+pub fn part_bytes(c: Component) -> [u8; 18]
     ensures { λ r. ⌜ r ≡ partBytes c ⌝ }
 {
     let running = c.running;
@@ -68,7 +74,7 @@ pub(crate) fn version_at(q: &[u8], i: u32) -> Version
     )
 }
 
-// The region in the eight bytes from place 5 on, in a component and in a list.
+// The region in the eight bytes from place 5 on.
 pub(crate) fn region_in(q: &[u8]) -> Region
     ensures { λ r. ⌜ r ≡ regionIn 5 (now (q .entry)) ⌝ }
 {
@@ -88,17 +94,33 @@ fn staged_in(staged: u8, v: Version) -> Staged
     }
 }
 
-pub(crate) fn part_in(q: &[u8]) -> Component
-    ensures { λ r. ⌜ r ≡ partIn (now (q .entry)) ⌝ }
+fn part_from(b: &[u8], at: usize) -> Component
+    requires { ⌜ at + PART-SIZE ≤ length (now b) ⌝ }
+    ensures { λ r. ⌜ r ≡ partIn (drop at (now (b .entry))) ⌝ }
 {
-    let running = version_at(q, 1);
-    let region = region_in(q);
-    let version = version_at(q, 14);
-    let staged = staged_in(words::byte_at(q, 13), version);
+    let running = Version::read(b[at + 1], b[at + 2], b[at + 3], b[at + 4]);
+    let base = words::word32(b[at + 5], b[at + 6], b[at + 7], b[at + 8]);
+    let len = words::word32(b[at + 9], b[at + 10], b[at + 11], b[at + 12]);
+    let version = Version::read(b[at + 14], b[at + 15], b[at + 16], b[at + 17]);
+    let staged = staged_in(b[at + 13], version);
     Component {
-        id: words::byte_at(q, 0),
+        id: b[at],
         running,
-        region,
+        region: Region {
+            base: StagingOffset(base),
+            len,
+        },
         staged,
+    }
+}
+
+// The component in a slot of a record's bytes; past the seven there is none, and none in bytes of another length.
+pub fn part_of(b: &[u8], slot: u8) -> Component
+    ensures { λ r. ⌜ r ≡ partOf slot (now (b .entry)) ⌝ }
+{
+    if (b.len() == DEVICE_SIZE) & (slot < 7) {
+        part_from(b, PARTS_START + (slot as usize) * PART_SIZE)
+    } else {
+        blank_component()
     }
 }

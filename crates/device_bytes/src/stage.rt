@@ -7,7 +7,7 @@ use session::stage::Receiving;
 use session::stage::Stage;
 use wire::words;
 
-pub(crate) fn stage_bytes(stage: Stage) -> [u8; 5]
+pub fn stage_bytes(stage: Stage) -> [u8; 5]
     ensures { λ r. ⌜ r ≡ stageBytes stage ⌝ }
 {
     match stage {
@@ -20,7 +20,7 @@ pub(crate) fn stage_bytes(stage: Stage) -> [u8; 5]
     }
 }
 
-pub(crate) fn owed_bytes(owed: Owed) -> [u8; 2]
+pub fn owed_bytes(owed: Owed) -> [u8; 2]
     ensures { λ r. ⌜ r ≡ owedBytes owed ⌝ }
 {
     match owed {
@@ -29,7 +29,7 @@ pub(crate) fn owed_bytes(owed: Owed) -> [u8; 2]
     }
 }
 
-pub(crate) fn stage_in(stage: u8, slot: u8, token: u8, next: u16) -> Stage
+pub fn stage_in(stage: u8, slot: u8, token: u8, next: u16) -> Stage
     ensures { λ r. ⌜ r ≡ stageIn stage slot token next ⌝ }
 {
     if stage == 1 {
@@ -41,7 +41,7 @@ pub(crate) fn stage_in(stage: u8, slot: u8, token: u8, next: u16) -> Stage
     Stage::Idle
 }
 
-pub(crate) fn owed_in(owed: u8, token: u8) -> Owed
+pub fn owed_in(owed: u8, token: u8) -> Owed
     ensures { λ r. ⌜ r ≡ owedIn owed token ⌝ }
 {
     if owed == 1 {

@@ -5,6 +5,9 @@ ghost use Rattle.make.specs.Made.{toldInner};
 ghost use Rattle.host.specs.Inner.{innerOf};
 use decide::Decided;
 use decide::decision;
+use decide::entry_of;
+use host_record::fits::body_at;
+use host_record::fits::in_hand;
 use host_record::record::Host;
 use layout::Checked;
 use make::action::made;
@@ -21,9 +24,16 @@ pub fn inner_step(
 ) -> InnerAnswer
     ensures { λ r. ⌜ toldInner r ≡ innerOf (now (bundle .entry)) (toldChecked checked) cursor h (now (reply .entry)) ⌝ }
 {
-    let d = decision(checked, h, reply);
+    let table = checked.table;
+    let stage = h.stage;
+    let hand = body_at(table, in_hand(stage));
+    let d = decision(checked.count, hand.records, h, reply);
     match d {
         Decided::N1 => refused(h, cursor),
-        Decided::Moves(m) => made(bundle, checked, cursor, h, m),
+        Decided::Moves(m) => {
+            let action = m.action;
+            let body = body_at(table, entry_of(action));
+            made(bundle, body, cursor, h, m)
+        }
     }
 }

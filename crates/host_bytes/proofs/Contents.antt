@@ -1,19 +1,25 @@
 -- The contents of a checked bundle, and the cursor, as they are written and read. Assumes nothing.
 use mathlib.Core.Path.{_≡_, refl, sym, ap, ap₂, _∙_}
+use mathlib.Core.Bool.{Bool, true, false, cond, _&&_}
 use mathlib.Core.List.{List, [], _∷_, _++_, map}
-use Prim.Native.Nat.{ℕ, zero, suc, _+_, _*_, _-_, _^_, _<_, _≤_}
+use Prim.Native.Nat.{ℕ, zero, suc, _+_, _*_, _^_, _<_, _≤_}
+use native.Mathlib.Nat.{add-zero, add-suc}
 use native.Mathlib.Omega.{arith}
-use lib.ListN.{length, getD, set, take, drop, length-append, replicate}
-use lib.Seq.{take-all, drop-drop}
-use Rattle.wire.specs.Bytes.{number, bytesOf, bytesAt, copyOf}
-use Rattle.wire.proofs.Pieces.{put-more, piece-written, read-more, read-all}
-use Rattle.wire.proofs.words.Laws.{round}
+use borrow.Author.Tests.{eq-eqb, ltb-false}
+use lib.Dec.{eqb, ltb}
+use lib.ListN.{length, getD, take, drop, length-append, length-drop, drop-of-length-le, take-append-drop, List·getD-eq-default}
+use lib.Seq.{take-all, drop-drop, getD-drop}
+use Rattle.wire.specs.Bytes.{Bytes, number, bytesOf, bytesAt, copyOf}
+use Rattle.wire.proofs.Pieces.{put-more, piece-written, read-sized, read-at}
+use Rattle.wire.proofs.words.Laws.{round, back, split}
 use Rattle.offers.specs.Offer.{blankOffer}
 use Rattle.layout.specs.Rows.{served}
 use Rattle.bundle.specs.Contents.{Contents}
 use Rattle.layout.specs.Layout.{blankEntry}
 use Rattle.layout.specs.declared.Entry.{Entry}
-use Rattle.host_bytes.specs.Layout.{BODY-SIZE, CURSOR-START, CONTENTS-SIZE, bodyBytes, bodiesBytes, contentsBytes, bodyIn, bodiesIn, contentsIn, cursorIn}
+use Rattle.host_record.specs.Fits.{listedAt, recordsOn, bodyOf, UpToSeven}
+use Rattle.host_record.specs.declared.fits.Body.{Body}
+use Rattle.host_bytes.specs.Layout.{BODY-SIZE, CURSOR-START, CONTENTS-SIZE, bodyBytes, bodiesBytes, contentsBytes, bodyIn, bodiesIn, contentsIn, bodyRead, cursorIn, withCursor}
 
 -- one body more is written
 pub body-written : (out front s last : List ℕ) (table : List Entry) (i k : ℕ) → i < 7 → length table ≡ 7 → length out ≡ CONTENTS-SIZE → k ≡ BODY-SIZE
@@ -43,17 +49,60 @@ contents-of out s last c cursor k e whole f g h =
     let w = put-more out s last CURSOR-START 8 k e (ap length g) (omega arith) h in
     sym (take-all (CURSOR-START + 8) _ (omega (arith, w .0))) ∙ w .1 ∙ ap₂ (λ (u v : List ℕ). u ++ v) f g
 
--- one body more is read
-pub body-read : (i : ℕ) (q : List ℕ) (l : List Entry) (x : Entry) → i < 7 → length l ≡ 7 → take i l ≡ bodiesIn i (drop 1 q) → x ≡ bodyIn (drop (1 + i * BODY-SIZE) q)
-    → take (i + 1) (set l i x) ≡ bodiesIn (i + 1) (drop 1 q)
-unfolding bodiesIn
-body-read i q l x h seven e f =
-    read-more BODY-SIZE bodyIn bodiesIn (λ q. refl) (λ n q. refl) i (drop 1 q) l x (omega arith) e (f ∙ ap bodyIn (sym (drop-drop (i * BODY-SIZE) 1 q)))
+-- the body that stands in bytes from a place on
+abbrev pub bodyFrom : ℕ → List ℕ → Body
+bodyFrom at q = record { start = number (bytesAt 4 at q); end = number (bytesAt 4 at q) + number (bytesAt 4 (at + 4) q); records = number (bytesAt 4 (at + 8) q) }
 
--- all of them are read
-pub bodies-read : (i : ℕ) (q : List ℕ) (l : List Entry) → i ≡ 7 → length l ≡ 7 → take i l ≡ bodiesIn i q → l ≡ bodiesIn 7 q
-unfolding bodiesIn
-bodies-read i q l = read-all BODY-SIZE bodyIn bodiesIn (λ q. refl) (λ n q. refl) i 7 q l
+-- bytes of what follows a place
+after : (k n i : ℕ) (q : List ℕ) → bytesAt k i (drop n q) ≡ bytesAt k (n + i) q
+after zero n i q = refl
+after (suc k) n i q = ap₂ (λ (x : ℕ) (l : List ℕ). x ∷ l) (getD-drop n q i 0) (after k n (suc i) q ∙ ap (λ (m : ℕ). bytesAt k m q) (add-suc n i))
+
+abbrev bodyNumbers : (offset length records : ℕ) → Body
+bodyNumbers offset length records = record { start = offset; end = offset + length; records = records }
+
+-- one of the seven bodies, from its bytes
+pub body-listed : (q : List ℕ) (i : ℕ) → i < 7 → bodyOf (contentsIn q) i ≡ bodyFrom (1 + i * BODY-SIZE) q
+unfolding contentsIn bodiesIn
+body-listed q i h =
+    let n = 1 + i * BODY-SIZE in
+    let e = read-at BODY-SIZE bodyIn bodiesIn (λ q. refl) (λ n q. refl) 7 i (drop 1 q) blankEntry h ∙ ap bodyIn (drop-drop (i * BODY-SIZE) 1 q) in
+    let x : number (bytesAt 4 0 (drop n q)) ≡ number (bytesAt 4 n q) = ap number (after 4 n 0 q ∙ ap (λ (m : ℕ). bytesAt 4 m q) (add-zero n)) in
+    let y : number (bytesAt 4 4 (drop n q)) ≡ number (bytesAt 4 (n + 4) q) = ap number (after 4 n 4 q) in
+    let z : number (bytesAt 4 8 (drop n q)) ≡ number (bytesAt 4 (n + 8) q) = ap number (after 4 n 8 q) in
+    ap (λ (l : Entry). bodyNumbers (l .offset) (l .length) (l .records)) e ∙ ap (λ (m : ℕ). bodyNumbers m (number (bytesAt 4 4 (drop n q))) (number (bytesAt 4 8 (drop n q)))) x
+    ∙ ap₂ (bodyNumbers (number (bytesAt 4 n q))) y z
+
+-- there are seven
+past : (q : List ℕ) (i : ℕ) → 7 ≤ i → listedAt (contentsIn q) i ≡ blankEntry
+unfolding contentsIn bodiesIn
+past q i h =
+    List·getD-eq-default (bodiesIn 7 (drop 1 q)) blankEntry {n = i} (omega (arith, read-sized BODY-SIZE bodyIn bodiesIn (λ q. refl) (λ n q. refl) 7 (drop 1 q)))
+
+-- past them there is none
+pub up-to-seven : (q : List ℕ) → UpToSeven (recordsOn (contentsIn q))
+unfolding contentsIn bodiesIn
+up-to-seven q i h = ap (λ (e : Entry). e .records) (past q i h)
+
+-- the body of any entry of the contents: past the seventh it is empty
+pub body-read : (q : List ℕ) (i : ℕ) → length q ≡ CONTENTS-SIZE → bodyRead q i ≡ bodyOf (contentsIn q) i
+unfolding bodyRead
+body-read q i whole = go (ltb i 7) refl
+  where
+    sized : eqb (length q) CONTENTS-SIZE ≡ true
+    sized = eq-eqb (length q) CONTENTS-SIZE whole
+
+    go : (t : Bool) → ltb i 7 ≡ t → cond (eqb (length q) CONTENTS-SIZE && ltb i 7) (bodyOf (contentsIn q) i) (bodyNumbers 0 0 0) ≡ bodyOf (contentsIn q) i
+    go true e = rw (sized, e)
+    go false e = rw (sized, e) (sym (ap (λ (l : Entry). bodyNumbers (l .offset) (l .length) (l .records)) (past q i (ltb-false i 7 e))))
+
+-- the cursor that stands in contents is written again
+pub cursor-same : (q : List ℕ) → Bytes q → length q ≡ CONTENTS-SIZE → withCursor q (cursorIn q) ≡ q
+cursor-same q bytes whole =
+    let r = drop CURSOR-START q in
+    let l : length r ≡ 8 = omega (arith, length-drop CURSOR-START q) in
+    let e : r ≡ bytesAt 8 CURSOR-START q = split 8 r (omega arith) ∙ ap (λ (t : List ℕ). bytesAt 8 0 r ++ t) (drop-of-length-le r {i = 8} (omega arith)) ∙ after 8 CURSOR-START 0 q in
+    ap (λ (t : List ℕ). take CURSOR-START q ++ t) (back 8 CURSOR-START q bytes ∙ sym e) ∙ take-append-drop CURSOR-START q
 
 -- an entry without its offer, and contents with such entries
 abbrev pub bareEntry : Entry → Entry

@@ -1,16 +1,17 @@
 -- The host's record as bytes: every record is bytes of the one length and reads back; bytes that are no record's are read as a record that N1
 -- refuses. Assumes nothing.
 use mathlib.Core.Path.{_≡_, refl, sym, ap, ap₂, _∙_}
-use mathlib.Core.Bool.{Bool, true, false, cond, _||_}
+use mathlib.Core.Bool.{Bool, true, false, cond, _||_, _&&_}
 use mathlib.Core.List.{List, [], _∷_, _++_}
-use Prim.Native.Nat.{ℕ, zero, suc, _+_, _*_, _/_, _%_, _^_, _<_}
+use Prim.Native.Nat.{ℕ, _+_, _%_, _^_, _<_, _≤_}
 use native.Mathlib.Omega.{arith}
+use borrow.Author.Tests.{eq-eqb}
 use lib.Dec.{eqb, leb, ltb}
-use lib.ListN.{length, getD}
+use lib.ListN.{length, getD, drop-of-length-le}
 use Rattle.wire.specs.Bytes.{Bytes, number, bytesOf, bytesAt, same}
 use Rattle.wire.proofs.Bounds.{cons-bytes, join-bytes, no-bytes, word-bytes, word-fits}
-use Rattle.wire.proofs.words.Laws.{round}
-use Rattle.wire.proofs.words.Sames.{same-refl, same-eq}
+use Rattle.wire.proofs.words.Laws.{round, back, split}
+use Rattle.wire.proofs.words.Sames.{same-refl, same-eq, same-sized}
 use Rattle.layout.specs.Layout.{countIn}
 use Rattle.host_record.specs.Record.{FitsEnd, FitsHostStage, FitsHost}
 use Rattle.host.specs.Step.{breaksN1}
@@ -50,10 +51,47 @@ record-of h s m p n x y e f g k u v =
     (ap (λ (l : List ℕ). h .token ∷ l ++ (bytesOf 4 (h .mask) ++ (bytesOf 4 (h .packets) ++ (bytesOf 4 (h .passes) ++ flagByte (h .skipped) ∷ flagByte (h .landed) ∷ []))))
     (ap (bytesAt 9 0) e ∙ stage-nine (h .stage)))
 
--- the fields that stand in the bytes, where they are written again, and otherwise the lost record
-pub judged : (b again : List ℕ) (h : Host) (t : Bool) → h ≡ hostIn b → again ≡ hostBytes h → t ≡ same again b → cond t h lostHost ≡ readHost b
+-- a record is as many bytes as its stage has, and 15
+pub host-length : (h : Host) → length (hostBytes h) ≡ HOST-SIZE
+unfolding hostBytes
+host-length h = rw (← stage-nine (h .stage))
+
+-- bytes of another length are no record's
+pub other-length : (b : List ℕ) → (length b ≡ HOST-SIZE → ⊥) → lostHost ≡ readHost b
 unfolding readHost
-judged b again h t e f g = rw (g, f, e)
+other-length b h = rw (same-sized (hostBytes (hostIn b)) b (λ s. h (sym s ∙ host-length (hostIn b))))
+
+-- the fields that stand in the bytes, where they are written again, and otherwise the lost record
+pub judged : (b : List ℕ) (h : Host) (t : Bool) → h ≡ hostIn b → t ≡ same (hostBytes (hostIn b)) b → cond t h lostHost ≡ readHost b
+unfolding readHost
+judged b h t e f = rw (f, e)
+
+-- tests in a row
+self : (n : ℕ) → eqb n n ≡ true
+self n = eq-eqb n n refl
+
+grouped : (x y z : Bool) → ((x && y) && z) ≡ (x && (y && z))
+grouped true y z = refl
+grouped false y z = refl
+
+ending : (x : Bool) → (x && true) ≡ x
+ending true = refl
+ending false = refl
+
+-- 24 bytes, each by its place
+places : (b : List ℕ) → length b ≡ HOST-SIZE → b ≡ bytesAt HOST-SIZE 0 b
+places b h =
+    let l : length b ≤ HOST-SIZE = omega arith in split HOST-SIZE b (omega arith) ∙ rw (drop-of-length-le b l)
+
+-- bytes are a record's where those of the stage and of the flags are
+pub tidy : (b s : List ℕ) (x y : ℕ) → Bytes b → length b ≡ HOST-SIZE → s ≡ stageBytes (hostIn b .stage) → x ≡ flagByte (hostIn b .skipped) → y ≡ flagByte (hostIn b .landed)
+    → ((((((((((eqb (getD s 0 0) (getD b 1 0) && eqb (getD s 1 0) (getD b 2 0)) && eqb (getD s 2 0) (getD b 3 0)) && eqb (getD s 3 0) (getD b 4 0))
+    && eqb (getD s 4 0) (getD b 5 0)) && eqb (getD s 5 0) (getD b 6 0)) && eqb (getD s 6 0) (getD b 7 0)) && eqb (getD s 7 0) (getD b 8 0))
+    && eqb (getD s 8 0) (getD b 9 0)) && eqb x (getD b 22 0)) && eqb y (getD b 23 0)) ≡ same (hostBytes (hostIn b)) b
+unfolding hostIn same
+tidy b s x y bytes h e f g =
+    let w = record-of (hostIn b) s (bytesAt 4 10 b) (bytesAt 4 14 b) (bytesAt 4 18 b) x y e (sym (back 4 10 b bytes)) (sym (back 4 14 b bytes)) (sym (back 4 18 b bytes)) f g in
+    (simp (self, grouped, ending)) ∙ ap₂ same w (sym (places b h))
 
 -- the parts of a record are bytes
 words-bytes : (n a b : ℕ) → n < 256 → Bytes (n ∷ bytesOf 4 a ++ bytesOf 4 b)
@@ -76,11 +114,6 @@ stage-bytes (Ended end.Busy) = words-bytes 7 4 0 (omega arith)
 flag-byte : (x : Bool) → flagByte x < 256
 flag-byte false = omega arith
 flag-byte true = omega arith
-
--- a record is as many bytes as its stage has, and 15
-pub host-length : (h : Host) → length (hostBytes h) ≡ HOST-SIZE
-unfolding hostBytes
-host-length h = rw (← stage-nine (h .stage))
 
 -- every record is bytes of the one length
 pub host-sized : HostSized

@@ -1,15 +1,17 @@
 -- The host's record as bytes of a fixed length, little-endian, for whoever keeps it outside of Rattle; and the contents of a checked bundle with the cursor
 -- of the inner step, as bytes.
 use Prim.Native.Nat.{ℕ, zero, suc, _+_, _*_, _-_, _^_, _%_}
-use mathlib.Core.Bool.{Bool, true, false, cond}
+use mathlib.Core.Bool.{Bool, true, false, cond, _&&_}
 use mathlib.Core.List.{List, [], _∷_, _++_}
-use lib.Dec.{eqb}
-use lib.ListN.{getD, take, drop}
+use lib.Dec.{eqb, ltb}
+use lib.ListN.{length, getD, take, drop}
 use Rattle.wire.specs.Bytes.{number, bytesOf, bytesAt, same}
 use Rattle.offers.specs.Offer.{blankOffer}
 use Rattle.layout.specs.Rows.{served}
 use Rattle.bundle.specs.Contents.{Contents}
 use Rattle.layout.specs.declared.Entry.{Entry}
+use Rattle.host_record.specs.Fits.{bodyOf}
+use Rattle.host_record.specs.declared.fits.Body.{Body}
 use Rattle.host_record.specs.declared.record.Host.{Host}
 use Rattle.host_record.specs.declared.record.HostStage.{HostStage}
 use Rattle.host_record.specs.declared.record.HostStage.the-variants.{Fresh, Opening, Listing, Offering, Waiting, Sending, Closing, Ended}
@@ -117,6 +119,10 @@ bodiesIn (suc n) q = bodyIn q ∷ bodiesIn n (drop BODY-SIZE q)
 
 unfoldable pub contentsIn : List ℕ → Contents
 contentsIn q = record { row = served; place = 0; count = getD q 0 0; table = bodiesIn 7 (drop 1 q) }
+
+-- the body of an entry of these; past the seventh it is empty, and so in bytes that are no contents
+unfoldable pub bodyRead : List ℕ → ℕ → Body
+bodyRead q i = cond (eqb (length q) CONTENTS-SIZE && ltb i 7) (bodyOf (contentsIn q) i) (record { start = 0; end = 0; records = 0 })
 
 abbrev pub cursorIn : List ℕ → ℕ
 cursorIn q = number (bytesAt 8 CURSOR-START q)

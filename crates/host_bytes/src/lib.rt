@@ -1,16 +1,17 @@
 // The host's record as bytes of a fixed length, and a checked bundle's contents with the cursor, as bytes.
 ghost use mathlib.Core.Path.{_≡_};
 ghost use mathlib.Core.List.{_++_};
-ghost use lib.ListN.{take, drop};
+ghost use lib.ListN.{length, take};
+ghost use Prim.Native.Nat.{_+_, _≤_};
+ghost use Rattle.wire.specs.Bytes.{number, bytesAt, same};
 ghost use Rattle.bundle.specs.Contents.{toldChecked};
-ghost use Rattle.host_bytes.specs.Layout.{CURSOR-START, flagByte, hostBytes, hostIn, readHost, bodiesBytes, bodiesIn, contentsBytes, contentsIn, cursorIn, lostHost};
-use crate::body::body_at;
+ghost use Rattle.host_bytes.specs.Layout.{HOST-SIZE, BODY-SIZE, CURSOR-START, flagByte, hostBytes, hostIn, readHost, bodiesBytes, contentsBytes, cursorIn, bodyRead, lostHost};
 use crate::body::body_bytes;
 use crate::stage::stage_bytes;
 use crate::stage::stage_in;
+use host_record::fits::Body;
 use host_record::record::Host;
 use host_record::record::HostStage;
-use layout::BundleVerdict;
 use layout::Checked;
 use layout::Entry;
 use wire::words;
@@ -107,17 +108,35 @@ pub fn lost_host() -> Host
     }
 }
 
+// The stage's nine bytes and the two flags are as a record has them; every value of the other bytes is some record's.
+fn is_tidy(h: Host, b: &[u8]) -> bool
+    requires { ⌜ (length (now b) ≡ HOST-SIZE) × (h ≡ hostIn (now b)) ⌝ }
+    ensures { λ r. ⌜ r ≡ same (hostBytes (hostIn (now (b .entry)))) (now (b .entry)) ⌝ }
+{
+    let stage = h.stage;
+    let s = stage_bytes(stage);
+    (s[0] == b[1])
+        & (s[1] == b[2])
+        & (s[2] == b[3])
+        & (s[3] == b[4])
+        & (s[4] == b[5])
+        & (s[5] == b[6])
+        & (s[6] == b[7])
+        & (s[7] == b[8])
+        & (s[8] == b[9])
+        & (flag_byte(h.skipped) == b[22])
+        & (flag_byte(h.landed) == b[23])
+}
+
 // Bytes that are no record's, of whatever length, are read as a record that N1 refuses.
 pub fn read_host(b: &[u8]) -> Host
     ensures { λ r. ⌜ r ≡ readHost (now (b .entry)) ⌝ }
 {
-    let h = host_in(b);
-    let again = host_bytes(h);
-    if words::same(&again, b) {
-        h
-    } else {
-        lost_host()
+    if b.len() != HOST_SIZE {
+        return lost_host();
     }
+    let h = host_in(b);
+    if is_tidy(h, b) { h } else { lost_host() }
 }
 
 // The bodies, one after the other, after the first byte.
@@ -146,29 +165,40 @@ pub fn contents_bytes(c: Checked, cursor: usize) -> [u8; 93]
     out
 }
 
-fn bodies_in(q: &[u8]) -> [Entry; 7]
-    ensures { λ r. ⌜ r ≡ bodiesIn 7 (drop 1 (now (q .entry))) ⌝ }
+fn word_from(q: &[u8], at: usize) -> u32
+    requires { ⌜ at + 4 ≤ length (now q) ⌝ }
+    ensures { λ r. ⌜ r ≡ number (bytesAt 4 at (now (q .entry))) ⌝ }
 {
-    let first = body_at(q, 0);
-    let mut table = [first; 7];
-    let mut i = 0;
-    while i < 7 {
-        table[i] = body_at(q, 1 + i * BODY_SIZE);
-        i += 1;
-    }
-    table
+    words::word32(q[at], q[at + 1], q[at + 2], q[at + 3])
 }
 
-// What the bytes lack is zero.
-pub fn read_contents(q: &[u8]) -> Checked
-    ensures { λ r. ⌜ toldChecked r ≡ contentsIn (now (q .entry)) ⌝ }
+// Where the body of an entry stands, and how many records it has, from the twelve bytes of it.
+fn body_from(q: &[u8], at: usize) -> Body
+    requires { ⌜ at + BODY-SIZE ≤ length (now q) ⌝ }
+    ensures { λ r. ⌜ r ≡ record { start = number (bytesAt 4 at (now (q .entry))); end = number (bytesAt 4 at (now (q .entry))) + number (bytesAt 4 (at + 4) (now (q .entry))); records = number (bytesAt 4 (at + 8) (now (q .entry))) } ⌝ }
 {
-    let table = bodies_in(q);
-    Checked {
-        verdict: BundleVerdict::Fine,
-        place: 0,
-        count: words::byte_at(q, 0),
-        table,
+    let offset = word_from(q, at);
+    let length = word_from(q, at + 4);
+    let records = word_from(q, at + 8);
+    Body {
+        start: offset as usize,
+        end: (offset as u64) + (length as u64),
+        records,
+    }
+}
+
+// The body of an entry of the contents; past the seventh it is empty, and so in bytes that are no contents.
+pub fn read_body(q: &[u8], i: u32) -> Body
+    ensures { λ r. ⌜ r ≡ bodyRead (now (q .entry)) i ⌝ }
+{
+    if (q.len() == CONTENTS_SIZE) & (i < 7) {
+        body_from(q, 1 + (i as usize) * BODY_SIZE)
+    } else {
+        Body {
+            start: 0,
+            end: 0,
+            records: 0,
+        }
     }
 }
 

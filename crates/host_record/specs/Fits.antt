@@ -1,5 +1,6 @@
 -- Row N1 (document 01, "Numbered refusals"): a record that does not fit a bundle, by how many offers the bundle has and how many records their bodies have.
-use Prim.Native.Nat.{ℕ, _+_, _^_}
+use Prim.Native.Nat.{ℕ, _+_, _^_, _≤_}
+use mathlib.Core.Path.{_≡_}
 use mathlib.Core.Bool.{Bool, false, _||_}
 use lib.Dec.{ltb, leb, eqb}
 use lib.ListN.{getD}
@@ -9,6 +10,7 @@ use Rattle.bundle.specs.Contents.{Contents}
 use Rattle.host_record.specs.declared.record.Host.{Host}
 use Rattle.host_record.specs.declared.record.Turn.{Turn}
 use Rattle.host_record.specs.declared.record.Place.{Place}
+use Rattle.host_record.specs.declared.fits.Body.{Body}
 use Rattle.host_record.specs.declared.record.HostStage.{HostStage}
 use Rattle.host_record.specs.declared.record.HostStage.the-variants.{Fresh, Opening, Listing, Offering, Waiting, Sending, Closing, Ended}
 
@@ -64,3 +66,22 @@ listedAt c i = getD (c .table) i blankEntry
 
 abbrev pub recordsOn : Contents → ℕ → ℕ
 recordsOn c i = listedAt c i .records
+
+-- the body of an entry: where it starts and ends, and how many records it has
+abbrev pub bodyOf : Contents → ℕ → Body
+bodyOf c i = record { start = listedAt c i .offset; end = listedAt c i .offset + listedAt c i .length; records = recordsOn c i }
+
+-- the entry in hand, and 0 where there is none
+abbrev pub inHand : HostStage → ℕ
+inHand Fresh = 0
+inHand Opening = 0
+inHand Listing = 0
+inHand (Offering t) = t .entry
+inHand (Waiting t) = t .entry
+inHand (Sending p) = p .entry
+inHand Closing = 0
+inHand (Ended e) = 0
+
+-- no entry past the seventh has a record
+abbrev pub UpToSeven : (records : ℕ → ℕ) → Type 0
+UpToSeven records = (i : ℕ) → 7 ≤ i → records i ≡ 0

@@ -1,20 +1,20 @@
-// Row N1: a record that does not fit the bundle, told by its contents in constant time. And whether a block is the last of its body.
+// Row N1: a record that does not fit the bundle, told in constant time by how many offers it has and how many records the body in hand has. And whether a
+// block is the last of its body.
 ghost use mathlib.Core.Path.{_≡_};
 ghost use mathlib.Core.Bool.{false};
-ghost use Prim.Native.Nat.{_+_, _^_, _<_, _≤_};
+ghost use Prim.Native.Nat.{ℕ, _+_, _^_, _<_, _≤_};
 ghost use lib.Dec.{leb};
 ghost use lib.ListN.{getD};
 ghost use Rattle.layout.specs.Layout.{blankEntry};
-ghost use Rattle.bundle.specs.Contents.{toldChecked};
 ghost use Rattle.host_record.specs.Room.{Spare, RoomIn, Room};
-ghost use Rattle.host_record.specs.Fits.{turnBreaks, placeBreaks, stageBreaks, recordBreaks, isLastOf, lastOf, recordsOn};
+ghost use Rattle.host_record.specs.Fits.{turnBreaks, placeBreaks, stageBreaks, recordBreaks, isLastOf, lastOf, inHand, UpToSeven};
 use crate::record::Host;
 use crate::record::HostStage;
 use crate::record::PACKET_LIMIT;
 use crate::record::Place;
 use crate::record::Turn;
-use layout::Checked;
 use layout::Entry;
+use layout::limits::OFFER_LIMIT;
 
 // The most BUSY replies that one offer survives in one pass.
 pub const BUSY_LIMIT: u32 = 8;
@@ -61,26 +61,24 @@ fn turn_breaks(n: u8, t: Turn) -> bool
 }
 
 // N1: points at an entry or a body record that the bundle lacks.
-fn place_breaks(c: Checked, p: Place) -> bool
-    ensures { λ r. ⌜ r ≡ placeBreaks (c .count) (recordsOn (toldChecked c)) p ⌝ }
+fn place_breaks(n: u8, k: u32, p: Place) -> bool
+    ensures { λ r. ⌜ ((records : ℕ → ℕ) → UpToSeven records → records (p .entry) ≡ k → r ≡ placeBreaks n records p) ⌝ }
     ensures { λ r. ⌜ (r ≡ false → (p .entry < 32) × Spare (p .block)) ⌝ }
 {
-    let table = c.table;
-    let b = body_at(table, p.entry);
-    (c.count as u32 <= p.entry) | (b.records <= p.block)
+    (n as u32 <= p.entry) | ((OFFER_LIMIT as u32 <= p.entry) | (k <= p.block))
 }
 
-fn stage_breaks(c: Checked, stage: HostStage) -> bool
-    ensures { λ r. ⌜ r ≡ stageBreaks (c .count) (recordsOn (toldChecked c)) stage ⌝ }
+fn stage_breaks(n: u8, k: u32, stage: HostStage) -> bool
+    ensures { λ r. ⌜ ((records : ℕ → ℕ) → UpToSeven records → records (inHand stage) ≡ k → r ≡ stageBreaks n records stage) ⌝ }
     ensures { λ r. ⌜ (r ≡ false → RoomIn stage) ⌝ }
 {
     match stage {
         HostStage::Fresh => false,
         HostStage::Opening => false,
         HostStage::Listing => false,
-        HostStage::Offering(t) => turn_breaks(c.count, t),
-        HostStage::Waiting(t) => turn_breaks(c.count, t),
-        HostStage::Sending(p) => place_breaks(c, p),
+        HostStage::Offering(t) => turn_breaks(n, t),
+        HostStage::Waiting(t) => turn_breaks(n, t),
+        HostStage::Sending(p) => place_breaks(n, k, p),
         HostStage::Closing => false,
         HostStage::Ended(_) => false,
     }
@@ -98,27 +96,25 @@ fn mask_breaks(n: u8, mask: u32) -> bool
 }
 
 // N1: .. more passes than offers, 2^31 or more packets, or a mask bit past its offers. A record that passes has room to go on.
-pub fn breaks(c: Checked, h: Host) -> bool
-    ensures { λ r. ⌜ r ≡ recordBreaks (c .count) (recordsOn (toldChecked c)) h ⌝ }
+pub fn breaks(n: u8, k: u32, h: Host) -> bool
+    ensures { λ r. ⌜ ((records : ℕ → ℕ) → UpToSeven records → records (inHand (h .stage)) ≡ k → r ≡ recordBreaks n records h) ⌝ }
     ensures { λ r. ⌜ (r ≡ false → Room h × RoomIn (h .stage)) ⌝ }
 {
     let stage = h.stage;
-    let points = stage_breaks(c, stage);
-    let masked = mask_breaks(c.count, h.mask);
-    points | (((c.count as u32) < h.passes) | ((PACKET_LIMIT <= h.packets) | masked))
+    let points = stage_breaks(n, k, stage);
+    let masked = mask_breaks(n, h.mask);
+    points | (((n as u32) < h.passes) | ((PACKET_LIMIT <= h.packets) | masked))
 }
 
-// The block in hand is the last of its body.
-pub fn is_last(c: Checked, p: Place) -> bool
-    ensures { λ r. ⌜ r ≡ isLastOf (recordsOn (toldChecked c)) p ⌝ }
+// The block in hand is the last of its body, which has k records.
+pub fn is_last(k: u32, p: Place) -> bool
+    ensures { λ r. ⌜ ((records : ℕ → ℕ) → records (p .entry) ≡ k → r ≡ isLastOf records p) ⌝ }
 {
-    let table = c.table;
-    let b = body_at(table, p.entry);
-    (p.block as u64) + 1 == b.records as u64
+    (p.block as u64) + 1 == k as u64
 }
 
-pub fn last_in(c: Checked, stage: HostStage) -> bool
-    ensures { λ r. ⌜ r ≡ lastOf (recordsOn (toldChecked c)) stage ⌝ }
+pub fn last_in(k: u32, stage: HostStage) -> bool
+    ensures { λ r. ⌜ ((records : ℕ → ℕ) → records (inHand stage) ≡ k → r ≡ lastOf records stage) ⌝ }
 {
     match stage {
         HostStage::Fresh => false,
@@ -126,8 +122,24 @@ pub fn last_in(c: Checked, stage: HostStage) -> bool
         HostStage::Listing => false,
         HostStage::Offering(_) => false,
         HostStage::Waiting(_) => false,
-        HostStage::Sending(p) => is_last(c, p),
+        HostStage::Sending(p) => is_last(k, p),
         HostStage::Closing => false,
         HostStage::Ended(_) => false,
+    }
+}
+
+// The entry in hand, and 0 where there is none.
+pub fn in_hand(stage: HostStage) -> u32
+    ensures { λ r. ⌜ r ≡ inHand stage ⌝ }
+{
+    match stage {
+        HostStage::Fresh => 0,
+        HostStage::Opening => 0,
+        HostStage::Listing => 0,
+        HostStage::Offering(t) => t.entry,
+        HostStage::Waiting(t) => t.entry,
+        HostStage::Sending(p) => p.entry,
+        HostStage::Closing => 0,
+        HostStage::Ended(_) => 0,
     }
 }

@@ -17,8 +17,9 @@ use Rattle.host_record.specs.Fits.{isLastOf, listedAt, recordsOn}
 use Rattle.decide.specs.declared.Action.{Action}
 use Rattle.decide.specs.declared.Action.the-variants as action
 use Rattle.make.specs.declared.answer.InnerAnswer.{InnerAnswer}
+use Rattle.make.specs.declared.answer.Written.{Written}
 use Rattle.make.specs.Packet.{blockBytes}
-use Rattle.make.specs.Answer.{served, N, Step, filled, refusedBy, told}
+use Rattle.make.specs.Answer.{served, N, Step, filled, refusedBy, sentBy, told}
 
 -- where a body ends, and where the record of a block starts: at the body's start, or at the cursor
 abbrev pub bodyEnd : Contents → Place → ℕ
@@ -59,3 +60,13 @@ madeOf b c cursor before after (action.Block p) =
 -- what an answer tells
 abbrev pub toldInner : InnerAnswer → InnerStep
 toldInner a = record { step = told (a .step); cursor = a .cursor }
+
+-- what was laid into a packet of 60 bytes, as a step: the next record and what is sent, or N1
+abbrev pub writtenStep : Written → (packet : List ℕ) → (before after : Host) → InnerStep
+writtenStep w packet before after = record {
+  step =
+      cond (w .served)
+      (record { row = served; sent = sentBy (w .sent) packet; packet = packet; host = after })
+      (record { row = N 1; sent = []; packet = packet; host = before });
+  cursor = w .cursor;
+}

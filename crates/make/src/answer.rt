@@ -25,6 +25,13 @@ pub struct StepAnswer {
     pub host: Host,
 }
 
+// What was laid into the packet: whether the step is served, what is sent, and the place of the record after the one in hand.
+pub struct Written {
+    pub served: bool,
+    pub sent: Sent,
+    pub cursor: usize,
+}
+
 // What the inner step answers: a step, and the place of the record after the one in hand.
 pub struct InnerAnswer {
     pub step: StepAnswer,

@@ -11,6 +11,19 @@ use Rattle.session.specs.declared.effect.Effect.{Effect}
 use Rattle.offering.specs.Offer.{onOffer}
 use Rattle.offering.specs.Signal.{onInformation, onExtended}
 
+-- the id of the component that a packet is for, and of the one that it needs; 0 where it is no offer
+abbrev pub idOf : OfferPacket → ℕ
+idOf Refused = 0
+idOf (Offer o) = o .id
+idOf (Information s) = 0
+idOf (Extended s) = 0
+
+abbrev pub needOf : OfferPacket → ℕ
+needOf Refused = 0
+needOf (Offer o) = o .need
+needOf (Information s) = 0
+needOf (Extended s) = 0
+
 abbrev pub onKind : (platform count : ℕ) → List Component → Session → Kind → Effect
 onKind platform count parts session (offer o) = onOffer platform count parts session o
 onKind platform count parts session (information s) = onInformation session s

@@ -1,16 +1,17 @@
-// Checks 1 to 9 of an offer (document 01, "The device"), over a device's platform, components and stage.
+// Checks 1 to 9 of an offer (document 01, "The device"), over a device's platform and stage, the component that it is for and the one that it needs.
 use crate::verdict::OfferVerdict;
-use component::list::find;
-use component::record::Component;
 use component::rule::VersionVerdict;
 use offers::offer::OfferFields;
 use session::stage::Stage;
 use slots::slot::is_absent;
-use slots::slot::part_at;
 use slots::slot::slot_of;
+use slots::standing::Standing;
 use wire::codes;
 ghost use mathlib.Core.Path.{_≡_};
-ghost use mathlib.Core.List.{[], _∷_};
+ghost use mathlib.Core.List.{List, [], _∷_};
+ghost use Prim.Native.Nat.{ℕ};
+ghost use Rattle.component.specs.declared.record.Component.{Component};
+ghost use Rattle.slots.specs.Standing.{standingOf};
 ghost use Rattle.wire.specs.Checks.{firstOf};
 ghost use Rattle.wire.specs.Codes.{REJECT-OLD-FW, REJECT-INV-COMPONENT, REJECT-SWAP-PENDING, REJECT-WRONG-PROTOCOL, REJECT-WRONG-SEGMENT};
 ghost use Rattle.offering.specs.Offer.{isOld, needUnmet, offerVerdict};
@@ -81,11 +82,11 @@ fn is_old(v: VersionVerdict) -> bool
 }
 
 // Check 8: that component is absent, or its effective version is below.
-fn need_unmet(count: u8, parts: [Component; 7], o: OfferFields) -> bool
-    ensures { λ r. ⌜ r ≡ needUnmet count parts o ⌝ }
+fn need_unmet(needed: Standing, o: OfferFields) -> bool
+    ensures { λ r. ⌜ ((count : ℕ) → (parts : List Component) → standingOf (o .need) count parts ≡ needed → r ≡ needUnmet count parts o) ⌝ }
 {
-    let f = find(parts, count, o.need);
-    let part = part_at(parts, slot_of(f));
+    let f = needed.at;
+    let part = needed.part;
     let version = part.effective();
     (o.need != 0) & (is_absent(f) | (version.release() < o.least))
 }
@@ -93,22 +94,22 @@ fn need_unmet(count: u8, parts: [Component; 7], o: OfferFields) -> bool
 // Checks 1 to 9.
 pub fn judge_offer(
     platform: u16,
-    count: u8,
-    parts: [Component; 7],
     stage: Stage,
+    target: Standing,
+    needed: Standing,
     o: OfferFields,
 ) -> OfferVerdict
-    ensures { λ r. ⌜ r ≡ offerVerdict platform count parts stage o ⌝ }
+    ensures { λ r. ⌜ ((count : ℕ) → (parts : List Component) → standingOf (o .id) count parts ≡ target → standingOf (o .need) count parts ≡ needed → r ≡ offerVerdict platform count parts stage o) ⌝ }
 {
     let version = o.version;
-    let f = find(parts, count, o.id);
+    let f = target.at;
     let slot = slot_of(f);
-    let part = part_at(parts, slot);
+    let part = target.part;
     let busy = stage.is_open();
     let absent = is_absent(f);
     let pending = part.is_pending();
     let old = is_old(part.offer_version(version));
-    let need = need_unmet(count, parts, o);
+    let need = need_unmet(needed, o);
     let checks = OfferChecks {
         busy,
         protocol: o.protocol != codes::PROTOCOL,

@@ -1,7 +1,6 @@
 // The answer to an offer (document 01, "The device"): the reply of its verdict, and the session afterwards.
 use crate::checks::judge_offer;
 use crate::verdict::OfferVerdict;
-use component::record::Component;
 use offers::offer::OfferFields;
 use offers::reply::OfferReply;
 use offers::reply::build_offer_reply;
@@ -10,7 +9,12 @@ use session::effect::Session;
 use session::owed::Owed;
 use session::stage::Offered;
 use session::stage::Stage;
+use slots::standing::Standing;
 ghost use mathlib.Core.Path.{_≡_};
+ghost use mathlib.Core.List.{List};
+ghost use Prim.Native.Nat.{ℕ};
+ghost use Rattle.component.specs.declared.record.Component.{Component};
+ghost use Rattle.slots.specs.Standing.{standingOf};
 ghost use Rattle.offering.specs.Offer.{afterOffer, onOffer};
 
 // ACCEPT makes the session offered; any other verdict changes nothing.
@@ -25,18 +29,18 @@ fn after_offer(session: Session, token: u8, verdict: OfferVerdict) -> Session
     }
 }
 
-// An offer to a device of this platform with these components.
+// An offer to a device of this platform, with the component that it is for and the one that it needs.
 pub fn on_offer(
     platform: u16,
-    count: u8,
-    parts: [Component; 7],
     session: Session,
+    target: Standing,
+    needed: Standing,
     o: OfferFields,
 ) -> Effect
-    ensures { λ r. ⌜ r ≡ onOffer platform count parts session o ⌝ }
+    ensures { λ r. ⌜ ((count : ℕ) → (parts : List Component) → standingOf (o .id) count parts ≡ target → standingOf (o .need) count parts ≡ needed → r ≡ onOffer platform count parts session o) ⌝ }
 {
     let stage = session.stage;
-    let verdict = judge_offer(platform, count, parts, stage, o);
+    let verdict = judge_offer(platform, stage, target, needed, o);
     let reply = build_offer_reply(OfferReply {
         token: o.token,
         reason: verdict.reason(),

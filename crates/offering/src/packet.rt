@@ -2,26 +2,54 @@
 use crate::offer::on_offer;
 use crate::signal::on_extended;
 use crate::signal::on_information;
-use component::record::Component;
 use offers::kind::OfferPacket;
 use session::effect::Effect;
 use session::effect::Session;
+use slots::standing::Standing;
 ghost use mathlib.Core.Path.{_≡_};
-ghost use Rattle.offering.specs.Packet.{onPacket};
+ghost use mathlib.Core.List.{List};
+ghost use Prim.Native.Nat.{ℕ};
+ghost use Rattle.component.specs.declared.record.Component.{Component};
+ghost use Rattle.slots.specs.Standing.{standingOf};
+ghost use Rattle.offering.specs.Packet.{idOf, needOf, onPacket};
 
-// A packet to a device of this platform with these components.
+// The id of the component that a packet is for; 0, which none has, where it is no offer.
+pub fn id_of(p: OfferPacket) -> u8
+    ensures { λ r. ⌜ r ≡ idOf p ⌝ }
+{
+    match p {
+        OfferPacket::Refused => 0,
+        OfferPacket::Offer(o) => o.id,
+        OfferPacket::Information(_) => 0,
+        OfferPacket::Extended(_) => 0,
+    }
+}
+
+// The id of the component that it needs, or 0.
+pub fn need_of(p: OfferPacket) -> u8
+    ensures { λ r. ⌜ r ≡ needOf p ⌝ }
+{
+    match p {
+        OfferPacket::Refused => 0,
+        OfferPacket::Offer(o) => o.need,
+        OfferPacket::Information(_) => 0,
+        OfferPacket::Extended(_) => 0,
+    }
+}
+
+// A packet to a device of this platform, with the component that it is for and the one that it needs.
 pub fn on_packet(
     platform: u16,
-    count: u8,
-    parts: [Component; 7],
     session: Session,
+    target: Standing,
+    needed: Standing,
     p: OfferPacket,
 ) -> Effect
-    ensures { λ r. ⌜ r ≡ onPacket platform count parts session p ⌝ }
+    ensures { λ r. ⌜ ((count : ℕ) → (parts : List Component) → standingOf (idOf p) count parts ≡ target → standingOf (needOf p) count parts ≡ needed → r ≡ onPacket platform count parts session p) ⌝ }
 {
     match p {
         OfferPacket::Refused => session.silent(),
-        OfferPacket::Offer(o) => on_offer(platform, count, parts, session, o),
+        OfferPacket::Offer(o) => on_offer(platform, session, target, needed, o),
         OfferPacket::Information(s) => on_information(session, s),
         OfferPacket::Extended(s) => on_extended(session, s),
     }

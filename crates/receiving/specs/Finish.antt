@@ -13,7 +13,13 @@ use Rattle.component.specs.Record.{withStaged}
 use Rattle.component.specs.Versions.{imageVersionFits}
 use Rattle.component.specs.declared.record.Component.{Component}
 use Rattle.session.specs.Effect.{idle}
-use Rattle.receiving.specs.declared.finish.Finished.{Finished}
+use Rattle.session.specs.declared.effect.Session.{Session}
+
+-- what a finished image comes to: the status of its reply, and the components and the session afterwards
+pub record Finished : Type 0 where
+  pub status : ℕ
+  pub parts : List Component
+  pub session : Session
 
 -- failure: idle, not pending
 abbrev pub fails : (status : ℕ) → List Component → Finished

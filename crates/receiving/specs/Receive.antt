@@ -17,9 +17,13 @@ use Rattle.session.specs.declared.effect.Session.{Session}
 use Rattle.session.specs.declared.effect.Effect.{Effect}
 use Rattle.receiving.specs.declared.checks.ContentVerdict.{ContentVerdict}
 use Rattle.receiving.specs.declared.checks.ContentVerdict.the-variants.{Refuse, Take}
-use Rattle.receiving.specs.declared.content.Received.{Received}
 use Rattle.receiving.specs.Content.{isLast, contentVerdict, takeBlock}
 use Rattle.receiving.specs.Finish.{finish}
+
+-- what a content packet does, and the components afterwards
+pub record Received : Type 0 where
+  pub effect : Effect
+  pub parts : List Component
 
 -- the reply to a block
 abbrev pub blockReply : (sequence status : ℕ) → Owed → Session → Effect

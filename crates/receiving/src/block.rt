@@ -1,14 +1,16 @@
 // The bytes of a taken block (document 01, "The device", check 6).
 use crate::checks::is_first;
-use component::record::Component;
-use contents::content::ContentFields;
+use contents::head::ContentHead;
 use image::region::Region;
-use slots::slot::part_at;
 ghost use mathlib.Core.Path.{_≡_};
 ghost use mathlib.Core.Bool.{cond};
-ghost use Prim.Native.Nat.{_≤_};
+ghost use mathlib.Core.List.{List};
+ghost use Prim.Native.Nat.{ℕ, min};
+ghost use lib.ListN.{length};
+ghost use Rattle.contents.specs.Head.{withData};
 ghost use Rattle.image.specs.Region.{eraseOf};
-ghost use Rattle.receiving.specs.Content.{takeBlock};
+ghost use Rattle.component.specs.declared.record.Component.{Component};
+ghost use Rattle.receiving.specs.Content.{window, takeBlock};
 
 // A first block erases the region.
 fn erase_on_first(region: Region, first: bool, staging: &mut [u8])
@@ -19,16 +21,20 @@ fn erase_on_first(region: Region, first: bool, staging: &mut [u8])
     }
 }
 
-// On first, fill the region with 0xFF; write the data.
-pub(crate) fn take_block(parts: [Component; 7], slot: u8, c: ContentFields, staging: &mut [u8])
-    requires { ⌜ c .length ≤ 52 ⌝ }
-    ensures { λ _. ⌜ now (staging .exit) ≡ takeBlock parts slot c (now (staging .entry)) ⌝ }
+// How many of n bytes of data count.
+fn counted(length: u8, n: usize) -> usize
+    ensures { λ r. ⌜ r ≡ min length n ⌝ }
 {
-    let part = part_at(parts, slot);
-    let region = part.region;
+    let most = length as usize;
+    if most <= n { most } else { n }
+}
+
+// On first, fill the region with 0xFF; write the data.
+pub(crate) fn take_block(region: Region, c: ContentHead, data: &[u8], staging: &mut [u8])
+    ensures { λ _. ⌜ ((parts : List Component) → (slot : ℕ) → window parts slot ≡ region → now (staging .exit) ≡ takeBlock parts slot (withData c (now («data» .entry))) (now (staging .entry))) ⌝ }
+{
     let address = c.address;
-    let data = c.data;
-    let n = c.length as usize;
+    let n = counted(c.length, data.len());
     erase_on_first(region, is_first(c), staging);
     region.write(address, staging, &data[0..n]);
 }

@@ -1,12 +1,18 @@
-// Checks 1 to 5 of a content packet (document 01, "The device"), over a device's components and stage.
-use component::record::Component;
-use contents::content::ContentFields;
+// Checks 1 to 5 of a content packet (document 01, "The device"), over the session's stage and the region of its component.
+use contents::head::ContentHead;
+use image::region::Region;
 use session::stage::Stage;
-use slots::slot::part_at;
 use slots::slot::slot_of;
 use wire::codes;
 ghost use mathlib.Core.Path.{_≡_};
-ghost use Rattle.receiving.specs.Content.{isFirst, isLast, noOffer, badShape, badFirst, badSequence, badAddress, contentVerdict};
+ghost use mathlib.Core.Bool.{not};
+ghost use mathlib.Core.List.{List, []};
+ghost use Prim.Native.Nat.{ℕ};
+ghost use Rattle.contents.specs.Head.{withData};
+ghost use Rattle.image.specs.Region.{holds};
+ghost use Rattle.component.specs.declared.record.Component.{Component};
+ghost use Rattle.session.specs.Stage.{atSlot};
+ghost use Rattle.receiving.specs.Content.{isFirst, isLast, window, noOffer, badShape, badFirst, badSequence, contentVerdict};
 
 // The most bytes of data in a block.
 const BLOCK_LIMIT: u8 = 52;
@@ -19,14 +25,14 @@ pub enum ContentVerdict {
     Take(u8),
 }
 
-pub(crate) fn is_first(c: ContentFields) -> bool
-    ensures { λ r. ⌜ r ≡ isFirst c ⌝ }
+pub(crate) fn is_first(c: ContentHead) -> bool
+    ensures { λ r. ⌜ r ≡ isFirst (withData c []) ⌝ }
 {
     codes::FLAG_FIRST_BLOCK <= c.flags
 }
 
-pub(crate) fn is_last(c: ContentFields) -> bool
-    ensures { λ r. ⌜ r ≡ isLast c ⌝ }
+pub(crate) fn is_last(c: ContentHead) -> bool
+    ensures { λ r. ⌜ r ≡ isLast (withData c []) ⌝ }
 {
     c.flags / codes::FLAG_LAST_BLOCK % 2 == 1
 }
@@ -39,15 +45,15 @@ fn no_offer(stage: Stage) -> bool
 }
 
 // Check 2: length 0 or over 52, or a flag bit other than the two.
-fn bad_shape(c: ContentFields) -> bool
-    ensures { λ r. ⌜ r ≡ badShape c ⌝ }
+fn bad_shape(c: ContentHead) -> bool
+    ensures { λ r. ⌜ r ≡ badShape (withData c []) ⌝ }
 {
     (c.length == 0) | (BLOCK_LIMIT < c.length) | (c.flags % codes::FLAG_LAST_BLOCK != 0)
 }
 
 // Check 3: offered without first, or receiving with first.
-fn bad_first(stage: Stage, c: ContentFields) -> bool
-    ensures { λ r. ⌜ r ≡ badFirst stage c ⌝ }
+fn bad_first(stage: Stage, c: ContentHead) -> bool
+    ensures { λ r. ⌜ r ≡ badFirst stage (withData c []) ⌝ }
 {
     let receiving = stage.is_receiving();
     let first = is_first(c);
@@ -55,26 +61,24 @@ fn bad_first(stage: Stage, c: ContentFields) -> bool
 }
 
 // Check 4: receiving, and sequence not the expected one.
-fn bad_sequence(stage: Stage, c: ContentFields) -> bool
-    ensures { λ r. ⌜ r ≡ badSequence stage c ⌝ }
+fn bad_sequence(stage: Stage, c: ContentHead) -> bool
+    ensures { λ r. ⌜ r ≡ badSequence stage (withData c []) ⌝ }
 {
     let verdict = stage.sequence_verdict(c.sequence);
     verdict.is_wrong()
 }
 
 // Check 5: address and length past the region of the session's component.
-fn bad_address(parts: [Component; 7], stage: Stage, c: ContentFields) -> bool
-    ensures { λ r. ⌜ r ≡ badAddress parts stage c ⌝ }
+fn bad_address(region: Region, c: ContentHead) -> bool
+    ensures { λ r. ⌜ r ≡ not (holds region (c .address) (c .length)) ⌝ }
 {
     let address = c.address;
-    let part = part_at(parts, slot_of(stage.open_slot()));
-    let region = part.region;
     !region.holds(address, c.length as usize)
 }
 
-// Checks 1 to 5, and 6 where none applies.
-pub fn judge_content(parts: [Component; 7], stage: Stage, c: ContentFields) -> ContentVerdict
-    ensures { λ r. ⌜ r ≡ contentVerdict parts stage c ⌝ }
+// Checks 1 to 5, and 6 where none applies, for a device whose session may write to this region.
+pub fn judge_content(region: Region, stage: Stage, c: ContentHead) -> ContentVerdict
+    ensures { λ r. ⌜ ((parts : List Component) → (bytes : List ℕ) → window parts (atSlot stage) ≡ region → r ≡ contentVerdict parts stage (withData c bytes)) ⌝ }
 {
     if no_offer(stage) {
         return ContentVerdict::Refuse(codes::ERROR_NO_OFFER);
@@ -88,7 +92,7 @@ pub fn judge_content(parts: [Component; 7], stage: Stage, c: ContentFields) -> C
     if bad_sequence(stage, c) {
         return ContentVerdict::Refuse(codes::ERROR_INVALID);
     }
-    if bad_address(parts, stage, c) {
+    if bad_address(region, c) {
         return ContentVerdict::Refuse(codes::ERROR_INVALID_ADDR);
     }
     ContentVerdict::Take(slot_of(stage.open_slot()))

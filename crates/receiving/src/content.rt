@@ -5,7 +5,7 @@ use crate::checks::is_last;
 use crate::checks::judge_content;
 use crate::finish::finish;
 use component::record::Component;
-use contents::content::ContentFields;
+use contents::head::ContentHead;
 use contents::reply::ContentReply;
 use contents::reply::build_content_reply;
 use session::effect::Effect;
@@ -15,12 +15,18 @@ use session::stage::Receiving;
 use session::stage::Stage;
 use wire::codes;
 ghost use mathlib.Core.Path.{_≡_};
+ghost use mathlib.Core.List.{List, []};
+ghost use Prim.Native.Nat.{ℕ};
+ghost use lib.ListN.{set};
+ghost use Rattle.contents.specs.Head.{withData};
+ghost use Rattle.component.specs.Lists.{partAt};
+ghost use Rattle.session.specs.Stage.{atSlot};
 ghost use Rattle.receiving.specs.Receive.{blockReply, goesOn, onBlock, onContent, stagingAfter};
 
-// What a content packet does, and the components afterwards.
-pub struct Received {
+// What a content packet does, and the session's component afterwards.
+pub struct Taken {
     pub effect: Effect,
-    pub parts: [Component; 7],
+    pub part: Component,
 }
 
 // The reply to a block, and then the READY that was owed.
@@ -32,8 +38,8 @@ fn block_reply(session: Session, sequence: u16, status: u8, ready: Owed) -> Effe
 }
 
 // After a block that is not the last: receiving, one sequence on.
-fn goes_on(session: Session, slot: u8, c: ContentFields) -> Session
-    ensures { λ r. ⌜ r ≡ goesOn session slot c ⌝ }
+fn goes_on(session: Session, slot: u8, c: ContentHead) -> Session
+    ensures { λ r. ⌜ r ≡ goesOn session slot (withData c []) ⌝ }
 {
     let stage = session.stage;
     let token = stage.token();
@@ -42,51 +48,47 @@ fn goes_on(session: Session, slot: u8, c: ContentFields) -> Session
 }
 
 // A taken block, with the staging buffer after its write.
-fn on_block(
-    parts: [Component; 7],
-    session: Session,
-    slot: u8,
-    c: ContentFields,
-    staging: &[u8],
-) -> Received
-    ensures { λ r. ⌜ r ≡ onBlock parts session slot c (now (staging .entry)) ⌝ }
+fn on_block(part: Component, session: Session, slot: u8, c: ContentHead, staging: &[u8]) -> Taken
+    ensures { λ r. ⌜ ((parts : List Component) → (bytes : List ℕ) → partAt parts slot ≡ part → (r .effect ≡ onBlock parts session slot (withData c bytes) (now (staging .entry)) .effect) × (set parts slot (r .part) ≡ onBlock parts session slot (withData c bytes) (now (staging .entry)) .parts)) ⌝ }
 {
     if is_last(c) {
         let owed = session.owed;
-        let finished = finish(parts, slot, staging);
-        let next = finished.parts;
-        let idle = finished.session;
+        let finished = finish(part, staging);
+        let next = finished.part;
+        let idle = Session::idle();
         let effect = block_reply(idle, c.sequence, finished.status, owed);
-        Received {
-            effect,
-            parts: next,
-        }
+        Taken { effect, part: next }
     } else {
         let on = goes_on(session, slot, c);
         let effect = block_reply(on, c.sequence, codes::SUCCESS, Owed::Nothing);
-        Received { effect, parts }
+        Taken { effect, part }
     }
 }
 
-// By the verdict; checks 1 to 5 change nothing. The staging buffer changes only where a block is taken.
+// By the verdict, for a device whose session is on this component; checks 1 to 5 change nothing. The staging buffer changes only where a block is taken.
 pub fn on_content(
-    parts: [Component; 7],
+    part: Component,
     session: Session,
-    c: ContentFields,
+    c: ContentHead,
+    data: &[u8],
     staging: &mut [u8],
-) -> Received
-    ensures { λ r. ⌜ (r ≡ onContent parts session c (now (staging .entry))) × (now (staging .exit) ≡ stagingAfter parts (session .stage) c (now (staging .entry))) ⌝ }
+) -> Taken
+    ensures { λ r. ⌜ ((parts : List Component) → partAt parts (atSlot (session .stage)) ≡ part
+        → (r .effect ≡ onContent parts session (withData c (now («data» .entry))) (now (staging .entry)) .effect)
+        × (set parts (atSlot (session .stage)) (r .part) ≡ onContent parts session (withData c (now («data» .entry))) (now (staging .entry)) .parts)
+        × (now (staging .exit) ≡ stagingAfter parts (session .stage) (withData c (now («data» .entry))) (now (staging .entry)))) ⌝ }
 {
     let stage = session.stage;
-    let verdict = judge_content(parts, stage, c);
+    let region = part.region;
+    let verdict = judge_content(region, stage, c);
     match verdict {
         ContentVerdict::Refuse(status) => {
             let effect = block_reply(session, c.sequence, status, Owed::Nothing);
-            Received { effect, parts }
+            Taken { effect, part }
         }
         ContentVerdict::Take(slot) => {
-            take_block(parts, slot, c, staging);
-            on_block(parts, session, slot, c, staging)
+            take_block(region, c, data, staging);
+            on_block(part, session, slot, c, staging)
         }
     }
 }

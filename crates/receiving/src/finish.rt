@@ -1,53 +1,45 @@
-// The end of a last block (document 01, "The device"): image judgement, and the components and the session afterwards.
+// The end of a last block (document 01, "The device"): image judgement, and the component afterwards.
 use component::record::Component;
 use image::judge::Image;
-use session::effect::Session;
-use slots::slot::part_at;
-use slots::slot::with_part;
 use wire::codes;
 ghost use mathlib.Core.Path.{_≡_};
-ghost use Rattle.receiving.specs.Finish.{fails, finish as finishOf};
+ghost use mathlib.Core.List.{List};
+ghost use Prim.Native.Nat.{ℕ};
+ghost use lib.ListN.{set};
+ghost use Rattle.component.specs.Lists.{partAt};
+ghost use Rattle.receiving.specs.Finish.{finish as finishOf};
 
 // What a finished image comes to.
 pub struct Finished {
     pub status: u8,
-    pub parts: [Component; 7],
-    pub session: Session,
+    pub part: Component,
 }
 
-// Failure: idle, not pending.
-fn failed(parts: [Component; 7], status: u8) -> Finished
-    ensures { λ r. ⌜ r ≡ fails status parts ⌝ }
+// Failure: not pending.
+fn failed(part: Component, status: u8) -> Finished
+    ensures { λ r. ⌜ r ≡ record { status = status; part = part } ⌝ }
 {
-    let session = Session::idle();
-    Finished {
-        status,
-        parts,
-        session,
-    }
+    Finished { status, part }
 }
 
-// The only place that judges, stages and idles.
-pub(crate) fn finish(parts: [Component; 7], slot: u8, staging: &[u8]) -> Finished
-    ensures { λ r. ⌜ r ≡ finishOf parts slot (now (staging .entry)) ⌝ }
+// The only place that judges and stages.
+pub(crate) fn finish(part: Component, staging: &[u8]) -> Finished
+    ensures { λ r. ⌜ ((parts : List Component) → (slot : ℕ) → partAt parts slot ≡ part → (r .status ≡ finishOf parts slot (now (staging .entry)) .status) × (set parts slot (r .part) ≡ finishOf parts slot (now (staging .entry)) .parts)) ⌝ }
 {
-    let part = part_at(parts, slot);
     let region = part.region;
     let judged = region.image(staging, part.id);
     match judged {
-        Image::Damaged => failed(parts, codes::ERROR_CRC),
-        Image::Foreign => failed(parts, codes::ERROR_VERIFY),
+        Image::Damaged => failed(part, codes::ERROR_CRC),
+        Image::Foreign => failed(part, codes::ERROR_VERIFY),
         Image::Bears(version) => {
             if part.image_version_fits(version) {
-                let next = with_part(parts, slot, part.with_staged(version));
-                let session = Session::idle();
+                let staged = part.with_staged(version);
                 Finished {
                     status: codes::SUCCESS,
-                    parts: next,
-                    session,
+                    part: staged,
                 }
             } else {
-                failed(parts, codes::ERROR_VERSION)
+                failed(part, codes::ERROR_VERSION)
             }
         }
     }

@@ -2,12 +2,17 @@
 use crate::effect::Session;
 use crate::owed::Owed;
 use component::list::Found;
-use component::list::some_stale;
+use component::list::some_unsound;
 use component::record::Component;
 use component::setup::SetupVerdict;
-use component::setup::setup_verdict;
+use component::setup::bad_count;
+use component::setup::staging_too_long;
 use slots::slot::part_at;
+use slots::slot::slot_of;
 ghost use mathlib.Core.Path.{_≡_};
+ghost use mathlib.Core.List.{List};
+ghost use Rattle.component.specs.Lists.{partAt};
+ghost use Rattle.slots.specs.Slots.{slotOf};
 ghost use Rattle.session.specs.Sound.{refusesSetup, wrongSlot, owesOn, breaksD1};
 
 // S1 to S4 refuse it.
@@ -24,7 +29,7 @@ pub fn refuses_setup(v: SetupVerdict) -> bool
 }
 
 // A ready-reply is owed while the session is idle.
-fn owes_on(at: Found, owed: Owed) -> bool
+pub fn owes_on(at: Found, owed: Owed) -> bool
     ensures { λ r. ⌜ r ≡ owesOn at owed ⌝ }
 {
     match at {
@@ -33,16 +38,13 @@ fn owes_on(at: Found, owed: Owed) -> bool
     }
 }
 
-// The slot that the session is open on is unlisted, or its component is pending.
-fn wrong_slot(count: u8, parts: [Component; 7], at: Found) -> bool
-    ensures { λ r. ⌜ r ≡ wrongSlot count parts at ⌝ }
+// The slot that the session is open on is unlisted, or its component, which is this one, is pending.
+pub fn wrong_slot(count: u8, part: Component, at: Found) -> bool
+    ensures { λ r. ⌜ ((parts : List Component) → partAt parts (slotOf at) ≡ part → r ≡ wrongSlot count parts at) ⌝ }
 {
     match at {
         Found::Nothing => false,
-        Found::At(k) => {
-            let part = part_at(parts, k);
-            (count <= k) | part.is_pending()
-        }
+        Found::At(k) => (count <= k) | part.is_pending(),
     }
 }
 
@@ -53,7 +55,7 @@ pub fn breaks_d1(n: usize, count: u8, parts: [Component; 7], session: Session) -
     let stage = session.stage;
     let owed = session.owed;
     let slot = stage.open_slot();
-    let verdict = setup_verdict(n, count, parts);
-    refuses_setup(verdict)
-        | (wrong_slot(count, parts, slot) | (owes_on(slot, owed) | some_stale(parts, count)))
+    let part = part_at(parts, slot_of(slot));
+    (staging_too_long(n) | bad_count(count))
+        | (wrong_slot(count, part, slot) | (owes_on(slot, owed) | some_unsound(n, parts, count)))
 }

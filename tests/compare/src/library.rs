@@ -5,7 +5,8 @@ use crate::header::*;
 
 pub struct Library;
 
-// Each call lends slices that are valid for their lengths and do not overlap, which is all that the header asks of its caller.
+// Each call lends slices that are valid for their lengths and do not overlap, which is all that the header asks of its caller. What is timed is inlined, so
+// that the time is the library's.
 impl Calls for Library {
     fn name(&self) -> &'static str {
         "library"
@@ -19,6 +20,7 @@ impl Calls for Library {
         unsafe { cfu_device_version_reply(device.as_ptr(), device.len(), packet.as_mut_ptr(), packet.len()) }
     }
 
+    #[inline]
     fn offer(&self, device: &mut [u8], staging: &[u8], report: &[u8], replies: &mut [u8]) -> Replies {
         unsafe {
             cfu_device_offer(
@@ -34,6 +36,7 @@ impl Calls for Library {
         }
     }
 
+    #[inline]
     fn content(&self, device: &mut [u8], staging: &mut [u8], report: &[u8], replies: &mut [u8]) -> Replies {
         unsafe {
             cfu_device_content(
@@ -53,10 +56,12 @@ impl Calls for Library {
         unsafe { cfu_device_reset(device.as_mut_ptr(), device.len()) }
     }
 
+    #[inline]
     fn check(&self, bundle: &[u8], contents: &mut [u8]) -> Check {
         unsafe { cfu_bundle_check(bundle.as_ptr(), bundle.len(), contents.as_mut_ptr(), contents.len()) }
     }
 
+    #[inline]
     fn fresh(&self, host: &mut [u8], token: u8) -> u32 {
         unsafe { cfu_host_fresh(host.as_mut_ptr(), host.len(), token) }
     }
@@ -76,6 +81,7 @@ impl Calls for Library {
         }
     }
 
+    #[inline]
     fn step_checked(&self, host: &mut [u8], contents: &mut [u8], bundle: &[u8], reply: &[u8], packet: &mut [u8]) -> Step {
         unsafe {
             cfu_host_step_checked(
@@ -93,6 +99,7 @@ impl Calls for Library {
         }
     }
 
+    #[inline]
     fn report(&self, host: &[u8]) -> Report {
         unsafe { cfu_host_report(host.as_ptr(), host.len()) }
     }

@@ -1,7 +1,10 @@
 -- `content_call` meets its contract: C1, C3, or the answer. Assumes nothing.
-use Rattle.c_device.specs.Device.{contentCall, contentCallStaging}
 use borrow.Author.Tests.{eq-eqb, ne-eqb}
 use borrow.Author.Needs.{needs}
+use Rattle.device.specs.Content.{contentEntry}
+use Rattle.device_bytes.specs.Layout.{readDevice}
+use Rattle.c_device.specs.Device.{contentCall, contentCallStaging}
+use Rattle.c_device.proofs.Laws.{answers}
 use Rattle.c_device.proofs.content_call.Statement.{statement}
 use Rattle.c_device.proofs.content_call.Tie as tie
 
@@ -15,11 +18,8 @@ returns-2 c =
     let e = eq-eqb _ _ (c .before .if1 .left) in
     let f = ne-eqb _ _ (c .if2 .taken) in (rw (e, f), rw (e, f))
 
-read-device-requires : tie.Need-read-device-requires
-read-device-requires c κs = search needs
-
-content-requires : tie.Need-content-requires
-content-requires c κs = search needs
+content-in-place-requires : tie.Need-content-in-place-requires
+content-in-place-requires c κs = search needs
 
 answered-requires : tie.Need-answered-requires
 answered-requires c κs = search needs
@@ -36,10 +36,14 @@ same-length-3 c = search needs
 returns-3 : tie.Need-returns-3
 unfolding contentCall contentCallStaging
 returns-3 c =
-    let e = eq-eqb _ _ (c .before .before .before .before .before .before .before .before .before .before .before .before .before .before .if1 .left) in
-    let f = eq-eqb _ _ (c .before .before .before .before .before .before .before .before .before .before .before .before .before .if2 .left) in
-    let d = c .before .before .before .before .before .before .before .before .before .before .before .read-device .ensures in
-    let a = c .before .before .before .before .before .before .before .before .before .content .ensures in (rw (e, f, ← d, ← a .0) (c .before .before .before .before .answered .ensures), rw (e, f, ← d) (a .1))
+    let fine = c .before .before .before .before .before .before .before .before .before .before .before in
+    let a = fine .before .before .before .before .before .before .args in
+    let e = eq-eqb _ _ (fine .before .if1 .left) in
+    let f = eq-eqb _ _ (fine .if2 .left) in
+    let o = c .before .before .before .before .before .before .before .before .content-in-place .ensures in
+    let b = a .device .now in
+    let told = answers (c .before .before .answered .result) b _ (o .0) (c .before .before .answered .ensures b (contentEntry (readDevice b) (a .staging .now) (a .report .now) .device)) in
+    (rw (e, f, o .1) told, rw (e, f) (o .2))
 
 pub content-call-spec : {M : Type 1} → statement M
 content-call-spec =
@@ -47,8 +51,7 @@ content-call-spec =
     (tie.spec
     returns
     returns-2
-    read-device-requires
-    content-requires
+    content-in-place-requires
     answered-requires
     same-length
     same-length-2

@@ -1,7 +1,11 @@
 -- `offer_call` meets its contract: C1, C3, or the answer. Assumes nothing.
-use Rattle.c_device.specs.Device.{offerCall}
 use borrow.Author.Tests.{eq-eqb, ne-eqb}
 use borrow.Author.Needs.{needs}
+use lib.ListN.{length}
+use Rattle.device.specs.Offer.{offerEntry}
+use Rattle.device_bytes.specs.Layout.{readDevice}
+use Rattle.c_device.specs.Device.{offerCall}
+use Rattle.c_device.proofs.Laws.{answers}
 use Rattle.c_device.proofs.offer_call.Statement.{statement}
 use Rattle.c_device.proofs.offer_call.Tie as tie
 
@@ -13,11 +17,8 @@ returns-2 : tie.Need-returns-2
 unfolding offerCall
 returns-2 c = rw (eq-eqb _ _ (c .before .if1 .left), ne-eqb _ _ (c .if2 .taken))
 
-read-device-requires : tie.Need-read-device-requires
-read-device-requires c κs = search needs
-
-offer-requires : tie.Need-offer-requires
-offer-requires c κs = search needs
+offer-in-place-requires : tie.Need-offer-in-place-requires
+offer-in-place-requires c κs = search needs
 
 answered-requires : tie.Need-answered-requires
 answered-requires c κs = search needs
@@ -30,7 +31,14 @@ same-length-2 c = search needs
 
 returns-3 : tie.Need-returns-3
 unfolding offerCall
-returns-3 c = rw (eq-eqb _ _ (c .before .before .before .before .before .before .before .before .before .before .before .if1 .left), eq-eqb _ _ (c .before .before .before .before .before .before .before .before .before .before .if2 .left), ← c .before .before .before .before .before .before .before .before .read-device .ensures, ← c .before .before .before .before .before .before .before .offer .ensures) (c .before .before .before .before .answered .ensures)
+returns-3 c =
+    let fine = c .before .before .before .before .before .before .before .before in
+    let a = fine .before .before .before .before .before .before .args in
+    let e = eq-eqb _ _ (fine .before .if1 .left) in
+    let f = eq-eqb _ _ (fine .if2 .left) in
+    let o = c .before .before .before .before .before .before .offer-in-place .ensures in
+    let b = a .device .now in
+    rw (e, f, o .1) (answers (c .before .before .answered .result) b _ (o .0) (c .before .before .answered .ensures b (offerEntry (readDevice b) (length (a .staging .now)) (a .report .now) .device)))
 
 pub offer-call-spec : {M : Type 1} → statement M
 offer-call-spec =
@@ -38,8 +46,7 @@ offer-call-spec =
     (tie.spec
     returns
     returns-2
-    read-device-requires
-    offer-requires
+    offer-in-place-requires
     answered-requires
     same-length
     same-length-2

@@ -1,6 +1,4 @@
 -- `length_of` meets its contract: by what is sent. Assumes nothing.
-use lib.ListN.{length}
-use mathlib.Core.Path.{_≡_}
 use Rattle.c_host.proofs.Laws.{sent-none, sent-short, sent-long}
 use borrow.Author.Needs.{needs}
 use Rattle.c_host.proofs.length_of.Statement.{statement}
@@ -16,17 +14,13 @@ enum-told-3 : tie.Need-enum-told-3
 enum-told-3 c = search needs
 
 returns : tie.Need-returns
-returns c = rw (c .enum-told .given .1) sent-none
+returns c p h = rw (c .enum-told .given .1) sent-none
 
 returns-2 : tie.Need-returns-2
-returns-2 c =
-    let p = c .before .before .args .packet in
-    let l : length p ≡ 60 = search needs in rw (c .enum-told2 .given .1) (sent-short p l)
+returns-2 c p h = rw (c .enum-told2 .given .1) (sent-short p h)
 
 returns-3 : tie.Need-returns-3
-returns-3 c =
-    let p = c .before .before .args .packet in
-    let l : length p ≡ 60 = search needs in rw (c .enum-told3 .given .1) (sent-long p l)
+returns-3 c p h = rw (c .enum-told3 .given .1) (sent-long p h)
 
 pub length-of-spec : {M : Type 1} → statement M
 length-of-spec = tie.close (tie.spec enum-told enum-told-2 enum-told-3 returns returns-2 returns-3)

@@ -1,9 +1,15 @@
--- `step_checked_call` meets its contract: C1, C3, or the inner step, whose cursor is kept. Assumes nothing.
-use Rattle.c_host.proofs.Laws.{cursor-kept}
-use lib.ListN.{length}
-use mathlib.Core.Path.{_≡_, refl}
-use Rattle.c_host.specs.Host.{stepCheckedCall, stepCheckedContents}
+-- `step_checked_call` meets its contract: C1, C3, or the inner step over the body in hand, whose cursor is kept. Assumes nothing.
+use mathlib.Core.Path.{_≡_, refl, sym, ap, _∙_}
+use mathlib.Core.List.{flatten}
 use borrow.Author.Tests.{eq-eqb, ne-eqb}
+use Rattle.host_record.specs.Fits.{inHand}
+use Rattle.host_record.specs.declared.fits.Body.{Body}
+use Rattle.host_record.specs.declared.record.Host.{Host}
+use Rattle.decide.specs.Decide.{decisionOf}
+use Rattle.host.specs.Inner.{innerOf}
+use Rattle.host_bytes.specs.Layout.{contentsIn, bodyRead}
+use Rattle.host_bytes.proofs.Contents.{up-to-seven, body-read, cursor-same}
+use Rattle.c_host.specs.Host.{hostOver, stepCheckedCall, stepCheckedContents}
 use borrow.Author.Needs.{needs}
 use Rattle.c_host.proofs.step_checked_call.Statement.{statement}
 use Rattle.c_host.proofs.step_checked_call.Tie as tie
@@ -34,38 +40,32 @@ returns-3 c =
     let f = eq-eqb _ _ (c .before .before .if2 .left) in
     let g = ne-eqb _ _ (c .before .if3 .taken) in (rw (e, f, g) (c .refused3 .ensures _ _), rw (e, f, g))
 
-read-contents-requires : tie.Need-read-contents-requires
-read-contents-requires c κs = search needs
+slice-read-count : tie.Need-slice-read-count
+slice-read-count c = search needs
 
 host-over-requires : tie.Need-host-over-requires
 host-over-requires c κs = search needs
 
-read-cursor-requires : tie.Need-read-cursor-requires
-read-cursor-requires c κs = search needs
+in-hand-requires : tie.Need-in-hand-requires
+in-hand-requires c κs = search needs
 
-inner-step-requires : tie.Need-inner-step-requires
-inner-step-requires c κs = search needs
+read-body-requires : tie.Need-read-body-requires
+read-body-requires c κs = search needs
 
-bytes64-requires : tie.Need-bytes64-requires
-bytes64-requires c κs = search needs
+decision-requires : tie.Need-decision-requires
+decision-requires c κs = search needs
 
-sub-copy : tie.Need-sub-copy
-sub-copy c = search needs
+enum-told : tie.Need-enum-told
+enum-told c = search needs
 
-part-copy-start : tie.Need-part-copy-start
-part-copy-start c = search needs
+cleared-requires : tie.Need-cleared-requires
+cleared-requires c κs = search needs
 
-part-copy-end : tie.Need-part-copy-end
-part-copy-end c = search needs
+enum-known-d : tie.Need-enum-known-d
+enum-known-d c = search needs
 
-slice-aggregate-copy : tie.Need-slice-aggregate-copy
-slice-aggregate-copy c = search needs
-
-copy-requires : tie.Need-copy-requires
-copy-requires c κs = search needs
-
-stepped-requires : tie.Need-stepped-requires
-stepped-requires c κs = search needs
+moved-requires : tie.Need-moved-requires
+moved-requires c κs = search needs
 
 same-length : tie.Need-same-length
 same-length c = search needs
@@ -76,20 +76,46 @@ same-length-2 c = search needs
 same-length-3 : tie.Need-same-length-3
 same-length-3 c = search needs
 
+-- what is decided over the body in hand is what is decided over the contents
+decided : (c : tie.After-decision) → let a = c .before .before .before .before .before .before .before .before .before .before .before .before .before .before .before .args in
+    c .decision .result ≡ decisionOf (contentsIn (a .contents .now)) (hostOver (a .contents .now) (a .host .now)) (a .reply .now)
+unfolding contentsIn
+decided c =
+    let a = c .before .before .before .before .before .before .before .before .before .before .before .before .before .before .before .args in
+    let q = a .contents .now in
+    let h = c .before .before .before .before .host-over in
+    let e = c .before .read-body .ensures ∙ ap (bodyRead q) (c .before .before .in-hand .ensures) ∙ body-read q (inHand (h .result .stage)) (c .before .before .before .before .before .before .before .before .if2 .left) in
+    c .decision .ensures (contentsIn q) (up-to-seven q) refl (sym (ap (λ (b : Body). b .records) e))
+    ∙ ap (λ (t : Host). decisionOf (contentsIn q) t (a .reply .now)) (h .ensures)
+
 returns-4 : tie.Need-returns-4
-unfolding stepCheckedCall stepCheckedContents
+unfolding flatten innerOf stepCheckedCall stepCheckedContents
 returns-4 c =
-    let q = c .before .before .before .before .before .before .before .before .before .before .before .before .before .before .before .before .before .before .before .before .before .before .before .before .before .before .before .before .before .args .contents .now in
-    let l : length q ≡ 93 = c .before .before .before .before .before .before .before .before .before .before .before .before .before .before .before .before .before .before .before .before .before .before .if2 .left in
-    let e = eq-eqb _ _ (c .before .before .before .before .before .before .before .before .before .before .before .before .before .before .before .before .before .before .before .before .before .before .before .if1 .left) in
+    let q = c .before .before .before .before .before .before .before .before .before .before .before .before .before .before .before .before .before .before .before .before .before .args .contents .now in
+    let l = c .before .before .before .before .before .before .before .before .before .before .before .before .before .before .if2 .left in
+    let e = eq-eqb _ _ (c .before .before .before .before .before .before .before .before .before .before .before .before .before .before .before .if1 .left) in
     let f = eq-eqb _ _ l in
-    let g = eq-eqb _ _ (c .before .before .before .before .before .before .before .before .before .before .before .before .before .before .before .before .before .before .before .before .before .if3 .left) in
-    let k = c .before .before .before .before .before .before .before .before .before .before .before .before .before .before .before .before .before .before .before .read-contents .ensures in
-    let h = c .before .before .before .before .before .before .before .before .before .before .before .before .before .before .before .before .before .host-over .ensures in
-    let u = c .before .before .before .before .before .before .before .before .before .before .before .before .before .before .before .read-cursor .ensures in
-    let i = c .before .before .before .before .before .before .before .before .before .before .before .before .before .before .inner-step in
-    let w = cursor-kept q (c .before .before .before .before .before .before .before .before .before .before .before .before .before .bytes64 .result) (c .before .before .before .before .before .before .before .before .before .before .copy .last .0) (i .result .cursor) 8 refl l (c .before .before .before .before .before .before .before .before .before .before .before .before .before .bytes64 .ensures) (c .before .before .before .before .before .before .before .before .before .before .copy .ensures) in
-    (rw (e, f, g, ← k, ← h, ← u, ← i .ensures) (c .before .before .before .before .stepped .ensures), rw (e, f, g, ← k, ← h, ← u, ← i .ensures) w)
+    let g = eq-eqb _ _ (c .before .before .before .before .before .before .before .before .before .before .before .before .before .if3 .left) in
+    let d = sym (decided (c .before .before .before .before .before .before)) ∙ c .before .before .before .before .enum-told .given .1 in
+    (rw (e, f, g, d) (c .before .before .cleared .ensures _), rw (e, f, g, d) (sym (cursor-same q (λ i. c .before .before .before .before .before .before .before .before .before .before .before .before .slice-known4 .given i .fits) l)))
+
+same-length-4 : tie.Need-same-length-4
+same-length-4 c = search needs
+
+same-length-5 : tie.Need-same-length-5
+same-length-5 c = search needs
+
+same-length-6 : tie.Need-same-length-6
+same-length-6 c = search needs
+
+returns-5 : tie.Need-returns-5
+unfolding innerOf stepCheckedCall stepCheckedContents
+returns-5 c =
+    let e = eq-eqb _ _ (c .before .before .before .before .before .before .before .before .before .before .before .before .before .before .before .before .before .before .before .before .before .before .if1 .left) in
+    let f = eq-eqb _ _ (c .before .before .before .before .before .before .before .before .before .before .before .before .before .before .before .before .before .before .before .before .before .if2 .left) in
+    let g = eq-eqb _ _ (c .before .before .before .before .before .before .before .before .before .before .before .before .before .before .before .before .before .before .before .before .if3 .left) in
+    let d = sym (decided (c .before .before .before .before .before .before .before .before .before .before .before .before .before)) ∙ c .before .before .before .before .before .before .before .before .before .before .before .d .given .1 in
+    (rw (e, f, g, d) (c .before .before .before .before .before .before .moved .ensures .0 _), rw (e, f, g, d) (c .before .before .before .before .before .before .moved .ensures .1 _))
 
 pub step-checked-call-spec : {M : Type 1} → statement M
 step-checked-call-spec =
@@ -101,18 +127,20 @@ step-checked-call-spec =
     returns-2
     refused-requires-3
     returns-3
-    read-contents-requires
+    slice-read-count
     host-over-requires
-    read-cursor-requires
-    inner-step-requires
-    bytes64-requires
-    sub-copy
-    part-copy-start
-    part-copy-end
-    slice-aggregate-copy
-    copy-requires
-    stepped-requires
+    in-hand-requires
+    read-body-requires
+    decision-requires
+    enum-told
+    cleared-requires
+    enum-known-d
+    moved-requires
     same-length
     same-length-2
     same-length-3
-    returns-4)
+    returns-4
+    same-length-4
+    same-length-5
+    same-length-6
+    returns-5)

@@ -46,7 +46,7 @@ returns c =
     let n : length (a .s .packet) ≡ 60 = search needs in
     let e = stored-step (a .s .refusal) (a .host .now) (b .result) (a .s .host) (c .before .before .before .before .before .before .step-number .result) (c .before .before .before .before .store .ensures) (c .before .before .before .before .before .before .before .before .before .before .before .before .before .before .before .before .before .before .pre .0 ∙ sym m) (c .before .before .before .before .before .before .step-number .ensures) (b .ensures) in
     let f = c .before .before .before .before .before .before .before .before .before .before .before .copy .ensures ∙ copy-same (a .packet .now) (a .s .packet) (c .before .before .before .before .before .before .before .before .before .before .before .before .before .before .before .before .before .before .pre .1 ∙ sym n) in
-    rw (ap (λ (t : Left). t .number) e, ap (λ (t : Left). t .left) e, f, c .before .step-entry .ensures, c .length-of .ensures)
+    rw (ap (λ (t : Left). t .number) e, ap (λ (t : Left). t .left) e, f, c .before .step-entry .ensures, c .length-of .ensures (a .s .packet) n)
 
 pub stepped-spec : {M : Type 1} → statement M
 stepped-spec =

@@ -1,11 +1,11 @@
 -- `parts_in` meets its contract. After i turns the first i components are read. Assumes nothing.
-use Rattle.device_bytes.proofs.Record.{part-read, parts-read}
 use mathlib.Core.Path.{_≡_}
 use Prim.Native.Nat.{_-_, _≤_}
 use native.Mathlib.Omega.{arith}
 use lib.ListN.{length, take, drop}
-use Rattle.device_bytes.specs.Layout.{PARTS-START, partsIn}
 use borrow.Author.Needs.{needs}
+use Rattle.device_bytes.specs.Layout.{PARTS-START, partsIn}
+use Rattle.device_bytes.proofs.Record.{part-read, parts-read}
 use Rattle.device_bytes.proofs.parts_in.Statement.{statement}
 use Rattle.device_bytes.proofs.parts_in.Tie as tie
 
@@ -15,30 +15,18 @@ Inv-loop b parts₀ i₀ parts i = (i ≤ 7) × (length parts ≡ 7) × (take i 
 abbrev μ-loop : tie.MeasureT-loop
 μ-loop b parts₀ i₀ parts i = 7 - i
 
-part-in-requires : tie.Need-part-in-requires Inv-loop μ-loop
-part-in-requires c κs = search needs
+part-of-requires : tie.Need-part-of-requires Inv-loop μ-loop
+part-of-requires c κs = search needs
 
 loop-holds : tie.Need-loop-holds Inv-loop μ-loop
 unfolding partsIn
 loop-holds c = search needs
 
-mul-at : tie.Need-mul-at Inv-loop μ-loop
-mul-at c = search needs
+part-of-requires-2 : tie.Need-part-of-requires-2 Inv-loop μ-loop
+part-of-requires-2 c κs = search needs
 
-add-at : tie.Need-add-at Inv-loop μ-loop
-add-at c = search needs
-
-sub-part-in : tie.Need-sub-part-in Inv-loop μ-loop
-sub-part-in c = search needs
-
-part-part-in-start : tie.Need-part-part-in-start Inv-loop μ-loop
-part-part-in-start c = search needs
-
-part-part-in-end : tie.Need-part-part-in-end Inv-loop μ-loop
-part-part-in-end c = search needs
-
-part-in-requires-2 : tie.Need-part-in-requires-2 Inv-loop μ-loop
-part-in-requires-2 c κs = search needs
+cast-parts : tie.Need-cast-parts Inv-loop μ-loop
+cast-parts c = search needs
 
 mul-parts : tie.Need-mul-parts Inv-loop μ-loop
 mul-parts c = search needs
@@ -54,9 +42,9 @@ loop-less c = search needs
 
 loop-again : tie.Need-loop-again Inv-loop μ-loop
 loop-again c =
-    let l = c .before .before .before .loop in
-    let b = c .before .before .before .before .before .before .args .b .now in
-    (search needs, search needs, part-read (l .i) b (l .parts) _ (omega arith) (l .inv .1) (l .inv .2) (c .part-in2 .ensures))
+    let l = c .before .before .loop in
+    let s = c .before .before .before .before .before in
+    (search needs, search needs, part-read (l .i) (s .args .b .now) (l .parts) _ (omega arith) (l .inv .1) (s .pre) (l .inv .2) (c .part-of2 .ensures))
 
 returns : tie.Need-returns Inv-loop μ-loop
 returns c = let l = c .before .loop in parts-read (l .i) _ (l .parts) (omega arith) (l .inv .1) (l .inv .2)
@@ -67,14 +55,10 @@ parts-in-spec =
     (tie.spec
     Inv-loop
     μ-loop
-    part-in-requires
+    part-of-requires
     loop-holds
-    mul-at
-    add-at
-    sub-part-in
-    part-part-in-start
-    part-part-in-end
-    part-in-requires-2
+    part-of-requires-2
+    cast-parts
     mul-parts
     array-set-from-parts
     add-i

@@ -1,46 +1,42 @@
--- The packets: the bytes that a copy leaves, and content that is built. Assumes nothing.
-use mathlib.Core.Path.{_≡_, sym, ap, _∙_}
+-- The packets: the bytes that a copy leaves, what is cleared behind them, and a block's content. Assumes nothing.
+use mathlib.Core.Path.{_≡_, refl, sym, _∙_}
 use mathlib.Core.Bool.{Bool}
-use mathlib.Core.List.{List, _++_}
+use mathlib.Core.List.{List, [], _++_, append-nil}
 use Prim.Native.Nat.{ℕ, _+_, _-_, _≤_}
 use native.Mathlib.Omega.{arith}
-use borrow.Author.Tests.{le-leb}
 use lib.Dec.{eqb}
-use lib.Seq.{length-take-le}
+use lib.Seq.{take-at, drop-length}
 use Rattle.wire.specs.Bytes.{copyOf}
 use Rattle.wire.proofs.words.Copies.{copy-same}
-use lib.ListN.{length, take, drop, replicate, length-take, length-drop, length-replicate}
-use Rattle.wire.specs.Rows.{Told}
+use lib.ListN.{length, take, drop, replicate, length-append, length-take, length-drop, length-replicate, drop-of-length-le}
 use Rattle.wire.specs.declared.address.RegionAddress.{RegionAddress}
-use Rattle.contents.specs.declared.content.BuiltContent.{BuiltContent}
-use Rattle.contents.proofs.content.Laws.{drop-zeros}
-use Rattle.contents.specs.Content.{toldBuilt, buildOf}
+use Rattle.contents.specs.Content.{headOf, contentBytes, cleared}
 use Rattle.host_record.specs.Record.{sequenceOf}
 use Rattle.make.specs.Packet.{flagsOf, blockBytes}
-use Rattle.make.proofs.Flags.{flags-sound}
+
+-- all bytes are cleared
+pub clear-all : (d l : List ℕ) (i : ℕ) → l ≡ replicate i 0 ++ drop i d → i ≡ length d → l ≡ replicate (length d) 0
+clear-all d l i e p = rw (p, drop-length) at e ∙ append-nil _
+
+-- the k bytes behind the first `at` are cleared
+pub clear-rest : (q front last : List ℕ) (at k m : ℕ) → m ≡ k → length q ≡ at + k → take at q ≡ front → last ≡ replicate (length (take m (drop at q))) 0
+    → take at q ++ (last ++ drop m (drop at q)) ≡ front ++ replicate k 0
+clear-rest q front last at k m p l f e =
+    let n : length (take m (drop at q)) ≡ k = simp (length-take, length-drop) (omega arith) in
+    let d : drop m (drop at q) ≡ [] = drop-of-length-le (drop at q) {i = m} (simp length-drop (omega arith)) in
+    rw (f, d, append-nil, e, n)
 
 -- a record's data in the bytes
-part-length : (b : List ℕ) (start size : ℕ) → start + size ≤ length b → length (take size (drop start b)) ≡ size
+pub part-length : (b : List ℕ) (start size : ℕ) → start + size ≤ length b → length (take size (drop start b)) ≡ size
 part-length b start size h = simp (length-take, length-drop) (omega arith)
 
--- the data of a record, copied over as many of 52 zeros
-pub data-laid : (b : List ℕ) (start size n m : ℕ) (r : List ℕ) → n ≡ size → m ≡ size → size ≤ 52 → start + size ≤ length b
-    → r ≡ copyOf (take n (replicate 52 0)) (take m (drop start b)) → r ++ drop n (replicate 52 0) ≡ take size (drop start b) ++ replicate (52 - size) 0
-data-laid b start size n m r e f l h q =
-    let z : List ℕ = replicate 52 0 in
-    let s : length (take n z) ≡ length (take m (drop start b)) = rw (e, f, part-length b start size h) (length-take-le size z l) in
-    let w : r ≡ take m (drop start b) = q ∙ copy-same (take n z) (take m (drop start b)) s in
-    rw (w, drop-zeros n 52, e, f)
-
--- a block is what is built of its fields
-pub block-made : (r : BuiltContent) (b : List ℕ) (k : ℕ) (last : Bool) (a : RegionAddress) (start size : ℕ) (d : List ℕ)
-    → 1 ≤ size → size ≤ 52 → start + size ≤ length b → d ≡ take size (drop start b) ++ replicate (52 - size) 0
-    → toldBuilt r ≡ buildOf (record { flags = flagsOf (eqb k 0) last; length = size; sequence = sequenceOf k; address = a; «data» = d })
-    → r .packet ≡ blockBytes k last (record { address = a; bytes = take size (drop start b) })
-unfolding buildOf
-block-made r b k last a start size d s l h e q =
-    let w = rw (flags-sound (eqb k 0) last, le-leb 1 size s, le-leb size 52 l) at (ap (λ (t : Told (List ℕ)). t .value) q) in
-    w ∙ rw (e, part-length b start size h)
+-- a head and data behind it, the rest cleared
+pub block-laid : (k : ℕ) (last : Bool) (a : RegionAddress) (d : List ℕ) (size n : ℕ) → length d ≡ size → n ≡ 52 - size
+    → (headOf (flagsOf (eqb k 0) last) size (sequenceOf k) a ++ d) ++ replicate n 0 ≡ blockBytes k last (record { address = a; bytes = d })
+unfolding contentBytes cleared
+block-laid k last a d size n e p =
+    let t : length (d ++ replicate (52 - length d) 0) - length d ≡ n = simp (length-append, length-replicate) (omega arith) in
+    rw (t, take-at d (replicate (52 - length d) 0) (length d) refl, e)
 
 -- a copy over as many zeros
 pub copied : (n : ℕ) (p r : List ℕ) → length p ≡ n → r ≡ copyOf (replicate n 0) p → r ≡ p

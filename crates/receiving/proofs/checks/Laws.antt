@@ -2,7 +2,7 @@
 use mathlib.Core.Path.{_≡_, refl, sym}
 use mathlib.Core.Bool.{true, true≢false}
 use mathlib.Core.List.{List}
-use Prim.Native.Nat.{ℕ, _+_, _≤_}
+use Prim.Native.Nat.{_+_, _≤_}
 use lib.Dec.{eqb}
 use borrow.Author.Tests.{ltb-false, leb-true, not-false}
 use Rattle.wire.proofs.Chain.{first-says}

@@ -21,8 +21,7 @@ use Rattle.session.specs.declared.effect.Effect.{Effect}
 use Rattle.offering.specs.Offer.{onOffer}
 use Rattle.offering.specs.Signal.{onInformation, onNotify, onExtended}
 use Rattle.receiving.specs.Content.{isLast}
-use Rattle.receiving.specs.Receive.{onBlock, onVerdict}
-use Rattle.receiving.specs.declared.content.Received.{Received}
+use Rattle.receiving.specs.Receive.{Received, onBlock, onVerdict}
 use Rattle.device.specs.Record.{sessionOf}
 use Rattle.device.specs.Refusals.{Row, served, D, Outcome, told, refusalOf, unlessRefused, servedWith}
 use Rattle.device.specs.Offer.{onKind, offerEntry}

@@ -24,12 +24,6 @@ enum-known-rule-3 c = search needs
 overlaps-requires : tie.Need-overlaps-requires
 overlaps-requires c κs = search needs
 
-enum-told-2 : tie.Need-enum-told-2
-enum-told-2 c = search needs
-
-keeps-staged-requires : tie.Need-keeps-staged-requires
-keeps-staged-requires c κs = search needs
-
 returns : tie.Need-returns
 returns c = rw (c .before .enum-told .given .1) (c .bad-id .ensures)
 
@@ -42,9 +36,6 @@ returns-3 c = rw (c .before .before .rule2 .given .1) (c .bad-region .ensures)
 returns-4 : tie.Need-returns-4
 returns-4 c = rw (c .before .before .rule3 .given .1) (c .overlaps .ensures)
 
-returns-5 : tie.Need-returns-5
-returns-5 c = rw (c .before .enum-told2 .given .1, c .keeps-staged .ensures)
-
 pub applies-spec : {M : Type 1} → statement M
 applies-spec =
     tie.close
@@ -56,10 +47,7 @@ applies-spec =
     bad-region-requires
     enum-known-rule-3
     overlaps-requires
-    enum-told-2
-    keeps-staged-requires
     returns
     returns-2
     returns-3
-    returns-4
-    returns-5)
+    returns-4)

@@ -10,11 +10,12 @@ stage-breaks-requires c κs = search needs
 mask-breaks-requires : tie.Need-mask-breaks-requires
 mask-breaks-requires c κs = search needs
 
-cast-result : tie.Need-cast-result
-cast-result c = search needs
-
 returns : tie.Need-returns
-returns c = let s = c .before .before .before .before .stage-breaks in let m = c .before .before .before .mask-breaks in let h = c .before .before .before .before .before .args .h in (rw (s .ensures .0, m .ensures), λ z. let q = room (c .before .before .before .before .before .args .c .count) h (s .result) (m .result) (search needs) z in (q .1, s .ensures .1 (q .0)))
+returns c =
+    let a = c .before .before .before .before .args in
+    let s = c .before .before .before .stage-breaks in
+    let m = c .before .before .mask-breaks in
+    (λ records up e. rw (s .ensures .0 records up e, m .ensures), λ z. let q = room (a .n) (a .h) (s .result) (m .result) (search needs) z in (q .1, s .ensures .1 (q .0)))
 
 pub breaks-spec : {M : Type 1} → statement M
-breaks-spec = tie.close (tie.spec stage-breaks-requires mask-breaks-requires cast-result returns)
+breaks-spec = tie.close (tie.spec stage-breaks-requires mask-breaks-requires returns)

@@ -1,4 +1,5 @@
 -- `fits::last_in`: by the stage. Assumes nothing.
+use mathlib.Core.Path.{refl}
 use borrow.Author.Needs.{needs}
 use Rattle.host_record.proofs.fits.last_in.Statement.{statement}
 use Rattle.host_record.proofs.fits.last_in.Tie as tie
@@ -31,28 +32,28 @@ enum-told-7 : tie.Need-enum-told-7
 enum-told-7 c = search needs
 
 returns : tie.Need-returns
-returns c = search needs
+returns c = rw (c .enum-told .given .1) (λ records e. refl)
 
 returns-2 : tie.Need-returns-2
-returns-2 c = search needs
+returns-2 c = rw (c .enum-told2 .given .1) (λ records e. refl)
 
 returns-3 : tie.Need-returns-3
-returns-3 c = search needs
+returns-3 c = rw (c .enum-told3 .given .1) (λ records e. refl)
 
 returns-4 : tie.Need-returns-4
-returns-4 c = search needs
+returns-4 c = rw (c .enum-told4 .given .1) (λ records e. refl)
 
 returns-5 : tie.Need-returns-5
-returns-5 c = search needs
+returns-5 c = rw (c .enum-told5 .given .1) (λ records e. refl)
 
 returns-6 : tie.Need-returns-6
 returns-6 c = rw (c .before .before .stage .given .1) (c .is-last .ensures)
 
 returns-7 : tie.Need-returns-7
-returns-7 c = search needs
+returns-7 c = rw (c .enum-told6 .given .1) (λ records e. refl)
 
 returns-8 : tie.Need-returns-8
-returns-8 c = search needs
+returns-8 c = rw (c .enum-told7 .given .1) (λ records e. refl)
 
 pub last-in-spec : {M : Type 1} → statement M
 last-in-spec =

@@ -39,28 +39,28 @@ enum-told-5 : tie.Need-enum-told-5
 enum-told-5 c = search needs
 
 returns : tie.Need-returns
-returns c = rw (c .enum-told .given .1) (refl, λ z. tt)
+returns c = rw (c .enum-told .given .1) (λ records up e. refl, λ z. tt)
 
 returns-2 : tie.Need-returns-2
-returns-2 c = rw (c .enum-told2 .given .1) (refl, λ z. tt)
+returns-2 c = rw (c .enum-told2 .given .1) (λ records up e. refl, λ z. tt)
 
 returns-3 : tie.Need-returns-3
-returns-3 c = rw (c .enum-told3 .given .1) (refl, λ z. tt)
+returns-3 c = rw (c .enum-told3 .given .1) (λ records up e. refl, λ z. tt)
 
 returns-4 : tie.Need-returns-4
-returns-4 c = rw (c .before .before .stage .given .1) (c .turn-breaks .ensures, λ z. turn-room _ (c .before .before .stage .given .0 .0) (search needs) (sym (c .turn-breaks .ensures) ∙ z))
+returns-4 c = rw (c .before .before .stage .given .1) (λ records up e. c .turn-breaks .ensures, λ z. turn-room _ (c .before .before .stage .given .0 .0) (search needs) (sym (c .turn-breaks .ensures) ∙ z))
 
 returns-5 : tie.Need-returns-5
-returns-5 c = rw (c .before .before .stage2 .given .1) (c .turn-breaks2 .ensures, λ z. turn-room _ (c .before .before .stage2 .given .0 .0) (search needs) (sym (c .turn-breaks2 .ensures) ∙ z))
+returns-5 c = rw (c .before .before .stage2 .given .1) (λ records up e. c .turn-breaks2 .ensures, λ z. turn-room _ (c .before .before .stage2 .given .0 .0) (search needs) (sym (c .turn-breaks2 .ensures) ∙ z))
 
 returns-6 : tie.Need-returns-6
 returns-6 c = rw (c .before .before .stage3 .given .1) (c .place-breaks .ensures .0, c .place-breaks .ensures .1)
 
 returns-7 : tie.Need-returns-7
-returns-7 c = rw (c .enum-told4 .given .1) (refl, λ z. tt)
+returns-7 c = rw (c .enum-told4 .given .1) (λ records up e. refl, λ z. tt)
 
 returns-8 : tie.Need-returns-8
-returns-8 c = rw (c .enum-told5 .given .1) (refl, λ z. tt)
+returns-8 c = rw (c .enum-told5 .given .1) (λ records up e. refl, λ z. tt)
 
 pub stage-breaks-spec : {M : Type 1} → statement M
 stage-breaks-spec =

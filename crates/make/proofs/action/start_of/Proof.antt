@@ -1,4 +1,4 @@
--- `inner::start_of`: by the test. Assumes nothing.
+-- `action::start_of` meets its contract: by the test. Assumes nothing.
 use borrow.Author.Tests.{eq-eqb, ne-eqb}
 use Rattle.make.proofs.action.start_of.Statement.{statement}
 use Rattle.make.proofs.action.start_of.Tie as tie

@@ -1,4 +1,4 @@
--- `make::information`: what is built, over zeros. Assumes nothing.
+-- `packet::information` meets its contract: what is built, the rest cleared. Assumes nothing.
 use mathlib.Core.Path.{ap, _∙_}
 use mathlib.Core.List.{List, _++_}
 use Prim.Native.Nat.{ℕ}
@@ -10,11 +10,14 @@ use Rattle.make.proofs.packet.information.Tie as tie
 build-information-requires : tie.Need-build-information-requires
 build-information-requires c κs = search needs
 
-laid-requires : tie.Need-laid-requires
-laid-requires c κs = search needs
+lay-requires : tie.Need-lay-requires
+lay-requires c κs = search needs
+
+same-length : tie.Need-same-length
+same-length c = search needs
 
 returns : tie.Need-returns
-returns c = c .laid .ensures ∙ ap (λ (q : List ℕ). q ++ replicate 44 0) (c .before .build-information .ensures)
+returns c = c .before .before .lay .ensures ∙ ap (λ (q : List ℕ). q ++ replicate 44 0) (c .before .before .before .before .build-information .ensures)
 
 pub information-spec : {M : Type 1} → statement M
-information-spec = tie.close (tie.spec build-information-requires laid-requires returns)
+information-spec = tie.close (tie.spec build-information-requires lay-requires same-length returns)

@@ -1,11 +1,11 @@
--- `make::offer`: the table's bytes, with the token. Assumes nothing.
-use native.Mathlib.Omega.{arith}
-use Rattle.make.proofs.packet.Laws.{offer-copied}
+-- `packet::offer` meets its contract: the table's bytes, with the token. Assumes nothing.
+use mathlib.Core.Path.{ap, _∙_}
 use mathlib.Core.List.{List, _++_}
 use Prim.Native.Nat.{ℕ, _+_, _-_}
-use Rattle.layout.specs.Layout.{tableEnd}
+use native.Mathlib.Omega.{arith}
 use lib.ListN.{set, replicate}
-use mathlib.Core.Path.{ap, _∙_}
+use Rattle.layout.specs.Layout.{tableEnd}
+use Rattle.make.proofs.packet.Laws.{offer-copied}
 use borrow.Author.Needs.{needs}
 use Rattle.make.proofs.packet.offer.Statement.{statement}
 use Rattle.make.proofs.packet.offer.Tie as tie
@@ -37,16 +37,20 @@ copy-requires c κs = search needs
 array-write-p : tie.Need-array-write-p
 array-write-p c = search needs
 
-laid-requires : tie.Need-laid-requires
-laid-requires c κs = search needs
+lay-requires : tie.Need-lay-requires
+lay-requires c κs = search needs
+
+same-length : tie.Need-same-length
+same-length c = search needs
 
 returns : tie.Need-returns
 returns c =
-    let s = c .before .before .before .before .before .before in
+    let k = c .before .before .before .before .before in
+    let s = k .before .before .before .before .before in
     let at = tableEnd (s .args .entry) in
-    c .laid .ensures
+    c .before .before .lay .ensures
     ∙ ap (λ (q : List ℕ). set q 3 (s .args .token) ++ replicate 44 0)
-    (offer-copied _ at (at + 16 - at) _ (omega arith) (omega (arith, s .pre)) (c .before .before .copy .ensures))
+    (offer-copied _ at (at + 16 - at) _ (omega arith) (omega (arith, s .pre)) (k .copy .ensures))
 
 pub offer-spec : {M : Type 1} → statement M
 offer-spec =
@@ -61,5 +65,6 @@ offer-spec =
     part-copy-end
     copy-requires
     array-write-p
-    laid-requires
+    lay-requires
+    same-length
     returns)

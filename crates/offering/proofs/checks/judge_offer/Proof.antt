@@ -5,14 +5,8 @@ use borrow.Author.Needs.{needs}
 use Rattle.offering.proofs.checks.judge_offer.Statement.{statement}
 use Rattle.offering.proofs.checks.judge_offer.Tie as tie
 
-find-requires : tie.Need-find-requires
-find-requires c κs = search needs
-
 slot-of-requires : tie.Need-slot-of-requires
 slot-of-requires c κs = search needs
-
-part-at-requires : tie.Need-part-at-requires
-part-at-requires c κs = search needs
 
 is-open-requires : tie.Need-is-open-requires
 is-open-requires c κs = search needs
@@ -37,7 +31,7 @@ first-requires c κs = search needs
 
 returns : tie.Need-returns
 unfolding offerVerdict rejections
-returns c =
+returns c count parts e n =
     c .first .ensures
     ∙ rw (
       c .before .before .before .before .before .before .before .before .before .is-open .ensures,
@@ -45,19 +39,16 @@ returns c =
       c .before .before .before .before .before .before .before .is-pending .ensures,
       c .before .before .before .before .before .is-old .ensures,
       c .before .before .before .before .before .before .offer-version .ensures,
-      c .before .before .before .before .need-unmet .ensures,
-      c .before .before .before .before .before .before .before .before .before .before .part-at .ensures,
+      c .before .before .before .before .need-unmet .ensures count parts n,
       c .before .before .before .before .before .before .before .before .before .before .before .slot-of .ensures,
-      c .before .before .before .before .before .before .before .before .before .before .before .before .find .ensures,
+      ← e,
     )
 
 pub judge-offer-spec : {M : Type 1} → statement M
 judge-offer-spec =
     tie.close
     (tie.spec
-    find-requires
     slot-of-requires
-    part-at-requires
     is-open-requires
     is-absent-requires
     is-pending-requires

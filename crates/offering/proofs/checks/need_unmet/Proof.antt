@@ -4,15 +4,6 @@ use borrow.Author.Needs.{needs}
 use Rattle.offering.proofs.checks.need_unmet.Statement.{statement}
 use Rattle.offering.proofs.checks.need_unmet.Tie as tie
 
-find-requires : tie.Need-find-requires
-find-requires c κs = search needs
-
-slot-of-requires : tie.Need-slot-of-requires
-slot-of-requires c κs = search needs
-
-part-at-requires : tie.Need-part-at-requires
-part-at-requires c κs = search needs
-
 effective-requires : tie.Need-effective-requires
 effective-requires c κs = search needs
 
@@ -24,24 +15,14 @@ release-requires c κs = search needs
 
 returns : tie.Need-returns
 unfolding needUnmet
-returns c =
+returns c count parts e =
     rw (
       c .before .before .is-absent .ensures,
       c .before .release .ensures,
       c .before .before .before .before .effective .ensures,
-      c .before .before .before .before .before .part-at .ensures,
-      c .before .before .before .before .before .before .slot-of .ensures,
-      c .before .before .before .before .before .before .before .find .ensures,
+      ← e,
     )
 
 pub need-unmet-spec : {M : Type 1} → statement M
 need-unmet-spec =
-    tie.close
-    (tie.spec
-    find-requires
-    slot-of-requires
-    part-at-requires
-    effective-requires
-    is-absent-requires
-    release-requires
-    returns)
+    tie.close (tie.spec effective-requires is-absent-requires release-requires returns)

@@ -25,14 +25,14 @@ answered-requires c κs = search needs
 
 returns : tie.Need-returns
 unfolding onOffer
-returns c =
+returns c count parts e n =
     c .answered .ensures
     ∙ rw (
       c .before .after-offer .ensures,
       c .before .before .build-offer-reply .ensures,
       c .before .before .before .status .ensures,
       c .before .before .before .before .reason .ensures,
-      c .before .before .before .before .before .judge-offer .ensures,
+      c .before .before .before .before .before .judge-offer .ensures count parts e n,
     )
 
 pub on-offer-spec : {M : Type 1} → statement M

@@ -2,17 +2,14 @@
 use mathlib.Core.Path.{_≡_, _∙_}
 use Prim.Native.Nat.{_-_}
 use native.Mathlib.Omega.{arith}
-use lib.ListN.{length}
 use Rattle.receiving.specs.Content.{takeBlock}
+use Rattle.receiving.proofs.block.Laws.{counts}
 use borrow.Author.Needs.{needs}
 use Rattle.receiving.proofs.block.take_block.Statement.{statement}
 use Rattle.receiving.proofs.block.take_block.Tie as tie
 
-part-at-requires : tie.Need-part-at-requires
-part-at-requires c κs = search needs
-
-cast-n : tie.Need-cast-n
-cast-n c = search needs
+counted-requires : tie.Need-counted-requires
+counted-requires c κs = search needs
 
 is-first-requires : tie.Need-is-first-requires
 is-first-requires c κs = search needs
@@ -26,12 +23,8 @@ sub-write c = search needs
 part-write-start : tie.Need-part-write-start
 part-write-start c = search needs
 
--- a block holds 52 bytes
-sized : (c : tie.Start) → length (c .args .c .«data») ≡ 52
-sized c = search needs
-
 part-write-end : tie.Need-part-write-end
-part-write-end c = omega (arith, c .before .before .before .before .before .before .before .before .before .before .before .before .before .pre, sized (c .before .before .before .before .before .before .before .before .before .before .before .before .before))
+part-write-end c = search needs
 
 write-requires : tie.Need-write-requires
 write-requires c κs = search needs
@@ -41,17 +34,16 @@ same-length c = search needs
 
 returns : tie.Need-returns
 unfolding takeBlock
-returns c =
-    let n = c .before .before .before .before .before .before .before .before .before .before .before .before .before .before .before .before .before .args .c .length in
-    let z : n - 0 ≡ n = omega arith in
-    c .before .before .write .ensures ∙ rw (z, c .before .before .before .before .before .before .before .before .erase-on-first .ensures, c .before .before .before .before .before .before .before .before .before .before .is-first .ensures, c .before .before .before .before .before .before .before .before .before .before .before .before .before .before .before .part-at .ensures)
+returns c parts slot h =
+    let n = c .before .before .before .before .before .before .before .before .before .before .counted in
+    let z : n .result - 0 ≡ n .result = omega arith in
+    c .before .before .write .ensures ∙ rw (z, n .ensures, counts, c .before .before .before .before .before .before .before .erase-on-first .ensures, c .before .before .before .before .before .before .before .before .before .is-first .ensures, h)
 
 pub take-block-spec : {M : Type 1} → statement M
 take-block-spec =
     tie.close
     (tie.spec
-    part-at-requires
-    cast-n
+    counted-requires
     is-first-requires
     erase-on-first-requires
     sub-write

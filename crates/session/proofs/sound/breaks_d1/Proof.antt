@@ -1,5 +1,8 @@
--- `sound::breaks_d1` meets its contract: the four parts of D1, each as its helper says. Assumes nothing.
-use Rattle.session.specs.Sound.{breaksD1}
+-- `sound::breaks_d1` meets its contract: D1 in another order, each part as its helper says. Assumes nothing.
+use mathlib.Core.Path.{sym, ap, _∙_}
+use Prim.Native.Nat.{ℕ}
+use Rattle.component.specs.Lists.{partAt}
+use Rattle.session.proofs.sound.Grouped.{grouped}
 use borrow.Author.Needs.{needs}
 use Rattle.session.proofs.sound.breaks_d1.Statement.{statement}
 use Rattle.session.proofs.sound.breaks_d1.Tie as tie
@@ -7,11 +10,17 @@ use Rattle.session.proofs.sound.breaks_d1.Tie as tie
 open-slot-requires : tie.Need-open-slot-requires
 open-slot-requires c κs = search needs
 
-setup-verdict-requires : tie.Need-setup-verdict-requires
-setup-verdict-requires c κs = search needs
+slot-of-requires : tie.Need-slot-of-requires
+slot-of-requires c κs = search needs
 
-refuses-setup-requires : tie.Need-refuses-setup-requires
-refuses-setup-requires c κs = search needs
+part-at-requires : tie.Need-part-at-requires
+part-at-requires c κs = search needs
+
+staging-too-long-requires : tie.Need-staging-too-long-requires
+staging-too-long-requires c κs = search needs
+
+bad-count-requires : tie.Need-bad-count-requires
+bad-count-requires c κs = search needs
 
 wrong-slot-requires : tie.Need-wrong-slot-requires
 wrong-slot-requires c κs = search needs
@@ -19,29 +28,33 @@ wrong-slot-requires c κs = search needs
 owes-on-requires : tie.Need-owes-on-requires
 owes-on-requires c κs = search needs
 
-some-stale-requires : tie.Need-some-stale-requires
-some-stale-requires c κs = search needs
+some-unsound-requires : tie.Need-some-unsound-requires
+some-unsound-requires c κs = search needs
 
 returns : tie.Need-returns
-unfolding breaksD1
 returns c =
+    let a = c .before .before .before .before .before .before .before .before .args in
+    let p = sym (c .before .before .before .before .before .part-at .ensures ∙ ap (λ (k : ℕ). partAt (a .parts) k) (c .before .before .before .before .before .before .slot-of .ensures)) in
     rw (
-      c .before .before .before .refuses-setup .ensures,
-      c .before .before .wrong-slot .ensures,
+      c .before .before .before .before .staging-too-long .ensures,
+      c .before .before .before .bad-count .ensures,
+      c .before .before .wrong-slot .ensures (a .parts) p,
       c .before .owes-on .ensures,
-      c .some-stale .ensures,
-      c .before .before .before .before .setup-verdict .ensures,
-      c .before .before .before .before .before .open-slot .ensures,
+      c .some-unsound .ensures,
+      c .before .before .before .before .before .before .before .open-slot .ensures,
     )
+    (sym (grouped (a .n) (a .count) (a .parts) (a .session)))
 
 pub breaks-d1-spec : {M : Type 1} → statement M
 breaks-d1-spec =
     tie.close
     (tie.spec
     open-slot-requires
-    setup-verdict-requires
-    refuses-setup-requires
+    slot-of-requires
+    part-at-requires
+    staging-too-long-requires
+    bad-count-requires
     wrong-slot-requires
     owes-on-requires
-    some-stale-requires
+    some-unsound-requires
     returns)

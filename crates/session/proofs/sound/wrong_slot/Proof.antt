@@ -9,19 +9,15 @@ enum-told c = search needs
 enum-known-at : tie.Need-enum-known-at
 enum-known-at c = search needs
 
-part-at-requires : tie.Need-part-at-requires
-part-at-requires c κs = search needs
-
 is-pending-requires : tie.Need-is-pending-requires
 is-pending-requires c κs = search needs
 
 returns : tie.Need-returns
-returns c = search needs
+returns c = λ parts e. rw (c .enum-told .given .1)
 
 returns-2 : tie.Need-returns-2
-returns-2 c = rw (c .before .before .before .at .given .1, c .is-pending .ensures, c .before .part-at .ensures)
+returns-2 c = λ parts e. let f = rw (c .before .before .at .given .1) at e in rw (c .before .before .at .given .1, c .is-pending .ensures, f)
 
 pub wrong-slot-spec : {M : Type 1} → statement M
 wrong-slot-spec =
-    tie.close
-    (tie.spec enum-told enum-known-at part-at-requires is-pending-requires returns returns-2)
+    tie.close (tie.spec enum-told enum-known-at is-pending-requires returns returns-2)

@@ -1,12 +1,9 @@
 -- `Device::content` meets its contract: D1 to D3, or the answer to a block. Assumes nothing.
-use mathlib.Core.Path.{_≡_, sym, ap, _∙_}
-use borrow.Author.Tests.{eq-eqb}
+use mathlib.Core.Path.{_≡_, sym, _∙_}
 use denote.Ref.{now}
 use lib.ListN.{length}
-use Rattle.wire.specs.Rows.{Told}
 use Rattle.wire.proofs.Chain.{by}
-use Rattle.contents.specs.Content.{fieldsIn, readOf}
-use Rattle.contents.specs.declared.content.ContentFields.{ContentFields}
+use Rattle.contents.specs.Content.{fieldsIn}
 use Rattle.receiving.specs.Receive.{stagingAfter}
 use Rattle.device.specs.Refusals.{served, refusalOf}
 use Rattle.device.specs.Content.{contentEntry, contentStaging}
@@ -33,29 +30,20 @@ returns c =
     let t = rw q at (by (c .before .before .is-refused .ensures) (c .before .if1 .taken)) in
     (c .refused .ensures ∙ rw q (sym (one-refuses _ _ _ t)), sym (one-keeps (refusalOf 60 (a .self) (length (now (a .staging))) (length (now (a .report)))) (now (a .staging)) (stagingAfter (a .self .parts) (a .self .stage) (fieldsIn (now (a .report))) (now (a .staging))) t))
 
-read-content-requires : tie.Need-read-content-requires
-read-content-requires c κs = search needs
+-- no row refuses the call, so the report has 60 bytes
+serves-it : (c : tie.Else1) → let a = c .before .before .before .before .before .args in refusalOf 60 (a .self) (length (now (a .staging))) (length (now (a .report))) ≡ served
+serves-it c = none-refuses _ (rw (c .before .before .refusal .ensures) at (by (c .before .is-refused .ensures) (c .if1 .left)))
 
 on-content-requires : tie.Need-on-content-requires
-on-content-requires c κs = search needs
+on-content-requires c κs = serves 60 _ _ _ (serves-it (c .before)) .report
 
 same-length : tie.Need-same-length
 same-length c = search needs
 
--- no row refuses the call, so the report is read as what it is
-serves-it : (c : tie.Else1) → let a = c .before .before .before .before .before .args in refusalOf 60 (a .self) (length (now (a .staging))) (length (now (a .report))) ≡ served
-serves-it c = none-refuses _ (rw (c .before .before .refusal .ensures) at (by (c .before .is-refused .ensures) (c .if1 .left)))
-
-read : (c : tie.After-read-content) → c .read-content .result .content ≡ fieldsIn (now (c .before .before .before .before .before .before .args .report))
-unfolding readOf
-read c = ap (λ (t : Told ContentFields). t .value) (rw (eq-eqb _ _ (serves 60 _ _ _ (serves-it (c .before)) .report)) at (c .read-content .ensures))
-
 returns-2 : tie.Need-returns-2
 unfolding contentEntry contentStaging
 returns-2 c =
-    let r = serves-it (c .before .before .before .before .before .before) in
-    let e = read (c .before .before .before .before .before) in
-    (rw r (rw e at (c .before .before .on-content .ensures .0)), rw r (rw e at (c .before .before .on-content .ensures .1)))
+    let r = serves-it (c .before .before .before .before) in (rw r (c .before .before .on-content .ensures .0), rw r (c .before .before .on-content .ensures .1))
 
 pub content-spec : {M : Type 1} → statement M
 content-spec =
@@ -65,7 +53,6 @@ content-spec =
     is-refused-requires
     refused-requires
     returns
-    read-content-requires
     on-content-requires
     same-length
     returns-2)

@@ -1,0 +1,13 @@
+-- `rule::clash` meets its contract: the two tests. Assumes nothing.
+use borrow.Author.Needs.{needs}
+use Rattle.component.proofs.rule.clash.Statement.{statement}
+use Rattle.component.proofs.rule.clash.Tie as tie
+
+overlaps-requires : tie.Need-overlaps-requires
+overlaps-requires c κs = search needs
+
+returns : tie.Need-returns
+returns c = rw (c .overlaps .ensures)
+
+pub clash-spec : {M : Type 1} → statement M
+clash-spec = tie.close (tie.spec overlaps-requires returns)

@@ -1,0 +1,42 @@
+-- `part::part_of` meets its contract: where there are as many bytes, and the slot is one of seven. Assumes nothing.
+use native.Mathlib.Omega.{arith}
+use borrow.Author.Tests.{eqb-true, ltb-true}
+use borrow.Author.Needs.{needs}
+use lib.Dec.{eqb, ltb}
+use lib.ListN.{length}
+use Rattle.device_bytes.specs.Layout.{DEVICE-SIZE}
+use Rattle.wire.proofs.Tests.{both}
+use Rattle.device_bytes.proofs.part.part_of.Statement.{statement}
+use Rattle.device_bytes.proofs.part.part_of.Tie as tie
+
+mul-part-from : tie.Need-mul-part-from
+mul-part-from c = search needs
+
+add-part-from : tie.Need-add-part-from
+add-part-from c = search needs
+
+part-from-requires : tie.Need-part-from-requires
+part-from-requires c κs =
+    let a = c .before .before .args in
+    let h = both (eqb (length (a .b .now)) DEVICE-SIZE) (ltb (a .slot) 7) (c .if1 .taken) in
+    omega (arith, eqb-true (length (a .b .now)) DEVICE-SIZE (h .0), ltb-true (a .slot) 7 (h .1))
+
+blank-component-requires : tie.Need-blank-component-requires
+blank-component-requires c κs = search needs
+
+returns : tie.Need-returns
+returns c = rw (c .before .if1 .taken) (c .part-from .ensures)
+
+returns-2 : tie.Need-returns-2
+returns-2 c = rw (c .before .if1 .left) (c .blank-component .ensures)
+
+pub part-of-spec : {M : Type 1} → statement M
+part-of-spec =
+    tie.close
+    (tie.spec
+    mul-part-from
+    add-part-from
+    part-from-requires
+    blank-component-requires
+    returns
+    returns-2)

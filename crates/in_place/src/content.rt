@@ -1,0 +1,57 @@
+// The content entry in place (document 01, "The device").
+use crate::Reply;
+use crate::fields::component_at;
+use crate::fields::session_in;
+use crate::fields::store_part;
+use crate::fields::store_session;
+use crate::refused;
+use crate::served;
+use crate::sound::refusal_in;
+use contents::head::read_head;
+use receiving::content;
+use slots::slot::slot_of;
+ghost use mathlib.Core.Path.{_≡_};
+ghost use mathlib.Core.Bool.{true};
+ghost use lib.ListN.{length};
+ghost use Rattle.wire.specs.Bytes.{same};
+ghost use Rattle.contents.specs.Content.{fieldsIn};
+ghost use Rattle.receiving.specs.Receive.{onContent, stagingAfter};
+ghost use Rattle.device.specs.Record.{sessionOf};
+ghost use Rattle.device.specs.Content.{received, contentEntry, contentStaging};
+ghost use Rattle.device_bytes.specs.Layout.{DEVICE-SIZE, deviceBytes, deviceIn, readDevice};
+ghost use Rattle.in_place.specs.InPlace.{outcomeOf, leftBy};
+
+// A packet that no row refuses.
+fn on_content(bytes: &mut [u8], staging: &mut [u8], report: &[u8]) -> Reply
+    requires { ⌜ (length (now bytes) ≡ DEVICE-SIZE) × (same (deviceBytes (deviceIn (now bytes))) (now bytes) ≡ true) × (length (now report) ≡ 60) ⌝ }
+    ensures { λ r. ⌜ (outcomeOf r (received (deviceIn (now (bytes .entry))) (onContent (deviceIn (now (bytes .entry)) .parts) (sessionOf (deviceIn (now (bytes .entry)))) (fieldsIn (now (report .entry))) (now (staging .entry))) .device)
+        ≡ received (deviceIn (now (bytes .entry))) (onContent (deviceIn (now (bytes .entry)) .parts) (sessionOf (deviceIn (now (bytes .entry)))) (fieldsIn (now (report .entry))) (now (staging .entry))))
+        × (now (bytes .exit) ≡ deviceBytes (received (deviceIn (now (bytes .entry))) (onContent (deviceIn (now (bytes .entry)) .parts) (sessionOf (deviceIn (now (bytes .entry)))) (fieldsIn (now (report .entry))) (now (staging .entry))) .device))
+        × (now (staging .exit) ≡ stagingAfter (deviceIn (now (bytes .entry)) .parts) (deviceIn (now (bytes .entry)) .stage) (fieldsIn (now (report .entry))) (now (staging .entry))) ⌝ }
+{
+    let session = session_in(bytes);
+    let stage = session.stage;
+    let slot = slot_of(stage.open_slot());
+    let part = component_at(bytes, slot);
+    let head = read_head(report);
+    let taken = content::on_content(part, session, head, &report[8..], staging);
+    let effect = taken.effect;
+    let after = taken.part;
+    let next = effect.session;
+    store_session(bytes, next);
+    store_part(bytes, slot, after);
+    served(effect)
+}
+
+// What the by-value entry answers, with the record and the staging buffer left as it leaves them; where a row refuses, the record's bytes stay.
+pub fn content_in_place(bytes: &mut [u8], staging: &mut [u8], report: &[u8]) -> Reply
+    ensures { λ r. ⌜ (outcomeOf r (contentEntry (readDevice (now (bytes .entry))) (now (staging .entry)) (now (report .entry)) .device) ≡ contentEntry (readDevice (now (bytes .entry))) (now (staging .entry)) (now (report .entry)))
+        × (now (bytes .exit) ≡ leftBy (now (bytes .entry)) (contentEntry (readDevice (now (bytes .entry))) (now (staging .entry)) (now (report .entry))))
+        × (now (staging .exit) ≡ contentStaging (readDevice (now (bytes .entry))) (now (staging .entry)) (now (report .entry))) ⌝ }
+{
+    let refusal = refusal_in(bytes, 60, staging.len(), report.len());
+    if refusal.is_refused() {
+        return refused(refusal);
+    }
+    on_content(bytes, staging, report)
+}

@@ -1,9 +1,15 @@
 -- What an entry over the bytes of a record answers, and the bytes that it leaves.
 use Prim.Native.Nat.{ℕ}
 use mathlib.Core.List.{List, _++_}
+use Rattle.contents.specs.Content.{fieldsIn}
+use Rattle.offers.specs.declared.kind.OfferPacket.{OfferPacket}
+use Rattle.receiving.specs.Receive.{onContent}
+use Rattle.offering.specs.Packet.{onPacket}
 use Rattle.device.specs.declared.record.Device.{Device}
-use Rattle.device.specs.Refusals.{Row, served, D, rowOf, dueSent, readySent, Outcome}
-use Rattle.device_bytes.specs.Layout.{deviceBytes}
+use Rattle.device.specs.Record.{sessionOf}
+use Rattle.device.specs.Refusals.{Row, served, D, rowOf, dueSent, readySent, Outcome, servedWith}
+use Rattle.device.specs.Content.{received}
+use Rattle.device_bytes.specs.Layout.{deviceBytes, deviceIn}
 use Rattle.in_place.specs.declared.Reply.{Reply}
 
 -- what an answer tells, with the next record
@@ -25,3 +31,13 @@ keptBy (D k) before after = before
 -- the bytes that an outcome leaves
 abbrev pub leftBy : (before : List ℕ) → Outcome → List ℕ
 leftBy before o = keptBy (o .row) before (deviceBytes (o .device))
+
+-- what a content packet that no row refuses comes to, over the record in these bytes
+abbrev pub contentBy : (b staging report : List ℕ) → Outcome
+contentBy b staging report = received (deviceIn b) (onContent (deviceIn b .parts) (sessionOf (deviceIn b)) (fieldsIn report) staging)
+
+-- .. and a packet of the offer channel
+abbrev pub packetBy : (b : List ℕ) → OfferPacket → Outcome
+packetBy b p =
+    servedWith (deviceIn b) (deviceIn b .parts)
+    (onPacket (deviceIn b .platform) (deviceIn b .count) (deviceIn b .parts) (sessionOf (deviceIn b)) p)

@@ -15,18 +15,16 @@ ghost use mathlib.Core.Bool.{true};
 ghost use lib.ListN.{length};
 ghost use Rattle.wire.specs.Bytes.{same};
 ghost use Rattle.contents.specs.Content.{fieldsIn};
-ghost use Rattle.receiving.specs.Receive.{onContent, stagingAfter};
-ghost use Rattle.device.specs.Record.{sessionOf};
-ghost use Rattle.device.specs.Content.{received, contentEntry, contentStaging};
+ghost use Rattle.receiving.specs.Receive.{stagingAfter};
+ghost use Rattle.device.specs.Content.{contentEntry, contentStaging};
 ghost use Rattle.device_bytes.specs.Layout.{DEVICE-SIZE, deviceBytes, deviceIn, readDevice};
-ghost use Rattle.in_place.specs.InPlace.{outcomeOf, leftBy};
+ghost use Rattle.in_place.specs.InPlace.{outcomeOf, leftBy, contentBy};
 
 // A packet that no row refuses.
 fn on_content(bytes: &mut [u8], staging: &mut [u8], report: &[u8]) -> Reply
     requires { ⌜ (length (now bytes) ≡ DEVICE-SIZE) × (same (deviceBytes (deviceIn (now bytes))) (now bytes) ≡ true) × (length (now report) ≡ 60) ⌝ }
-    ensures { λ r. ⌜ (outcomeOf r (received (deviceIn (now (bytes .entry))) (onContent (deviceIn (now (bytes .entry)) .parts) (sessionOf (deviceIn (now (bytes .entry)))) (fieldsIn (now (report .entry))) (now (staging .entry))) .device)
-        ≡ received (deviceIn (now (bytes .entry))) (onContent (deviceIn (now (bytes .entry)) .parts) (sessionOf (deviceIn (now (bytes .entry)))) (fieldsIn (now (report .entry))) (now (staging .entry))))
-        × (now (bytes .exit) ≡ deviceBytes (received (deviceIn (now (bytes .entry))) (onContent (deviceIn (now (bytes .entry)) .parts) (sessionOf (deviceIn (now (bytes .entry)))) (fieldsIn (now (report .entry))) (now (staging .entry))) .device))
+    ensures { λ r. ⌜ (outcomeOf r (contentBy (now (bytes .entry)) (now (staging .entry)) (now (report .entry)) .device) ≡ contentBy (now (bytes .entry)) (now (staging .entry)) (now (report .entry)))
+        × (now (bytes .exit) ≡ deviceBytes (contentBy (now (bytes .entry)) (now (staging .entry)) (now (report .entry)) .device))
         × (now (staging .exit) ≡ stagingAfter (deviceIn (now (bytes .entry)) .parts) (deviceIn (now (bytes .entry)) .stage) (fieldsIn (now (report .entry))) (now (staging .entry))) ⌝ }
 {
     let session = session_in(bytes);

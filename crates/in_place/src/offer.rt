@@ -14,19 +14,15 @@ ghost use mathlib.Core.Path.{_≡_};
 ghost use mathlib.Core.Bool.{true};
 ghost use lib.ListN.{length};
 ghost use Rattle.wire.specs.Bytes.{same};
-ghost use Rattle.offering.specs.Packet.{onPacket};
-ghost use Rattle.device.specs.Record.{sessionOf};
-ghost use Rattle.device.specs.Refusals.{servedWith};
 ghost use Rattle.device.specs.Offer.{offerEntry};
 ghost use Rattle.device_bytes.specs.Layout.{DEVICE-SIZE, deviceBytes, deviceIn, readDevice};
-ghost use Rattle.in_place.specs.InPlace.{outcomeOf, leftBy};
+ghost use Rattle.in_place.specs.InPlace.{outcomeOf, leftBy, packetBy};
 
 // A packet that no row refuses; none changes a component.
 fn on_packet(bytes: &mut [u8], p: OfferPacket) -> Reply
     requires { ⌜ (length (now bytes) ≡ DEVICE-SIZE) × (same (deviceBytes (deviceIn (now bytes))) (now bytes) ≡ true) ⌝ }
-    ensures { λ r. ⌜ (outcomeOf r (servedWith (deviceIn (now (bytes .entry))) (deviceIn (now (bytes .entry)) .parts) (onPacket (deviceIn (now (bytes .entry)) .platform) (deviceIn (now (bytes .entry)) .count) (deviceIn (now (bytes .entry)) .parts) (sessionOf (deviceIn (now (bytes .entry)))) p) .device)
-        ≡ servedWith (deviceIn (now (bytes .entry))) (deviceIn (now (bytes .entry)) .parts) (onPacket (deviceIn (now (bytes .entry)) .platform) (deviceIn (now (bytes .entry)) .count) (deviceIn (now (bytes .entry)) .parts) (sessionOf (deviceIn (now (bytes .entry)))) p))
-        × (now (bytes .exit) ≡ deviceBytes (servedWith (deviceIn (now (bytes .entry))) (deviceIn (now (bytes .entry)) .parts) (onPacket (deviceIn (now (bytes .entry)) .platform) (deviceIn (now (bytes .entry)) .count) (deviceIn (now (bytes .entry)) .parts) (sessionOf (deviceIn (now (bytes .entry)))) p) .device)) ⌝ }
+    ensures { λ r. ⌜ (outcomeOf r (packetBy (now (bytes .entry)) p .device) ≡ packetBy (now (bytes .entry)) p)
+        × (now (bytes .exit) ≡ deviceBytes (packetBy (now (bytes .entry)) p .device)) ⌝ }
 {
     let session = session_in(bytes);
     let target = standing_in(bytes, packet::id_of(p));

@@ -53,7 +53,18 @@ fn now() -> u64 {
     time.seconds as u64 * 1_000_000_000 + time.nanoseconds as u64
 }
 
-/// The least time of a call of each, measured in turn so that all meet the same machine.
+/// Does it some steps further down the stack, so that what a call keeps there lies elsewhere.
+#[inline(never)]
+fn deeper(steps: usize, run: &mut dyn FnMut()) {
+    black_box([0u8; 48]);
+    if steps == 0 {
+        run();
+    } else {
+        deeper(steps - 1, run);
+    }
+}
+
+/// The least time of a call of each, measured in turn so that all meet the same machine, at another place of the stack each time.
 fn measure(what: String, calls: &mut [&mut dyn FnMut()]) -> Row {
     let mut rounds = Vec::new();
     for call in calls.iter_mut() {
@@ -72,13 +83,15 @@ fn measure(what: String, calls: &mut [&mut dyn FnMut()]) -> Row {
         rounds.push(count);
     }
     let mut times = vec![f64::MAX; calls.len()];
-    for _ in 0..REPETITIONS {
+    for repetition in 0..REPETITIONS {
         for (place, call) in calls.iter_mut().enumerate() {
-            let begun = now();
-            for _ in 0..rounds[place] {
-                call();
-            }
-            times[place] = times[place].min((now() - begun) as f64 / rounds[place] as f64);
+            deeper(repetition, &mut || {
+                let begun = now();
+                for _ in 0..rounds[place] {
+                    call();
+                }
+                times[place] = times[place].min((now() - begun) as f64 / rounds[place] as f64);
+            });
         }
     }
     Row { what, times }

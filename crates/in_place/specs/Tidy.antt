@@ -1,5 +1,5 @@
--- Bytes of a record's length are a record's where the flags, and the bytes that a flag rules, are as a record has them: every value of the other bytes is some
--- record's.
+-- The private tests of sound.rt, by the bytes that they look at; no public contract names them. Bytes of a record's length are a record's where the flags, and
+-- the bytes that a flag rules, are as a record has them: every value of the other bytes is some record's.
 use Prim.Native.Nat.{ℕ, zero, suc}
 use mathlib.Core.Bool.{Bool, true, _&&_, _||_}
 use mathlib.Core.List.{List}

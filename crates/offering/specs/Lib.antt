@@ -1,3 +1,4 @@
 pub mod Offer
+pub mod Eligible
 pub mod Signal
 pub mod Packet

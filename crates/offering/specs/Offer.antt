@@ -10,12 +10,13 @@ use Rattle.wire.specs.Version.{releaseOf}
 use Rattle.offers.specs.Reply.{replyBytes}
 use Rattle.offers.specs.declared.offer.OfferFields.{OfferFields}
 use Rattle.component.specs.Record.{isPending, effective}
-use Rattle.component.specs.Lists.{find, partAt}
 use Rattle.component.specs.Versions.{offerVersion}
 use Rattle.component.specs.declared.record.Component.{Component}
 use Rattle.component.specs.declared.rule.VersionVerdict.{VersionVerdict}
 use Rattle.component.specs.declared.rule.VersionVerdict.the-variants.{Fits, Old}
 use Rattle.slots.specs.Slots.{slotOf, isAbsent}
+use Rattle.slots.specs.Standing.{standingOf}
+use Rattle.slots.specs.declared.standing.Standing.{Standing}
 use Rattle.session.specs.Stage.{isOpen}
 use Rattle.session.specs.Effect.{inStage, answered}
 use Rattle.session.specs.declared.stage.Stage.{Stage}
@@ -34,32 +35,35 @@ isOld Old = true
 abbrev pub below : Component → ℕ → Bool
 below c least = ltb (releaseOf (effective (c .running) (c .staged))) least
 
--- the component that the offer is for
-abbrev pub target : (count : ℕ) → List Component → OfferFields → Component
-target count parts o = partAt parts (slotOf (find (o .id) count parts))
-
--- checks 2 to 7, each with its answer
-unfoldable pub rejections : (platform count : ℕ) → List Component → OfferFields → List (Bool × OfferVerdict)
-rejections platform count parts o =
+-- checks 2 to 7, each with its answer, for the component that the offer is for
+abbrev pub rejectionsAt : (platform : ℕ) → (target : Standing) → OfferFields → List (Bool × OfferVerdict)
+rejectionsAt platform target o =
     (not (eqb (o .protocol) PROTOCOL), Reject REJECT-WRONG-PROTOCOL)
-    ∷ (isAbsent (find (o .id) count parts), Reject REJECT-INV-COMPONENT)
+    ∷ (isAbsent (target .at), Reject REJECT-INV-COMPONENT)
     ∷ (not (eqb (o .platform) platform), Reject REJECT-INV-COMPONENT)
     ∷ (not (eqb (o .segment) 0), Reject REJECT-WRONG-SEGMENT)
-    ∷ (isPending (target count parts o .staged), Reject REJECT-SWAP-PENDING)
-    ∷ (isOld (offerVersion (target count parts o) (o .version)), Reject REJECT-OLD-FW)
+    ∷ (isPending (target .part .staged), Reject REJECT-SWAP-PENDING)
+    ∷ (isOld (offerVersion (target .part) (o .version)), Reject REJECT-OLD-FW)
     ∷ []
 
--- check 8: byte 8 is not 0, and that component is absent or its effective version is below
-unfoldable pub needUnmet : (count : ℕ) → List Component → OfferFields → Bool
-needUnmet count parts o =
-    not (eqb (o .need) 0)
-    && (isAbsent (find (o .need) count parts) || below (partAt parts (slotOf (find (o .need) count parts))) (o .least))
+-- check 8: byte 8 is not 0, and the needed component is absent or its effective version is below
+abbrev pub needUnmetAt : (needed : Standing) → OfferFields → Bool
+needUnmetAt needed o = not (eqb (o .need) 0) && (isAbsent (needed .at) || below (needed .part) (o .least))
 
 -- checks 1 to 9: the first that applies
+abbrev pub verdictAt : (platform : ℕ) → Stage → (target needed : Standing) → OfferFields → OfferVerdict
+verdictAt platform stage target needed o =
+    firstOf ((isOpen stage, Busy) ∷ rejectionsAt platform target o ++ (needUnmetAt needed o, Skip) ∷ []) (Accept (slotOf (target .at)))
+
+-- .. for a device's components
+unfoldable pub rejections : (platform count : ℕ) → List Component → OfferFields → List (Bool × OfferVerdict)
+rejections platform count parts o = rejectionsAt platform (standingOf (o .id) count parts) o
+
+unfoldable pub needUnmet : (count : ℕ) → List Component → OfferFields → Bool
+needUnmet count parts o = needUnmetAt (standingOf (o .need) count parts) o
+
 unfoldable pub offerVerdict : (platform count : ℕ) → List Component → Stage → OfferFields → OfferVerdict
-offerVerdict platform count parts stage o =
-    firstOf ((isOpen stage, Busy) ∷ rejections platform count parts o ++ (needUnmet count parts o, Skip) ∷ [])
-    (Accept (slotOf (find (o .id) count parts)))
+offerVerdict platform count parts stage o = verdictAt platform stage (standingOf (o .id) count parts) (standingOf (o .need) count parts) o
 
 -- the status of a verdict, and its reason: zero unless REJECT
 abbrev pub statusOf : OfferVerdict → ℕ
@@ -87,6 +91,10 @@ onVerdict session token verdict =
     answered (replyBytes (record { token = token; reason = reasonOf verdict; status = statusOf verdict })) owed.Nothing
     (afterOffer session token verdict)
 
--- an offer
+-- an offer, with the component that it is for and the one that it needs
+abbrev pub onOfferAt : (platform : ℕ) → Session → (target needed : Standing) → OfferFields → Effect
+onOfferAt platform session target needed o = onVerdict session (o .token) (verdictAt platform (session .stage) target needed o)
+
+-- .. for a device's components
 unfoldable pub onOffer : (platform count : ℕ) → List Component → Session → OfferFields → Effect
 onOffer platform count parts session o = onVerdict session (o .token) (offerVerdict platform count parts (session .stage) o)

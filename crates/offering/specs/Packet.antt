@@ -5,10 +5,12 @@ use Rattle.offers.specs.Kind.{Kind, offer, information, extended}
 use Rattle.offers.specs.declared.kind.OfferPacket.{OfferPacket}
 use Rattle.offers.specs.declared.kind.OfferPacket.the-variants.{Refused, Offer, Information, Extended}
 use Rattle.component.specs.declared.record.Component.{Component}
+use Rattle.slots.specs.Standing.{standingOf}
+use Rattle.slots.specs.declared.standing.Standing.{Standing}
 use Rattle.session.specs.Effect.{silent}
 use Rattle.session.specs.declared.effect.Session.{Session}
 use Rattle.session.specs.declared.effect.Effect.{Effect}
-use Rattle.offering.specs.Offer.{onOffer}
+use Rattle.offering.specs.Offer.{onOffer, onOfferAt}
 use Rattle.offering.specs.Signal.{onInformation, onExtended}
 
 -- the id of the component that a packet is for, and of the one that it needs; 0 where it is no offer
@@ -29,9 +31,13 @@ onKind platform count parts session (offer o) = onOffer platform count parts ses
 onKind platform count parts session (information s) = onInformation session s
 onKind platform count parts session (extended s) = onExtended session s
 
--- what the reader hands out: of bytes that are no packet nothing comes
+-- what the reader hands out, with the component that it is for and the one that it needs; of bytes that are no packet nothing comes
+abbrev pub onPacketAt : (platform : ℕ) → Session → (target needed : Standing) → OfferPacket → Effect
+onPacketAt platform session target needed Refused = silent session
+onPacketAt platform session target needed (Offer o) = onOfferAt platform session target needed o
+onPacketAt platform session target needed (Information s) = onInformation session s
+onPacketAt platform session target needed (Extended s) = onExtended session s
+
+-- .. for a device's components
 abbrev pub onPacket : (platform count : ℕ) → List Component → Session → OfferPacket → Effect
-onPacket platform count parts session Refused = silent session
-onPacket platform count parts session (Offer o) = onKind platform count parts session (offer o)
-onPacket platform count parts session (Information s) = onKind platform count parts session (information s)
-onPacket platform count parts session (Extended s) = onKind platform count parts session (extended s)
+onPacket platform count parts session p = onPacketAt platform session (standingOf (idOf p) count parts) (standingOf (needOf p) count parts) p

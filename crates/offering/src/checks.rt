@@ -8,69 +8,8 @@ use slots::slot::slot_of;
 use slots::standing::Standing;
 use wire::codes;
 ghost use mathlib.Core.Path.{_≡_};
-ghost use mathlib.Core.List.{List, [], _∷_};
-ghost use Prim.Native.Nat.{ℕ};
-ghost use Rattle.component.specs.declared.record.Component.{Component};
-ghost use Rattle.slots.specs.Standing.{standingOf};
 ghost use Rattle.wire.specs.Checks.{firstOf};
-ghost use Rattle.wire.specs.Codes.{REJECT-OLD-FW, REJECT-INV-COMPONENT, REJECT-SWAP-PENDING, REJECT-WRONG-PROTOCOL, REJECT-WRONG-SEGMENT};
-ghost use Rattle.offering.specs.Offer.{isOld, needUnmet, offerVerdict};
-ghost use Rattle.offering.specs.declared.verdict.OfferVerdict.the-variants.{Busy, Reject, Skip, Accept};
-
-// Checks 1 to 8 of an offer: whether each applies.
-struct OfferChecks {
-    busy: bool,
-    protocol: bool,
-    absent: bool,
-    platform: bool,
-    segment: bool,
-    pending: bool,
-    old: bool,
-    need: bool,
-}
-
-impl OfferChecks {
-    // The first that applies answers; where none does, check 9.
-    fn first(self, slot: u8) -> OfferVerdict
-        ensures { λ r. ⌜ r ≡ firstOf (
-            (self .busy, Busy)
-            ∷ (self .protocol, Reject REJECT-WRONG-PROTOCOL)
-            ∷ (self .absent, Reject REJECT-INV-COMPONENT)
-            ∷ (self .platform, Reject REJECT-INV-COMPONENT)
-            ∷ (self .segment, Reject REJECT-WRONG-SEGMENT)
-            ∷ (self .pending, Reject REJECT-SWAP-PENDING)
-            ∷ (self .old, Reject REJECT-OLD-FW)
-            ∷ (self .need, Skip)
-            ∷ [])
-            (Accept slot) ⌝ }
-    {
-        if self.busy {
-            return OfferVerdict::Busy;
-        }
-        if self.protocol {
-            return OfferVerdict::Reject(codes::REJECT_WRONG_PROTOCOL);
-        }
-        if self.absent {
-            return OfferVerdict::Reject(codes::REJECT_INV_COMPONENT);
-        }
-        if self.platform {
-            return OfferVerdict::Reject(codes::REJECT_INV_COMPONENT);
-        }
-        if self.segment {
-            return OfferVerdict::Reject(codes::REJECT_WRONG_SEGMENT);
-        }
-        if self.pending {
-            return OfferVerdict::Reject(codes::REJECT_SWAP_PENDING);
-        }
-        if self.old {
-            return OfferVerdict::Reject(codes::REJECT_OLD_FW);
-        }
-        if self.need {
-            return OfferVerdict::Skip;
-        }
-        OfferVerdict::Accept(slot)
-    }
-}
+ghost use Rattle.offering.specs.Offer.{isOld, rejectionsAt, needUnmetAt, verdictAt};
 
 fn is_old(v: VersionVerdict) -> bool
     ensures { λ r. ⌜ r ≡ isOld v ⌝ }
@@ -83,7 +22,7 @@ fn is_old(v: VersionVerdict) -> bool
 
 // Check 8: that component is absent, or its effective version is below.
 fn need_unmet(needed: Standing, o: OfferFields) -> bool
-    ensures { λ r. ⌜ ((count : ℕ) → (parts : List Component) → standingOf (o .need) count parts ≡ needed → r ≡ needUnmet count parts o) ⌝ }
+    ensures { λ r. ⌜ r ≡ needUnmetAt needed o ⌝ }
 {
     let f = needed.at;
     let part = needed.part;
@@ -91,7 +30,45 @@ fn need_unmet(needed: Standing, o: OfferFields) -> bool
     (o.need != 0) & (is_absent(f) | (version.release() < o.least))
 }
 
-// Checks 1 to 9.
+// Checks 2 to 7, from the last to the first; where none rejects the offer, what the checks after them say.
+fn unless_rejected(
+    platform: u16,
+    target: Standing,
+    o: OfferFields,
+    passed: OfferVerdict,
+) -> OfferVerdict
+    ensures { λ r. ⌜ r ≡ firstOf (rejectionsAt platform target o) passed ⌝ }
+{
+    let version = o.version;
+    let f = target.at;
+    let part = target.part;
+    let seven = passed.unless(
+        is_old(part.offer_version(version)),
+        OfferVerdict::Reject(codes::REJECT_OLD_FW),
+    );
+    let six = seven.unless(
+        part.is_pending(),
+        OfferVerdict::Reject(codes::REJECT_SWAP_PENDING),
+    );
+    let five = six.unless(
+        o.segment != 0,
+        OfferVerdict::Reject(codes::REJECT_WRONG_SEGMENT),
+    );
+    let four = five.unless(
+        o.platform != platform,
+        OfferVerdict::Reject(codes::REJECT_INV_COMPONENT),
+    );
+    let three = four.unless(
+        is_absent(f),
+        OfferVerdict::Reject(codes::REJECT_INV_COMPONENT),
+    );
+    three.unless(
+        o.protocol != codes::PROTOCOL,
+        OfferVerdict::Reject(codes::REJECT_WRONG_PROTOCOL),
+    )
+}
+
+// Checks 1 to 9, from the last to the first.
 pub fn judge_offer(
     platform: u16,
     stage: Stage,
@@ -99,26 +76,11 @@ pub fn judge_offer(
     needed: Standing,
     o: OfferFields,
 ) -> OfferVerdict
-    ensures { λ r. ⌜ ((count : ℕ) → (parts : List Component) → standingOf (o .id) count parts ≡ target → standingOf (o .need) count parts ≡ needed → r ≡ offerVerdict platform count parts stage o) ⌝ }
+    ensures { λ r. ⌜ r ≡ verdictAt platform stage target needed o ⌝ }
 {
-    let version = o.version;
     let f = target.at;
-    let slot = slot_of(f);
-    let part = target.part;
-    let busy = stage.is_open();
-    let absent = is_absent(f);
-    let pending = part.is_pending();
-    let old = is_old(part.offer_version(version));
-    let need = need_unmet(needed, o);
-    let checks = OfferChecks {
-        busy,
-        protocol: o.protocol != codes::PROTOCOL,
-        absent,
-        platform: o.platform != platform,
-        segment: o.segment != 0,
-        pending,
-        old,
-        need,
-    };
-    checks.first(slot)
+    let nine = OfferVerdict::Accept(slot_of(f));
+    let eight = nine.unless(need_unmet(needed, o), OfferVerdict::Skip);
+    let two = unless_rejected(platform, target, o, eight);
+    two.unless(stage.is_open(), OfferVerdict::Busy)
 }

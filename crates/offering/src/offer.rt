@@ -11,11 +11,7 @@ use session::stage::Offered;
 use session::stage::Stage;
 use slots::standing::Standing;
 ghost use mathlib.Core.Path.{_≡_};
-ghost use mathlib.Core.List.{List};
-ghost use Prim.Native.Nat.{ℕ};
-ghost use Rattle.component.specs.declared.record.Component.{Component};
-ghost use Rattle.slots.specs.Standing.{standingOf};
-ghost use Rattle.offering.specs.Offer.{afterOffer, onOffer};
+ghost use Rattle.offering.specs.Offer.{afterOffer, onOfferAt};
 
 // ACCEPT makes the session offered; any other verdict changes nothing.
 fn after_offer(session: Session, token: u8, verdict: OfferVerdict) -> Session
@@ -37,7 +33,7 @@ pub fn on_offer(
     needed: Standing,
     o: OfferFields,
 ) -> Effect
-    ensures { λ r. ⌜ ((count : ℕ) → (parts : List Component) → standingOf (o .id) count parts ≡ target → standingOf (o .need) count parts ≡ needed → r ≡ onOffer platform count parts session o) ⌝ }
+    ensures { λ r. ⌜ r ≡ onOfferAt platform session target needed o ⌝ }
 {
     let stage = session.stage;
     let verdict = judge_offer(platform, stage, target, needed, o);

@@ -7,11 +7,7 @@ use session::effect::Effect;
 use session::effect::Session;
 use slots::standing::Standing;
 ghost use mathlib.Core.Path.{_≡_};
-ghost use mathlib.Core.List.{List};
-ghost use Prim.Native.Nat.{ℕ};
-ghost use Rattle.component.specs.declared.record.Component.{Component};
-ghost use Rattle.slots.specs.Standing.{standingOf};
-ghost use Rattle.offering.specs.Packet.{idOf, needOf, onPacket};
+ghost use Rattle.offering.specs.Packet.{idOf, needOf, onPacketAt};
 
 // The id of the component that a packet is for; 0, which none has, where it is no offer.
 pub fn id_of(p: OfferPacket) -> u8
@@ -45,7 +41,7 @@ pub fn on_packet(
     needed: Standing,
     p: OfferPacket,
 ) -> Effect
-    ensures { λ r. ⌜ ((count : ℕ) → (parts : List Component) → standingOf (idOf p) count parts ≡ target → standingOf (needOf p) count parts ≡ needed → r ≡ onPacket platform count parts session p) ⌝ }
+    ensures { λ r. ⌜ r ≡ onPacketAt platform session target needed p ⌝ }
 {
     match p {
         OfferPacket::Refused => session.silent(),

@@ -1,6 +1,7 @@
 // What the checks of an offer say (document 01, "The device"), and the status and reason of its reply.
 use wire::codes;
 ghost use mathlib.Core.Path.{_≡_};
+ghost use mathlib.Core.Bool.{cond};
 ghost use Rattle.offering.specs.Offer.{statusOf, reasonOf};
 
 // The first check that applies.
@@ -14,6 +15,13 @@ pub enum OfferVerdict {
 }
 
 impl OfferVerdict {
+    // The answer of a check that applies, and otherwise what the checks after it say.
+    pub(crate) fn unless(self, applies: bool, answer: OfferVerdict) -> OfferVerdict
+        ensures { λ r. ⌜ r ≡ cond applies answer self ⌝ }
+    {
+        if applies { answer } else { self }
+    }
+
     pub fn status(self) -> u8
         ensures { λ r. ⌜ r ≡ statusOf self ⌝ }
     {

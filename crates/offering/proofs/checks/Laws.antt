@@ -1,43 +1,28 @@
 -- What a verdict on an offer tells, and that an offer while idle is answered by eligibility and need alone. Assumes nothing.
 use Prim.Native.Nat.{ℕ}
-use mathlib.Core.Path.{_≡_, refl}
-use mathlib.Core.Bool.{Bool, true, false, not, cond, _||_, true≢false}
-use mathlib.Core.List.{List}
-use lib.Dec.{eqb}
+use mathlib.Core.Path.{_≡_, refl, sym, ap, subst, _∙_}
+use mathlib.Core.Bool.{Bool, true, false}
+use mathlib.Core.List.{List, [], _∷_}
 use Rattle.wire.specs.Checks.{firstOf, applies}
-use Rattle.wire.specs.Codes.{PROTOCOL, REJECT-OLD-FW, REJECT-INV-COMPONENT, REJECT-SWAP-PENDING, REJECT-WRONG-PROTOCOL, REJECT-WRONG-SEGMENT}
-use Rattle.wire.proofs.Chain.{first-says}
+use Rattle.wire.proofs.Chain.{first-applies, first-passes}
 use Rattle.offers.specs.declared.offer.OfferFields.{OfferFields}
 use Rattle.component.specs.Record.{isPending}
 use Rattle.component.specs.Lists.{find, partAt}
-use Rattle.component.specs.Versions.{offerVersion}
 use Rattle.component.specs.declared.record.Component.{Component}
+use Rattle.component.specs.declared.record.Staged.{Staged}
 use Rattle.component.specs.declared.list.Found.{Found}
 use Rattle.component.specs.declared.list.Found.the-variants as found
-use Rattle.slots.specs.Slots.{slotOf, isAbsent}
+use Rattle.slots.specs.Slots.{slotOf}
+use Rattle.slots.specs.Standing.{standingOf}
+use Rattle.slots.specs.declared.standing.Standing.{Standing}
+use Rattle.session.specs.Stage.{isOpen}
 use Rattle.session.specs.declared.stage.Stage.{Stage}
 use Rattle.session.specs.declared.stage.Stage.the-variants.{Idle}
 use Rattle.offering.specs.declared.verdict.OfferVerdict.{OfferVerdict}
 use Rattle.offering.specs.declared.verdict.OfferVerdict.the-variants.{Busy, Reject, Skip, Accept}
-use Rattle.offering.specs.Offer.{target, isOld, rejections, needUnmet, offerVerdict}
-
--- ACCEPT is for a component that was found and is not pending
-abbrev pub OfferSays : (count : ℕ) → List Component → OfferFields → OfferVerdict → Type 0
-OfferSays count parts o Busy = Unit {0}
-OfferSays count parts o (Reject r) = Unit {0}
-OfferSays count parts o Skip = Unit {0}
-OfferSays count parts o (Accept k) = (find (o .id) count parts ≡ found.At k) × (isPending (partAt parts k .staged) ≡ false)
-
-there : (f : Found) → isAbsent f ≡ false → f ≡ found.At (slotOf f)
-there found.Nothing e = absurd (true≢false e)
-there (found.At k) e = refl
-
-pub offer-says : (platform count : ℕ) (parts : List Component) (stage : Stage) (o : OfferFields)
-    → OfferSays count parts o (offerVerdict platform count parts stage o)
-unfolding offerVerdict rejections
-offer-says platform count parts stage o =
-    first-says (OfferSays count parts o) _ _ (tt, (tt, (tt, (tt, (tt, (tt, (tt, (tt, tt))))))))
-    (λ h. (there (find (o .id) count parts) (h .1 .1 .0), h .1 .1 .1 .1 .1 .0))
+use Rattle.offering.specs.Offer.{rejectionsAt, needUnmetAt, rejections, needUnmet, verdictAt, offerVerdict}
+use Rattle.offering.specs.Eligible.{Eligible}
+use Rattle.offering.proofs.Eligible.{eligible-is}
 
 -- what an answer says of checks 2 to 7, of check 8, and of the slot
 abbrev pub Ruling : (rejected unmet : Bool) → Found → OfferVerdict → Type 0
@@ -46,31 +31,56 @@ Ruling rejected unmet f (Reject r) = rejected ≡ true
 Ruling rejected unmet f Skip = (rejected ≡ false) × (unmet ≡ true)
 Ruling rejected unmet f (Accept k) = (rejected ≡ false) × (unmet ≡ false) × (f ≡ found.At k)
 
--- checks 2 to 9, by their tests
-by-tests : (a p s w v u : Bool) (f : Found)
-    → Ruling (a || (isAbsent f || (p || (s || (w || (v || false)))))) u f
-    (cond a (Reject REJECT-WRONG-PROTOCOL)
-    (cond (isAbsent f) (Reject REJECT-INV-COMPONENT)
-    (cond p (Reject REJECT-INV-COMPONENT)
-    (cond s (Reject REJECT-WRONG-SEGMENT)
-    (cond w (Reject REJECT-SWAP-PENDING)
-    (cond v (Reject REJECT-OLD-FW)
-    (cond u Skip (Accept (slotOf f)))))))))
-by-tests true p s w v u f = refl
-by-tests false p s w v u found.Nothing = refl
-by-tests false true s w v u (found.At k) = refl
-by-tests false false true w v u (found.At k) = refl
-by-tests false false false true v u (found.At k) = refl
-by-tests false false false false true u (found.At k) = refl
-by-tests false false false false false true (found.At k) = (refl, refl)
-by-tests false false false false false false (found.At k) = (refl, refl, refl)
+module _ (platform : ℕ) (target needed : Standing) (o : OfferFields) where
+  -- the answer while idle: REJECT where checks 2 to 7 apply, SKIP where only the need is not met, else ACCEPT for the slot of the component
+  rules-at : Ruling (applies (rejectionsAt platform target o)) (needUnmetAt needed o) (target .at) (verdictAt platform Idle target needed o)
+  unfolding firstOf
+  rules-at = go (applies (rejectionsAt platform target o)) refl
+    where
+      rest : (u : Bool) → (e : Eligible platform target o) → Ruling false u (target .at) (firstOf ((u, Skip) ∷ []) (Accept (slotOf (target .at))))
+      rest true e = (refl, refl)
+      rest false e = (refl, refl, e .listed ∙ ap (λ (f : Found). found.At (slotOf f)) (sym (e .listed)))
 
--- the answer to an offer while idle: REJECT where checks 2 to 7 apply, SKIP where only the need is not met, else ACCEPT for the slot of its component
+      go : (b : Bool) → applies (rejectionsAt platform target o) ≡ b → Ruling b (needUnmetAt needed o) (target .at) (verdictAt platform Idle target needed o)
+      go true h =
+          first-applies (Ruling true (needUnmetAt needed o) (target .at)) (rejectionsAt platform target o) ((needUnmetAt needed o, Skip) ∷ []) _
+          (refl, (refl, (refl, (refl, (refl, (refl, tt)))))) h
+      go false h =
+          subst (Ruling false (needUnmetAt needed o) (target .at)) (sym (first-passes (rejectionsAt platform target o) ((needUnmetAt needed o, Skip) ∷ []) _ h))
+          (rest (needUnmetAt needed o) (eligible-is platform target o .0 h))
+
+-- .. of a device's components
 pub rules : (platform count : ℕ) (parts : List Component) (o : OfferFields)
     → Ruling (applies (rejections platform count parts o)) (needUnmet count parts o) (find (o .id) count parts)
     (offerVerdict platform count parts Idle o)
-unfolding offerVerdict firstOf applies rejections
-rules platform count parts o =
-    by-tests (not (eqb (o .protocol) PROTOCOL)) (not (eqb (o .platform) platform)) (not (eqb (o .segment) 0))
-    (isPending (target count parts o .staged)) (isOld (offerVersion (target count parts o) (o .version)))
-    (needUnmet count parts o) (find (o .id) count parts)
+unfolding rejections needUnmet offerVerdict
+rules platform count parts o = rules-at platform (standingOf (o .id) count parts) (standingOf (o .need) count parts) o
+
+-- ACCEPT is for a component that was found and is not pending
+abbrev pub OfferSays : (count : ℕ) → List Component → OfferFields → OfferVerdict → Type 0
+OfferSays count parts o Busy = Unit {0}
+OfferSays count parts o (Reject r) = Unit {0}
+OfferSays count parts o Skip = Unit {0}
+OfferSays count parts o (Accept k) = (find (o .id) count parts ≡ found.At k) × (isPending (partAt parts k .staged) ≡ false)
+
+pub offer-says : (platform count : ℕ) (parts : List Component) (stage : Stage) (o : OfferFields)
+    → OfferSays count parts o (offerVerdict platform count parts stage o)
+unfolding offerVerdict firstOf
+offer-says platform count parts stage o = go (isOpen stage) refl
+  where
+    target : Standing
+    target = standingOf (o .id) count parts
+
+    says : (v : OfferVerdict) → Ruling (applies (rejectionsAt platform target o)) (needUnmetAt (standingOf (o .need) count parts) o) (target .at) v → OfferSays count parts o v
+    says Busy h = tt
+    says (Reject r) h = tt
+    says Skip h = tt
+    says (Accept k) h =
+        let e = eligible-is platform target o .0 (h .0) in (
+          h .2,
+          ap (λ (f : Found). isPending (partAt parts (slotOf f) .staged)) (sym (h .2)) ∙ ap isPending (e .free),
+        )
+
+    go : (b : Bool) → isOpen stage ≡ b → OfferSays count parts o (offerVerdict platform count parts stage o)
+    go true h = rw h tt
+    go false h = rw h (says (verdictAt platform Idle target (standingOf (o .need) count parts) o) (rules-at platform target (standingOf (o .need) count parts) o))

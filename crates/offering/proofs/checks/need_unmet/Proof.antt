@@ -1,5 +1,4 @@
 -- `checks::need_unmet` meets its contract: check 8, each part as its helper says. Assumes nothing.
-use Rattle.offering.specs.Offer.{needUnmet}
 use borrow.Author.Needs.{needs}
 use Rattle.offering.proofs.checks.need_unmet.Statement.{statement}
 use Rattle.offering.proofs.checks.need_unmet.Tie as tie
@@ -14,14 +13,7 @@ release-requires : tie.Need-release-requires
 release-requires c κs = search needs
 
 returns : tie.Need-returns
-unfolding needUnmet
-returns c count parts e =
-    rw (
-      c .before .before .is-absent .ensures,
-      c .before .release .ensures,
-      c .before .before .before .before .effective .ensures,
-      ← e,
-    )
+returns c = cc
 
 pub need-unmet-spec : {M : Type 1} → statement M
 need-unmet-spec =

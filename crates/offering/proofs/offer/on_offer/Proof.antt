@@ -1,6 +1,4 @@
 -- `offer::on_offer` meets its contract: the verdict, its reply, and the record after it. Assumes nothing.
-use mathlib.Core.Path.{_∙_}
-use Rattle.offering.specs.Offer.{onOffer}
 use borrow.Author.Needs.{needs}
 use Rattle.offering.proofs.offer.on_offer.Statement.{statement}
 use Rattle.offering.proofs.offer.on_offer.Tie as tie
@@ -24,16 +22,7 @@ answered-requires : tie.Need-answered-requires
 answered-requires c κs = search needs
 
 returns : tie.Need-returns
-unfolding onOffer
-returns c count parts e n =
-    c .answered .ensures
-    ∙ rw (
-      c .before .after-offer .ensures,
-      c .before .before .build-offer-reply .ensures,
-      c .before .before .before .status .ensures,
-      c .before .before .before .before .reason .ensures,
-      c .before .before .before .before .before .judge-offer .ensures count parts e n,
-    )
+returns c = cc
 
 pub on-offer-spec : {M : Type 1} → statement M
 on-offer-spec =

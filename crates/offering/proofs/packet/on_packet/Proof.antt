@@ -28,17 +28,16 @@ on-extended-requires : tie.Need-on-extended-requires
 on-extended-requires c κs = search needs
 
 returns : tie.Need-returns
-returns c count parts e n = rw (c .before .enum-told .given .1) (c .silent .ensures)
+returns c = rw (c .before .enum-told .given .1) (c .silent .ensures)
 
 returns-2 : tie.Need-returns-2
-returns-2 c count parts e n =
-    let p = c .before .before .p .given .1 in rw p (c .on-offer .ensures count parts (rw p at e) (rw p at n))
+returns-2 c = rw (c .before .before .p .given .1) (c .on-offer .ensures)
 
 returns-3 : tie.Need-returns-3
-returns-3 c count parts e n = rw (c .before .before .p2 .given .1) (c .on-information .ensures)
+returns-3 c = rw (c .before .before .p2 .given .1) (c .on-information .ensures)
 
 returns-4 : tie.Need-returns-4
-returns-4 c count parts e n = rw (c .before .before .p3 .given .1) (c .on-extended .ensures)
+returns-4 c = rw (c .before .before .p3 .given .1) (c .on-extended .ensures)
 
 pub on-packet-spec : {M : Type 1} → statement M
 on-packet-spec =

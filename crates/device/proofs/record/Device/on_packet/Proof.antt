@@ -1,5 +1,5 @@
 -- `Device::on_packet` meets its contract: what the packet does over the two components that it names, put into the record. Assumes nothing.
-use mathlib.Core.Path.{sym, _∙_}
+use mathlib.Core.Path.{_∙_}
 use borrow.Author.Needs.{needs}
 use Rattle.device.proofs.record.Device.on_packet.Statement.{statement}
 use Rattle.device.proofs.record.Device.on_packet.Tie as tie
@@ -24,10 +24,14 @@ served-requires c κs = search needs
 
 returns : tie.Need-returns
 returns c =
-    let d = c .before .before .before .before .before .before .before .args .self in
-    let target = rw (c .before .before .before .before .before .id-of .ensures) at (c .before .before .before .before .standing-of .ensures) in
-    let needed = rw (c .before .before .before .need-of .ensures) at (c .before .before .standing-of2 .ensures) in
-    c .served .ensures ∙ rw (c .before .on-packet .ensures (d .count) (d .parts) (sym target) (sym needed))
+    c .served .ensures
+    ∙ rw (
+      c .before .on-packet .ensures,
+      c .before .before .standing-of2 .ensures,
+      c .before .before .before .need-of .ensures,
+      c .before .before .before .before .standing-of .ensures,
+      c .before .before .before .before .before .id-of .ensures,
+    )
 
 pub on-packet-spec : {M : Type 1} → statement M
 on-packet-spec =

@@ -54,11 +54,17 @@ returns c =
     let start = c .before .before .before .before .before .before .before .before .before .before .before .before .before .before .before .before .before .before .before in
     let b = now (start .args .bytes) in
     let d = deviceIn b in
-    let target = rw (c .before .before .before .before .before .before .before .before .before .before .before .before .before .before .id-of .ensures) at (c .before .before .before .before .before .before .before .before .before .before .before .before .before .standing-in .ensures) in
-    let needed = rw (c .before .before .before .before .before .before .before .before .before .before .before .need-of .ensures) at (c .before .before .before .before .before .before .before .before .before .before .standing-in2 .ensures) in
     let next = onPacket (d .platform) (d .count) (d .parts) (sessionOf d) (start .args .p) in
     let e : c .before .before .before .before .before .before .on-packet .result ≡ next
-    = rw (c .before .before .before .before .before .before .before .word16 .ensures ∙ platform-in b, c .before .before .before .before .before .before .before .before .before .before .before .before .before .before .before .before .session-in .ensures) at (c .before .before .before .before .before .before .on-packet .ensures (d .count) (d .parts) (sym target) (sym needed)) in (
+    = c .before .before .before .before .before .before .on-packet .ensures
+    ∙ rw (
+      c .before .before .before .before .before .before .before .word16 .ensures ∙ platform-in b,
+      c .before .before .before .before .before .before .before .before .before .before .standing-in2 .ensures,
+      c .before .before .before .before .before .before .before .before .before .before .before .need-of .ensures,
+      c .before .before .before .before .before .before .before .before .before .before .before .before .before .standing-in .ensures,
+      c .before .before .before .before .before .before .before .before .before .before .before .before .before .before .id-of .ensures,
+      c .before .before .before .before .before .before .before .before .before .before .before .before .before .before .before .before .session-in .ensures,
+    ) in (
       subst (λ (t : Effect). outcomeOf (c .served .result) (servedWith d (d .parts) t .device) ≡ servedWith d (d .parts) t) e (c .served .ensures d (d .parts)),
       c .before .before .before .store-session .ensures d (seven-in b) (sym (same-eq (deviceBytes d) b (start .pre .1)))
           ∙ ap (λ (t : Effect). deviceBytes (withSession d (d .parts) (t .session))) e,

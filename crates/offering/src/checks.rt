@@ -78,8 +78,8 @@ pub fn judge_offer(
 ) -> OfferVerdict
     ensures { λ r. ⌜ r ≡ verdictAt platform stage target needed o ⌝ }
 {
-    let f = target.at;
-    let nine = OfferVerdict::Accept(slot_of(f));
+    let found = target.at;
+    let nine = OfferVerdict::Accept(slot_of(found));
     let eight = nine.unless(need_unmet(needed, o), OfferVerdict::Skip);
     let two = unless_rejected(platform, target, o, eight);
     two.unless(stage.is_open(), OfferVerdict::Busy)

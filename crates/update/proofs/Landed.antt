@@ -170,7 +170,7 @@ module _ (b : List ℕ) (α : Accepted b) (d : Device) where
 
           go : (f : Found) → find d (o .id) ≡ f → (x : Bool) → S e ≡ x
               → not (rejected (d .platform) o f (partAt ps (slotOf f))) ≡ (not (S e) && not (rejected (d .platform) o f (part d (slotOf f))))
-          go found.Nothing f x z = rw (absent-rejected (d .platform) o (partAt ps 0)) (sym (and-false (not (S e))))
+          go found.Nothing f x z = rw (absent-rejected (d .platform) o (partAt ps 0), absent-rejected (d .platform) o (part d 0)) (sym (and-false (not (S e))))
           go (found.At k) f true z =
               rw (pending-rejected (d .platform) o k (partAt ps k) (ap (λ (c : Component). isPending (c .staged)) (h .members e k l (holds (S e) z) f)), z)
           go (found.At k) f false z = rw (h .others k (spared k z f), z)

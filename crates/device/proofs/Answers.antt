@@ -3,10 +3,10 @@ use mathlib.Core.Path.{_≡_, refl}
 use mathlib.Core.List.{List}
 use Prim.Native.Nat.{ℕ}
 use native.Mathlib.Omega.{arith}
-use lib.ListN.{length}
+use lib.ListN.{length, drop}
 use Rattle.wire.specs.Checks.{firstOf, any}
 use Rattle.offers.specs.Kind.{Kind, offer, information, extended, kindIn}
-use Rattle.contents.specs.Content.{fieldsIn}
+use Rattle.contents.specs.Head.{headIn}
 use Rattle.component.specs.Setup.{setupVerdict}
 use Rattle.session.specs.Sound as sound
 use Rattle.receiving.specs.Receive.{onContent}
@@ -16,7 +16,7 @@ use Rattle.device.specs.declared.answer.Channel.the-variants.{Offer, Con
 use Rattle.device.specs.Record.{sessionOf, blankDevice}
 use Rattle.device.specs.Refusals.{Row, served, D, refusalOf, Outcome, refusedBy, unlessRefused}
 use Rattle.device.specs.Offer.{onKind, offerEntry}
-use Rattle.device.specs.Content.{received, contentEntry, contentStaging}
+use Rattle.device.specs.Content.{sessionPart, received, contentEntry, contentStaging}
 use Rattle.device.specs.Entries.{versionEntry, resetEntry, serveEntry, serveStaging}
 use Rattle.device.specs.Promises.{BlankRefused, RefusedChangesNothing}
 
@@ -46,7 +46,7 @@ unfolding serveEntry serveStaging offerEntry contentEntry contentStaging
 refused-changes-nothing d Offer staging report k e =
     let r = refused-row (refusalOf 16 d (length staging) (length report)) d (onKind d (kindIn report)) k (kind-served d (kindIn report)) e in (rw r, refl)
 refused-changes-nothing d Content staging report k e =
-    let r = refused-row (refusalOf 60 d (length staging) (length report)) d (received d (onContent (d .parts) (sessionOf d) (fieldsIn report) staging)) k refl e in
+    let r = refused-row (refusalOf 60 d (length staging) (length report)) d (received d (onContent (sessionPart d) (sessionOf d) (headIn report) (drop 8 report) staging)) k refl e in
     (rw r, rw r)
 
 pub blank-refused : BlankRefused

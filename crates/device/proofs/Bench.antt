@@ -3,8 +3,6 @@ use mathlib.Core.Path.{refl}
 use Rattle.wire.specs.Checks.{firstOf, any, pairs}
 use Rattle.offers.specs.Offer.{fieldsIn}
 use Rattle.offers.specs.Kind.{kindIn}
-use Rattle.contents.specs.Content as content
-use Rattle.contents.specs.Content.{cleared}
 use Rattle.versions.specs.Reply.{flat, replyBytes}
 use Rattle.image.specs.Region.{within, blank, put, eraseOf, writeOf}
 use Rattle.component.specs.Lists.{firstFrom, find}
@@ -20,6 +18,6 @@ use Rattle.device.specs.Entries.{versionEntry, serveEntry, serveStaging}
 use Rattle.device.specs.Bench.{BenchHolds}
 
 pub bench-holds : BenchHolds
-unfolding firstOf any pairs fieldsIn kindIn content.fieldsIn cleared flat replyBytes within blank put eraseOf writeOf firstFrom find badIds badRegions setupVerdict breaksD1 refusalOf rejections needUnmet offerVerdict onOffer offerEntry contentVerdict takeBlock onBlock contentEntry contentStaging versionEntry serveEntry serveStaging
+unfolding firstOf any pairs fieldsIn kindIn flat replyBytes within blank put eraseOf writeOf firstFrom find badIds badRegions setupVerdict breaksD1 refusalOf rejections needUnmet offerVerdict onOffer offerEntry contentVerdict takeBlock onBlock contentEntry contentStaging versionEntry serveEntry serveStaging
 bench-holds =
     (refl, refl, refl, (refl, refl, refl, (refl, refl, refl, (refl, refl, refl, (refl, refl, refl, (refl, refl, refl, (refl, refl, refl, (refl, refl, refl, (refl, refl, refl, (refl, refl, refl, (refl, refl, refl, (refl, refl, refl, tt))))))))))))

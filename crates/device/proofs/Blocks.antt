@@ -6,13 +6,13 @@ use mathlib.Core.List.{List}
 use native.Mathlib.Omega.{arith}
 use borrow.Author.Tests.{eq-eqb}
 use lib.Dec.{eqb, eqb·suc-zero}
-use lib.ListN.{length, set, take}
+use lib.ListN.{length, set, take, drop}
 use Rattle.wire.specs.Checks.{firstOf}
 use Rattle.wire.specs.Codes.{SUCCESS}
 use Rattle.wire.specs.declared.version.Version.{Version}
-use Rattle.contents.specs.Content.{fieldsIn}
+use Rattle.contents.specs.Head.{headIn}
 use Rattle.contents.specs.Reply.{replyBytes}
-use Rattle.contents.specs.declared.content.ContentFields.{ContentFields}
+use Rattle.contents.specs.declared.head.ContentHead.{ContentHead}
 use Rattle.image.specs.Region.{isInside, holds, within, regionBytes, blank, put, eraseOf}
 use Rattle.image.specs.Judge.{isRight, imageId, imageVersion, imageIn}
 use Rattle.image.specs.declared.region.Region.{Region}
@@ -30,11 +30,11 @@ use Rattle.session.specs.declared.stage.Stage.the-variants.{Offered, Receiving}
 use Rattle.device.specs.declared.answer.Channel.the-variants.{Content}
 use Rattle.receiving.specs.declared.checks.ContentVerdict.the-variants.{Take}
 use Rattle.session.specs.Stage.{openSlot, atToken}
-use Rattle.session.specs.Effect.{idle}
 use Rattle.receiving.specs.Content as receiving
 use Rattle.receiving.specs.Content.{isFirst, isLast, badShape, takeBlock}
 use Rattle.receiving.specs.Finish.{finish}
 use Rattle.receiving.specs.Receive.{onBlock}
+use Rattle.receiving.proofs.content.Laws.{kept}
 use Rattle.device.specs.Record.{sessionOf, idleWith}
 use Rattle.device.specs.Content.{contentVerdict, received, contentEntry, contentStaging}
 use Rattle.device.specs.Entries.{serveEntry, serveStaging}
@@ -71,7 +71,7 @@ abbrev pub groundOf : (k len : ℕ) → List ℕ → List ℕ
 groundOf k len l = cond (eqb k 0) (blank len) l
 
 -- block k, as it is read, for a region
-pub record Fitting (c : ContentFields) (k : ℕ) (r : Region) : Type 0 where
+pub record Fitting (c : ContentHead) (k : ℕ) (r : Region) : Type 0 where
   pub shape : badShape c ≡ false
   pub first : isFirst c ≡ eqb k 0
   pub sequence : c .sequence ≡ k % 65536
@@ -82,70 +82,71 @@ bears : (m : List ℕ) (id : ℕ) (v : Version) → isRight m ≡ true → image
 unfolding imageIn
 bears m id v r i w = rw (r, eq-eqb (imageId m) id i) (ap Bears w)
 
-module _ (d : Device) (parts : List Component) (slot token : ℕ) (c : ContentFields) where
+-- its bytes are put into the region
+pub puts : (r : Region) (c : ContentHead) (k : ℕ) (s own bytes : List ℕ) → Fitting c k r → isInside r (length s) ≡ true
+    → take (c .length) own ≡ bytes → length bytes ≡ c .length
+    → takeBlock r c own s ≡ within (r .base .0) (r .len) (λ (l : List ℕ). put (c .address .0) bytes (groundOf k (r .len) l)) s
+unfolding takeBlock
+puts r c zero s own bytes f h e l =
+    let h′ : isInside r (length (eraseOf r s)) ≡ true = rw (erase-length r s) h in
+    let m : holds r (c .address) (length bytes) ≡ true = rw l (f .room) in
+    rw (f .first, e)
+    (write-inside r (eraseOf r s) (c .address) bytes h′ m ∙ ap (within (r .base .0) (r .len) (put (c .address .0) bytes)) (erase-inside r s h)
+    ∙ within-twice r (λ old. blank (r .len)) s (inside r (length s) h) (blank-length (r .len)) (put (c .address .0) bytes))
+puts r c (suc k) s own bytes f h e l =
+    let m : holds r (c .address) (length bytes) ≡ true = rw l (f .room) in
+    rw (f .first, eqb·suc-zero k, e) (write-inside r s (c .address) bytes h m)
+
+-- a right image: pending with its version
+finishes : (x : Component) (s m : List ℕ) (v : Version) → regionBytes (x .region) s ≡ m → isRight m ≡ true
+    → imageId m ≡ x .id → imageVersion m ≡ v → imageVersionFits x v ≡ true → finish x s ≡ record { status = SUCCESS; part = withStaged x v }
+unfolding finish
+finishes x s m v e r i w g = rw (e, bears m (x .id) v r i w, g)
+
+module _ (d : Device) (parts : List Component) (slot token : ℕ) (c : ContentHead) where
+  -- the record whose session waits for block k
+  abbrev waiting : ℕ → Device
+  waiting k = held d parts (awaits slot token k)
+
+  -- the reply to a block that is taken
+  abbrev taken : List ℕ
+  taken = replyBytes (record { sequence = c .sequence; status = SUCCESS })
+
   -- checks 1 to 5 let it pass
-  pub takes : (k : ℕ) → Fitting c k (partAt parts slot .region) → contentVerdict (held d parts (awaits slot token k)) c ≡ Take slot
+  takes : (k : ℕ) → Fitting c k (partAt parts slot .region) → contentVerdict (waiting k) c ≡ Take slot
   unfolding receiving.contentVerdict firstOf
   takes zero f = simp (f .shape, f .first, f .room)
   takes (suc k) f =
       simp (f .shape, f .first, eqb·suc-zero k, f .sequence, eq-eqb (suc k % 65536) (suc k % 65536) refl, f .room)
 
-  -- its bytes are put into the region
-  pub puts : (k : ℕ) (stage : Stage) (s bytes : List ℕ) → Fitting c k (partAt parts slot .region) → isInside (partAt parts slot .region) (length s) ≡ true
-      → take (c .length) (c .«data») ≡ bytes → length bytes ≡ c .length
-      → takeBlock parts slot c s
-      ≡ within (partAt parts slot .region .base .0) (partAt parts slot .region .len)
-      (λ (l : List ℕ). put (c .address .0) bytes (groundOf k (partAt parts slot .region .len) l)) s
-  unfolding takeBlock
-  puts zero stage s bytes f h e l =
-      let r : Region = partAt parts slot .region in
-      let h′ : isInside r (length (eraseOf r s)) ≡ true = rw (erase-length r s) h in
-      let m : holds r (c .address) (length bytes) ≡ true = rw l (f .room) in
-      rw (f .first, e)
-      (write-inside r (eraseOf r s) (c .address) bytes h′ m ∙ ap (within (r .base .0) (r .len) (put (c .address .0) bytes)) (erase-inside r s h)
-      ∙ within-twice r (λ old. blank (r .len)) s (inside r (length s) h) (blank-length (r .len)) (put (c .address .0) bytes))
-  puts (suc k) stage s bytes f h e l =
-      let r : Region = partAt parts slot .region in
-      let m : holds r (c .address) (length bytes) ≡ true = rw l (f .room) in
-      rw (f .first, eqb·suc-zero k, e) (write-inside r s (c .address) bytes h m)
-
   -- a block that is not the last: the session waits for the next
   goes-on : (k : ℕ) (s : List ℕ) → c .sequence ≡ k % 65536 → isLast c ≡ false
-      → received (held d parts (awaits slot token k)) (onBlock parts (sessionOf (held d parts (awaits slot token k))) slot c s)
-      ≡ answeredWith (replyBytes (record { sequence = c .sequence; status = SUCCESS })) owed.Nothing (held d parts (awaits slot token (suc k)))
+      → received (waiting k) (onBlock (partAt parts slot) (sessionOf (waiting k)) slot c s) ≡ answeredWith taken owed.Nothing (waiting (suc k))
   unfolding onBlock
   goes-on k s q h =
       let e : (c .sequence + 1) % 65536 ≡ suc k % 65536 = omega arith in
-      rw (h, e, awaits-token slot token k)
-
-  -- a right image: pending with its version, and idle
-  finishes : (s m : List ℕ) (v : Version) → regionBytes (partAt parts slot .region) s ≡ m → isRight m ≡ true
-      → imageId m ≡ partAt parts slot .id → imageVersion m ≡ v → imageVersionFits (partAt parts slot) v ≡ true
-      → finish parts slot s ≡ record { status = SUCCESS; parts = set parts slot (withStaged (partAt parts slot) v); session = idle }
-  unfolding finish
-  finishes s m v e r i w g = rw (e, bears m (partAt parts slot .id) v r i w, g)
+      rw (h, e, awaits-token slot token k, awaits-slot slot token k, kept parts slot)
 
   -- the reply to the last block of a right image
-  ends : (stage : Stage) (s m : List ℕ) (v : Version) → isLast c ≡ true → regionBytes (partAt parts slot .region) s ≡ m → isRight m ≡ true
+  ends : (k : ℕ) (s m : List ℕ) (v : Version) → isLast c ≡ true → regionBytes (partAt parts slot .region) s ≡ m → isRight m ≡ true
       → imageId m ≡ partAt parts slot .id → imageVersion m ≡ v → imageVersionFits (partAt parts slot) v ≡ true
-      → received (held d parts stage) (onBlock parts (sessionOf (held d parts stage)) slot c s)
-      ≡ answeredWith (replyBytes (record { sequence = c .sequence; status = SUCCESS })) owed.Nothing
-      (idleWith d (set parts slot (withStaged (partAt parts slot) v)))
+      → received (waiting k) (onBlock (partAt parts slot) (sessionOf (waiting k)) slot c s)
+      ≡ answeredWith taken owed.Nothing (idleWith d (set parts slot (withStaged (partAt parts slot) v)))
   unfolding onBlock
-  ends stage s m v h e r i w g = rw (h, finishes s m v e r i w g)
+  ends k s m v h e r i w g = rw (h, finishes (partAt parts slot) s m v e r i w g, awaits-slot slot token k)
 
-  module _ (s p : List ℕ) (size : length p ≡ 60) (reads : fieldsIn p ≡ c) (k : ℕ) (f : Fitting c k (partAt parts slot .region))
+  module _ (s p : List ℕ) (size : length p ≡ 60) (reads : headIn p ≡ c) (k : ℕ) (f : Fitting c k (partAt parts slot .region))
       (sound : Sound (held d parts (awaits slot token k)) s) where
     -- the staging buffer afterwards
-    pub block-staging : serveStaging (held d parts (awaits slot token k)) Content s p ≡ takeBlock parts slot c s
+    pub block-staging : serveStaging (held d parts (awaits slot token k)) Content s p ≡ takeBlock (partAt parts slot .region) c (drop 8 p) s
     unfolding serveStaging contentStaging
-    block-staging = rw (rows-pass 60 (held d parts (awaits slot token k)) s (length p) sound size, reads, takes k f)
+    block-staging = rw (rows-pass 60 (waiting k) s (length p) sound size, reads, takes k f, awaits-slot slot token k)
 
     -- the answer is that of a taken block
-    block-taken : serveEntry (held d parts (awaits slot token k)) Content s p
-        ≡ received (held d parts (awaits slot token k)) (onBlock parts (sessionOf (held d parts (awaits slot token k))) slot c (takeBlock parts slot c s))
+    block-taken : serveEntry (waiting k) Content s p
+        ≡ received (waiting k) (onBlock (partAt parts slot) (sessionOf (waiting k)) slot c (takeBlock (partAt parts slot .region) c (drop 8 p) s))
     unfolding serveEntry contentEntry
-    block-taken = rw (rows-pass 60 (held d parts (awaits slot token k)) s (length p) sound size, reads, takes k f)
+    block-taken = rw (rows-pass 60 (waiting k) s (length p) sound size, reads, takes k f, awaits-slot slot token k)
 
     -- a block that is not the last: status 0, and the session waits for the next
     pub block-next : isLast c ≡ false
@@ -155,9 +156,9 @@ module _ (d : Device) (parts : List Component) (slot token : ℕ) (c : ContentFi
 
     -- the last block of a right image that is not older: status 0, and the component is pending with its version
     pub block-last : (m : List ℕ) (v : Version) → isLast c ≡ true
-        → regionBytes (partAt parts slot .region) (takeBlock parts slot c s) ≡ m → isRight m ≡ true
+        → regionBytes (partAt parts slot .region) (takeBlock (partAt parts slot .region) c (drop 8 p) s) ≡ m → isRight m ≡ true
         → imageId m ≡ partAt parts slot .id → imageVersion m ≡ v → imageVersionFits (partAt parts slot) v ≡ true
         → serveEntry (held d parts (awaits slot token k)) Content s p
         ≡ answeredWith (replyBytes (record { sequence = c .sequence; status = SUCCESS })) owed.Nothing
         (idleWith d (set parts slot (withStaged (partAt parts slot) v)))
-    block-last m v h e r i w g = block-taken ∙ ends _ _ m v h e r i w g
+    block-last m v h e r i w g = block-taken ∙ ends k _ m v h e r i w g

@@ -1,14 +1,13 @@
 -- Lists of bytes stay lists of bytes: cut, joined, erased and written. Assumes nothing.
 use mathlib.Core.Bool.{_&&_}
 use mathlib.Core.List.{List, [], _∷_, _++_}
-use Prim.Native.Nat.{ℕ, zero, suc, _+_, _-_, _<_}
+use Prim.Native.Nat.{ℕ, zero, suc, _+_, _<_}
 use native.Mathlib.Omega.{arith}
 use lib.ListN.{length, take, drop, replicate}
 use lib.Seq.{getD-drop}
 use Rattle.wire.specs.Bytes.{Bytes}
 use Rattle.wire.specs.Version.{FitsVersion, versionAt}
 use Rattle.wire.specs.declared.address.RegionAddress.{RegionAddress}
-use Rattle.contents.specs.Content.{cleared}
 use Rattle.image.specs.Region.{isInside, holds, within, regionBytes, blank, put, eraseOf, writeOf}
 use Rattle.image.specs.declared.region.Region.{Region}
 use Rattle.wire.proofs.Chain.{either}
@@ -31,10 +30,6 @@ replicate-bytes : (n b : ℕ) → b < 256 → Bytes (replicate n b)
 replicate-bytes zero b h i = omega arith
 replicate-bytes (suc n) b h zero = h
 replicate-bytes (suc n) b h (suc i) = replicate-bytes n b h i
-
-pub cleared-bytes : (n : ℕ) (l : List ℕ) → Bytes l → Bytes (cleared n l)
-unfolding cleared
-cleared-bytes n l h = append-bytes (take n l) _ (take-bytes n l h) (replicate-bytes (length l - n) 0 (omega arith))
 
 module _ (r : Region) (s : List ℕ) (h : Bytes s) where
   pub region-bytes : Bytes (regionBytes r s)

@@ -6,32 +6,33 @@ use mathlib.Core.List.{List, _∷_}
 use native.Mathlib.Omega.{arith}
 use borrow.Author.Tests.{eq-eqb, ne-eqb, le-leb}
 use lib.Dec.{leb, eqb}
-use lib.ListN.{length}
+use lib.ListN.{length, drop}
 use Rattle.wire.specs.Checks.{firstOf}
-use Rattle.wire.specs.Codes.{OFFER-ACCEPT, OFFER-UNSUPPORTED, SUCCESS}
+use Rattle.wire.specs.Codes.{OFFER-ACCEPT, OFFER-UNSUPPORTED}
+use Rattle.wire.proofs.Chain.{either}
 use Rattle.offers.specs.Reply.{replyBytes}
 use Rattle.offers.specs.Signal.{informationBytes}
 use Rattle.offers.specs.Kind.{Kind, offer, information, kindIn}
 use Rattle.offers.specs.declared.offer.OfferFields.{OfferFields}
 use Rattle.offers.specs.declared.signal.Signal.{Signal}
-use Rattle.contents.specs.Content.{fieldsIn}
+use Rattle.contents.specs.Head.{headIn}
 use Rattle.session.specs.Effect.{idle}
 use Rattle.session.specs.declared.owed.Owed.{Owed}
 use Rattle.session.specs.declared.owed.Owed.the-variants as owed
 use Rattle.offering.specs.Offer.{onOffer}
 use Rattle.offering.specs.Signal as signal
 use Rattle.offering.specs.Signal.{onInformation}
-use Rattle.receiving.specs.Content.{isLast, takeBlock}
-use Rattle.receiving.specs.Finish.{finish}
-use Rattle.receiving.specs.Receive.{blockReply, goesOn, onBlock, onVerdict}
+use Rattle.receiving.specs.Content.{isLast}
+use Rattle.receiving.specs.Receive.{onBlock, onVerdict}
 use Rattle.receiving.specs.declared.checks.ContentVerdict.{ContentVerdict}
 use Rattle.receiving.specs.declared.checks.ContentVerdict.the-variants.{Refuse, Take}
+use Rattle.receiving.specs.declared.content.Taken.{Taken}
 use Rattle.device.specs.declared.record.Device.{Device}
 use Rattle.device.specs.declared.answer.Channel.the-variants.{Offer, Content}
 use Rattle.device.specs.Record.{sessionOf, toIdle}
 use Rattle.device.specs.Refusals.{served, breaksD1, refusalOf, Outcome, servedWith, readySent}
 use Rattle.device.specs.Offer.{onKind, offerEntry}
-use Rattle.device.specs.Content.{contentVerdict, received, contentEntry}
+use Rattle.device.specs.Content.{sessionPart, contentVerdict, received, contentEntry}
 use Rattle.device.specs.Entries.{serveEntry}
 
 -- a served call with one reply, and then the READY that was owed
@@ -93,15 +94,8 @@ answers-code d s p x h l e = rw (serves-kind d s p (information x) h l e) (go (e
 -- so is a block, where nothing is owed
 pub answers-block : (d : Device) (s p : List ℕ) → Sound d s → d .owed ≡ owed.Nothing → length p ≡ 60 → Answered (serveEntry d Content s p)
 unfolding serveEntry contentEntry onBlock
-answers-block d s p h o l = rw (rows-pass 60 d s (length p) h l) (go (contentVerdict d (fieldsIn p)))
+answers-block d s p h o l = rw (rows-pass 60 d s (length p) h l) (go (contentVerdict d (headIn p)))
   where
-    last : (slot : ℕ) (s′ : List ℕ) (b : Bool)
-        → Answered (received d (cond b
-        (record { effect = blockReply (fieldsIn p .sequence) (finish (d .parts) slot s′ .status) (d .owed) (finish (d .parts) slot s′ .session); parts = finish (d .parts) slot s′ .parts })
-        (record { effect = blockReply (fieldsIn p .sequence) SUCCESS owed.Nothing (goesOn (sessionOf d) slot (fieldsIn p)); parts = d .parts })))
-    last slot s′ true = rw o (refl, refl)
-    last slot s′ false = (refl, refl)
-
-    go : (v : ContentVerdict) → Answered (received d (onVerdict (d .parts) (sessionOf d) (fieldsIn p) s v))
+    go : (v : ContentVerdict) → Answered (received d (onVerdict (sessionPart d) (sessionOf d) (headIn p) (drop 8 p) s v))
     go (Refuse status) = (refl, refl)
-    go (Take slot) = last slot (takeBlock (d .parts) slot (fieldsIn p) s) (isLast (fieldsIn p))
+    go (Take slot) = either (λ (t : Taken). Answered (received d t)) (isLast (headIn p)) _ _ (rw o (refl, refl)) (refl, refl)

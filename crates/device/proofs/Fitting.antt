@@ -5,14 +5,16 @@ use mathlib.Core.List.{List, map}
 use Prim.Native.Nat.{ℕ, zero, suc, _<_, _^_}
 use native.Mathlib.Omega.{arith}
 use lib.Dec.{eqb}
-use lib.ListN.{length, getD, length-set, length-map, replicate}
+use lib.ListN.{length, getD, drop, length-set, length-map, replicate}
 use Rattle.wire.specs.Bytes.{Bytes}
 use Rattle.wire.specs.declared.version.Version.{Version}
 use Rattle.offers.specs.Offer as offers
-use Rattle.contents.specs.Content as contents
+use Rattle.contents.specs.Head.{headIn}
+use Rattle.contents.specs.declared.head.ContentHead.{ContentHead}
 use Rattle.image.specs.Region.{regionBytes}
 use Rattle.image.specs.Judge.{imageVersion, imageId, isRight, imageIn}
 use Rattle.image.specs.declared.judge.Image.the-variants.{Damaged, Foreign, Bears}
+use Rattle.image.specs.declared.region.Region.{Region}
 use Rattle.component.specs.Record.{FitsStaged, FitsComponent, effective, listed, withStaged, afterReset, blankComponent}
 use Rattle.component.specs.Lists.{partAt}
 use Rattle.component.specs.Setup.{rowOf, setupVerdict}
@@ -36,13 +38,12 @@ use Rattle.session.specs.declared.stage.Stage.{Stage}
 use Rattle.session.specs.declared.stage.Stage.the-variants.{Idle, Offered, Receiving}
 use Rattle.device.specs.Record.{FitsDevice, part, blankDevice}
 use Rattle.device.specs.Refusals.{breaksD1}
-use Rattle.device.specs.Content.{window}
 use Rattle.device.specs.Promises.{SetUpFits, ResetKeepsFits, ServeKeepsFits}
 use Rattle.wire.proofs.Chain.{either}
 use Rattle.component.proofs.list.Laws.{find-at}
 use Rattle.component.proofs.setup.Laws.{seen, fine-staging}
 use Rattle.device.proofs.Lists.{reset-seen, each-set, each-front}
-use Rattle.device.proofs.Bytes.{take-bytes, drop-bytes, cleared-bytes, region-bytes, erase-bytes, write-bytes, version-fits}
+use Rattle.device.proofs.Bytes.{take-bytes, drop-bytes, region-bytes, erase-bytes, write-bytes, version-fits}
 use Rattle.device.proofs.Moves.{Move, stays, idles, opens, owes, goes, stages, serve-moves}
 
 -- the record with other components and another session
@@ -72,11 +73,10 @@ bears m id v e = go (isRight m) (eqb (imageId m) id) e where
   go false b h = let z : _≡_ {A = ℕ} 0 1 = cc in absurd (omega arith)
 
 -- the staging buffer holds bytes after a block too
-block-bytes : (d : Device) (k : ℕ) (report s : List ℕ) → Bytes report → Bytes s → Bytes (takeBlock (d .parts) k (contents.fieldsIn report) s)
-unfolding takeBlock contents.fieldsIn
-block-bytes d k report s h b =
-    write-bytes (window d k) _ (either Bytes (isFirst (contents.fieldsIn report)) _ _ (erase-bytes (window d k) s b) b) _ _
-    (take-bytes (getD report 1 0) _ (cleared-bytes (getD report 1 0) _ (drop-bytes 8 report h)))
+block-bytes : (r : Region) (c : ContentHead) (bytes s : List ℕ) → Bytes bytes → Bytes s → Bytes (takeBlock r c bytes s)
+unfolding takeBlock
+block-bytes r c bytes s h b =
+    write-bytes r _ (either Bytes (isFirst c) _ _ (erase-bytes r s b) b) _ _ (take-bytes (c .length) bytes h)
 
 -- each of the six moves keeps the values
 move-fits : {d d′ : Device} {staging report : List ℕ} → FitsDevice d → Bytes report → Bytes staging → Move d staging report d′ → FitsDevice d′
@@ -91,9 +91,9 @@ move-fits {d} f h b (goes k e) =
     fits-with d f (d .parts) (f .slots) (f .each) _ (slot-fits (d .stage) k (f .stage) e, token-fits (d .stage) (f .stage), omega arith) _ (f .owed)
 move-fits {d} {staging = staging} {report = report} f h b (stages k e v q w) =
     let c = f .each k in
-    let after = takeBlock (d .parts) k (contents.fieldsIn report) staging in
     let r = part d k .region in
-    let n : v .0 < 256 ^ 4 = rw (bears (regionBytes r after) _ v q) (version-fits 0 (regionBytes r after) (region-bytes r after (block-bytes d k report staging h b))) in
+    let after = takeBlock r (headIn report) (drop 8 report) staging in
+    let n : v .0 < 256 ^ 4 = rw (bears (regionBytes r after) _ v q) (version-fits 0 (regionBytes r after) (region-bytes r after (block-bytes r (headIn report) (drop 8 report) staging (drop-bytes 8 report h) b))) in
     let g : FitsComponent (withStaged (part d k) v) = record { id = c .id; running = c .running; region = c .region; staged = n } in
     fits-with d f _ (length-set (d .parts) k _ ∙ f .slots) (each-set FitsComponent (d .parts) k _ blankComponent g (f .each)) Idle tt _ tt
 

@@ -4,10 +4,10 @@ use mathlib.Core.Bool.{Bool, true, false}
 use mathlib.Core.List.{List, [], _∷_}
 use mathlib.Core.Logic.{_⊎_, inl, inr}
 use Prim.Native.Nat.{ℕ, zero, suc}
-use lib.ListN.{length, getD, set}
+use lib.ListN.{length, getD, drop, set}
 use Rattle.wire.specs.declared.version.Version.{Version}
 use Rattle.offers.specs.Kind.{Kind, kindIn}
-use Rattle.contents.specs.Content.{fieldsIn}
+use Rattle.contents.specs.Head.{headIn}
 use Rattle.image.specs.Region.{regionBytes}
 use Rattle.image.specs.Judge.{imageIn}
 use Rattle.image.specs.declared.judge.Image.{Image}
@@ -18,19 +18,19 @@ use Rattle.component.specs.Versions.{imageVersionFits}
 use Rattle.component.specs.declared.record.Component.{Component}
 use Rattle.component.specs.declared.record.Staged.{Staged}
 use Rattle.component.specs.declared.record.Staged.the-variants.{Nothing, Pending}
+use Rattle.session.specs.Stage.{atSlot}
 use Rattle.receiving.specs.declared.checks.ContentVerdict.{ContentVerdict}
 use Rattle.receiving.specs.declared.checks.ContentVerdict.the-variants.{Refuse, Take}
 use Rattle.receiving.specs.Content.{isLast, takeBlock}
-use Rattle.receiving.specs.Content as receiving
 use Rattle.receiving.specs.Finish.{judge, finish}
 use Rattle.receiving.specs.Receive.{onBlock, onVerdict, stagingBy}
+use Rattle.receiving.proofs.content.Laws.{kept}
 use Rattle.device.specs.declared.record.Device.{Device}
-use Rattle.device.specs.declared.answer.Channel.{Channel}
 use Rattle.device.specs.declared.answer.Channel.the-variants.{Offer, Content}
 use Rattle.device.specs.Record.{part, sessionOf}
 use Rattle.device.specs.Refusals.{Row, served, D, refusalOf, unlessRefused}
 use Rattle.device.specs.Offer.{onKind, offerEntry}
-use Rattle.device.specs.Content.{received, stagingUnless, contentEntry, contentStaging}
+use Rattle.device.specs.Content.{sessionPart, contentVerdict, received, stagingUnless, contentEntry, contentStaging}
 use Rattle.device.specs.Entries.{serveEntry, serveStaging}
 use Rattle.device.specs.Images.{StagesOwnImage}
 
@@ -60,40 +60,46 @@ module _ (d : Device) (staging report : List ℕ) (k : ℕ) (v : Version) where
       → (part d k .staged ≡ Pending v)
       ⊎ ((imageIn (regionBytes (part d k .region) s) (part d k .id) ≡ Bears v) × (imageVersionFits (part d k) v ≡ true))
 
-  after-judge : (slot : ℕ) (s : List ℕ) (m : Image) → imageIn (regionBytes (part d slot .region) s) (part d slot .id) ≡ m
-      → Own (judge (d .parts) slot m .parts) s
-  after-judge slot s Damaged e = inl
-  after-judge slot s Foreign e = inl
-  after-judge slot s (Bears w) e = go (imageVersionFits (part d slot) w) refl where
-    go : (b : Bool) → imageVersionFits (part d slot) w ≡ b → Own (judge (d .parts) slot (Bears w) .parts) s
-    go false f = rw f inl
-    go true f = rw f (λ h. stored h (at-set (d .parts) slot k (withStaged (part d slot) w) blankComponent)) where
-      stored : getD (set (d .parts) slot (withStaged (part d slot) w)) k blankComponent .staged ≡ Pending v
-          → (getD (set (d .parts) slot (withStaged (part d slot) w)) k blankComponent ≡ part d k)
-          ⊎ ((k ≡ slot) × (getD (set (d .parts) slot (withStaged (part d slot) w)) k blankComponent ≡ withStaged (part d slot) w))
-          → (part d k .staged ≡ Pending v)
-          ⊎ ((imageIn (regionBytes (part d k .region) s) (part d k .id) ≡ Bears v) × (imageVersionFits (part d k) v ≡ true))
-      stored h (inl q) = inl (sym (ap (λ (c : Component). c .staged) q) ∙ h)
-      stored h (inr q) =
-          let same : w ≡ v = one-version w v (sym (ap (λ (c : Component). c .staged) (q .1)) ∙ h) in
-          inr (rw (q .0, ← same) e, rw (q .0, ← same) f)
+  -- a component that stays
+  unchanged : (slot : ℕ) (s : List ℕ) → Own (set (d .parts) slot (part d slot)) s
+  unchanged slot s = rw (kept (d .parts) slot) inl
 
-  after-block : (slot : ℕ) (s : List ℕ) → Own (onBlock (d .parts) (sessionOf d) slot (fieldsIn report) s .parts) s
-  unfolding onBlock finish
-  after-block slot s = go (isLast (fieldsIn report)) refl where
-    go : (b : Bool) → isLast (fieldsIn report) ≡ b → Own (onBlock (d .parts) (sessionOf d) slot (fieldsIn report) s .parts) s
-    go true e = rw e (after-judge slot s _ refl)
-    go false e = rw e inl
+  module _ (slot : ℕ) where
+    after-judge : (s : List ℕ) (m : Image) → imageIn (regionBytes (part d slot .region) s) (part d slot .id) ≡ m
+        → Own (set (d .parts) slot (judge (part d slot) m .part)) s
+    after-judge s Damaged e = unchanged slot s
+    after-judge s Foreign e = unchanged slot s
+    after-judge s (Bears w) e = go (imageVersionFits (part d slot) w) refl where
+      go : (b : Bool) → imageVersionFits (part d slot) w ≡ b → Own (set (d .parts) slot (judge (part d slot) (Bears w) .part)) s
+      go false f = rw f (unchanged slot s)
+      go true f = rw f (λ h. stored h (at-set (d .parts) slot k (withStaged (part d slot) w) blankComponent)) where
+        stored : getD (set (d .parts) slot (withStaged (part d slot) w)) k blankComponent .staged ≡ Pending v
+            → (getD (set (d .parts) slot (withStaged (part d slot) w)) k blankComponent ≡ part d k)
+            ⊎ ((k ≡ slot) × (getD (set (d .parts) slot (withStaged (part d slot) w)) k blankComponent ≡ withStaged (part d slot) w))
+            → (part d k .staged ≡ Pending v)
+            ⊎ ((imageIn (regionBytes (part d k .region) s) (part d k .id) ≡ Bears v) × (imageVersionFits (part d k) v ≡ true))
+        stored h (inl q) = inl (sym (ap (λ (c : Component). c .staged) q) ∙ h)
+        stored h (inr q) =
+            let same : w ≡ v = one-version w v (sym (ap (λ (c : Component). c .staged) (q .1)) ∙ h) in
+            inr (rw (q .0, ← same) e, rw (q .0, ← same) f)
 
-  after-verdict : (w : ContentVerdict)
-      → Own (onVerdict (d .parts) (sessionOf d) (fieldsIn report) staging w .parts) (stagingBy (d .parts) (fieldsIn report) staging w)
-  after-verdict (Refuse s) = inl
-  after-verdict (Take slot) = after-block slot (takeBlock (d .parts) slot (fieldsIn report) staging)
+    after-block : (n : ℕ) (s : List ℕ) → Own (set (d .parts) slot (onBlock (part d slot) (sessionOf d) n (headIn report) s .part)) s
+    unfolding onBlock finish
+    after-block n s = go (isLast (headIn report)) refl where
+      go : (b : Bool) → isLast (headIn report) ≡ b → Own (set (d .parts) slot (onBlock (part d slot) (sessionOf d) n (headIn report) s .part)) s
+      go true e = rw e (after-judge s _ refl)
+      go false e = rw e (unchanged slot s)
+
+    after-verdict : (w : ContentVerdict)
+        → Own (set (d .parts) slot (onVerdict (part d slot) (sessionOf d) (headIn report) (drop 8 report) staging w .part))
+        (stagingBy (part d slot .region) (headIn report) (drop 8 report) staging w)
+    after-verdict (Refuse s) = unchanged slot staging
+    after-verdict (Take n) = after-block n (takeBlock (part d slot .region) (headIn report) (drop 8 report) staging)
 
   after-row : (row : Row) (w : ContentVerdict)
-      → Own (unlessRefused row d (received d (onVerdict (d .parts) (sessionOf d) (fieldsIn report) staging w)) .device .parts)
-      (stagingUnless row staging (stagingBy (d .parts) (fieldsIn report) staging w))
-  after-row served w = after-verdict w
+      → Own (unlessRefused row d (received d (onVerdict (sessionPart d) (sessionOf d) (headIn report) (drop 8 report) staging w)) .device .parts)
+      (stagingUnless row staging (stagingBy (sessionPart d .region) (headIn report) (drop 8 report) staging w))
+  after-row served w = after-verdict (atSlot (d .stage)) w
   after-row (D n) w = inl
 
 -- a packet of the offer channel changes no component
@@ -104,6 +110,6 @@ offer-parts d (D n) p = refl
 pub stages-own-image : StagesOwnImage
 unfolding serveEntry serveStaging offerEntry contentEntry contentStaging
 stages-own-image d Content staging report k v =
-    after-row d staging report k v (refusalOf 60 d (length staging) (length report)) (receiving.contentVerdict (d .parts) (d .stage) (fieldsIn report))
+    after-row d staging report k v (refusalOf 60 d (length staging) (length report)) (contentVerdict d (headIn report))
 stages-own-image d Offer staging report k v =
     λ h. inl (ap (λ (parts : List Component). getD parts k blankComponent .staged) (sym (offer-parts d (refusalOf 16 d (length staging) (length report)) (kindIn report))) ∙ h)

@@ -4,14 +4,14 @@ use mathlib.Core.Bool.{Bool, true, false}
 use mathlib.Core.List.{List}
 use Prim.Native.Nat.{ℕ}
 use lib.Dec.{eqb, leb}
-use lib.ListN.{length, getD, set}
+use lib.ListN.{length, getD, drop, set}
 use Rattle.wire.specs.Codes.{KIND-INFORMATION, KIND-EXTENDED, NOTIFY-ON-READY, INFO-START-ENTIRE-TRANSACTION, INFO-END-OFFER-LIST}
 use Rattle.wire.specs.declared.version.Version.{Version}
 use Rattle.offers.specs.Kind.{kindIn}
 use Rattle.offers.specs.Offer as offers
 use Rattle.offers.specs.Signal.{signalIn}
 use Rattle.offers.specs.declared.signal.Signal.{Signal}
-use Rattle.contents.specs.Content as contents
+use Rattle.contents.specs.Head.{headIn}
 use Rattle.image.specs.Region.{regionBytes}
 use Rattle.image.specs.Judge.{imageIn}
 use Rattle.image.specs.declared.judge.Image.{Image}
@@ -19,7 +19,7 @@ use Rattle.image.specs.declared.judge.Image.the-variants.{Damaged, Foreign, Bea
 use Rattle.component.specs.Record.{isPending, withStaged}
 use Rattle.component.specs.Versions.{imageVersionFits}
 use Rattle.component.specs.declared.list.Found.the-variants as found
-use Rattle.session.specs.Stage.{isOpen, openSlot}
+use Rattle.session.specs.Stage.{isOpen, openSlot, atSlot}
 use Rattle.session.specs.Effect.{inStage, owing}
 use Rattle.session.specs.declared.stage.Stage.the-variants.{Offered}
 use Rattle.session.specs.declared.owed.Owed.{Owed}
@@ -31,18 +31,20 @@ use Rattle.offering.specs.declared.verdict.OfferVerdict.{OfferVerdict}
 use Rattle.offering.specs.declared.verdict.OfferVerdict.the-variants.{Busy, Reject, Skip, Accept}
 use Rattle.offering.proofs.checks.Laws.{OfferSays, offer-says}
 use Rattle.receiving.specs.Content.{isLast, takeBlock}
-use Rattle.receiving.specs.Finish.{Finished, judge, finish}
-use Rattle.receiving.specs.Receive.{goesOn, onBlock, onVerdict}
+use Rattle.receiving.specs.Finish.{judge, finish}
+use Rattle.receiving.specs.Receive.{goesOn, onBlock, onVerdict, onContent}
 use Rattle.receiving.specs.declared.checks.ContentVerdict.{ContentVerdict}
 use Rattle.receiving.specs.declared.checks.ContentVerdict.the-variants.{Refuse, Take}
+use Rattle.receiving.specs.declared.content.Taken.{Taken}
 use Rattle.receiving.proofs.checks.Laws.{ContentSays, content-says}
+use Rattle.receiving.proofs.content.Laws.{kept}
 use Rattle.device.specs.declared.record.Device.{Device}
 use Rattle.device.specs.declared.answer.Channel.{Channel}
 use Rattle.device.specs.declared.answer.Channel.the-variants.{Offer, Content}
 use Rattle.device.specs.Record.{find, part, sessionOf, withSession, idleWith, toIdle}
 use Rattle.device.specs.Refusals.{Row, served, D, refusalOf, unlessRefused, Outcome}
 use Rattle.device.specs.Offer.{onKind, offerEntry}
-use Rattle.device.specs.Content.{contentVerdict, received, contentEntry}
+use Rattle.device.specs.Content.{sessionPart, contentVerdict, received, contentEntry}
 use Rattle.device.specs.Entries.{serveEntry}
 
 -- what an entry can do to the record d, where the report is an offer or a signal, or content for this staging buffer
@@ -52,9 +54,9 @@ pub data Move (d : Device) (staging report : List ℕ) : Device → Type 0 where
   opens : (k : ℕ) → find d (offers.fieldsIn report .id) ≡ found.At k → isPending (part d k .staged) ≡ false
       → Move d staging report (withSession d (d .parts) (inStage (sessionOf d) (Offered (record { slot = k; token = offers.fieldsIn report .token }))))
   owes : isOpen (d .stage) ≡ true → Move d staging report (withSession d (d .parts) (owing (sessionOf d) (owed.Token (getD report 3 0))))
-  goes : (k : ℕ) → openSlot (d .stage) ≡ found.At k → Move d staging report (withSession d (d .parts) (goesOn (sessionOf d) k (contents.fieldsIn report)))
+  goes : (k : ℕ) → openSlot (d .stage) ≡ found.At k → Move d staging report (withSession d (d .parts) (goesOn (sessionOf d) k (headIn report)))
   stages : (k : ℕ) → openSlot (d .stage) ≡ found.At k → (v : Version)
-      → imageIn (regionBytes (part d k .region) (takeBlock (d .parts) k (contents.fieldsIn report) staging)) (part d k .id) ≡ Bears v
+      → imageIn (regionBytes (part d k .region) (takeBlock (part d k .region) (headIn report) (drop 8 report) staging)) (part d k .id) ≡ Bears v
       → imageVersionFits (part d k) v ≡ true → Move d staging report (idleWith d (set (d .parts) k (withStaged (part d k) v)))
 
 -- where nothing refuses the call, the entry's own answer counts
@@ -102,32 +104,35 @@ module _ (d : Device) (staging report : List ℕ) where
     go false true e f = rw (e, f) after-extended
     go false false e f = rw (e, f) (after-offer (offerVerdict (d .platform) (d .count) (d .parts) (d .stage) (offers.fieldsIn report)) (offer-says (d .platform) (d .count) (d .parts) (d .stage) (offers.fieldsIn report)))
 
-  -- the record after a finished image
-  abbrev finished : Finished → Device
-  finished f = withSession d (f .parts) (f .session)
+  -- the record after a content packet for the component in slot k
+  abbrev taken : (k : ℕ) → Taken → Device
+  taken k t = withSession d (set (d .parts) k (t .part)) (t .effect .session)
 
   module _ (k : ℕ) (h : openSlot (d .stage) ≡ found.At k) where
-    after-judge : (m : Image) → imageIn (regionBytes (part d k .region) (takeBlock (d .parts) k (contents.fieldsIn report) staging)) (part d k .id) ≡ m
-        → Move d staging report (finished (judge (d .parts) k m))
-    after-judge Damaged e = idles
-    after-judge Foreign e = idles
+    -- the staging buffer after a block
+    abbrev written : List ℕ
+    written = takeBlock (part d k .region) (headIn report) (drop 8 report) staging
+
+    after-judge : (m : Image) → imageIn (regionBytes (part d k .region) written) (part d k .id) ≡ m
+        → Move d staging report (idleWith d (set (d .parts) k (judge (part d k) m .part)))
+    after-judge Damaged e = rw (kept (d .parts) k) idles
+    after-judge Foreign e = rw (kept (d .parts) k) idles
     after-judge (Bears v) e = go (imageVersionFits (part d k) v) refl where
-      go : (b : Bool) → imageVersionFits (part d k) v ≡ b → Move d staging report (finished (judge (d .parts) k (Bears v)))
+      go : (b : Bool) → imageVersionFits (part d k) v ≡ b → Move d staging report (idleWith d (set (d .parts) k (judge (part d k) (Bears v) .part)))
       go true f = rw f (stages k h v e f)
-      go false f = rw f idles
+      go false f = rw (f, kept (d .parts) k) idles
 
-    after-block : Move d staging report (received d (onBlock (d .parts) (sessionOf d) k (contents.fieldsIn report) (takeBlock (d .parts) k (contents.fieldsIn report) staging)) .device)
+    after-block : Move d staging report (taken k (onBlock (part d k) (sessionOf d) k (headIn report) written))
     unfolding onBlock finish
-    after-block = go (isLast (contents.fieldsIn report)) refl where
-      go : (b : Bool) → isLast (contents.fieldsIn report) ≡ b
-          → Move d staging report (received d (onBlock (d .parts) (sessionOf d) k (contents.fieldsIn report) (takeBlock (d .parts) k (contents.fieldsIn report) staging)) .device)
+    after-block = go (isLast (headIn report)) refl where
+      go : (b : Bool) → isLast (headIn report) ≡ b → Move d staging report (taken k (onBlock (part d k) (sessionOf d) k (headIn report) written))
       go true e = rw e (after-judge _ refl)
-      go false e = rw e (goes k h)
+      go false e = rw (e, kept (d .parts) k) (goes k h)
 
-  after-content : (v : ContentVerdict) → ContentSays (d .parts) (d .stage) (contents.fieldsIn report) v
-      → Move d staging report (received d (onVerdict (d .parts) (sessionOf d) (contents.fieldsIn report) staging v) .device)
-  after-content (Refuse s) h = stays
-  after-content (Take k) h = after-block k (h .0)
+  after-content : (v : ContentVerdict) → ContentSays (sessionPart d .region) (d .stage) (headIn report) v
+      → Move d staging report (received d (onVerdict (sessionPart d) (sessionOf d) (headIn report) (drop 8 report) staging v) .device)
+  after-content (Refuse s) h = rw (kept (d .parts) (atSlot (d .stage))) stays
+  after-content (Take k) h = rw (h .0) (after-block k (h .0))
 
   -- each entry for packets does one of the six
   pub serve-moves : (channel : Channel) → Move d staging report (serveEntry d channel staging report .device)
@@ -135,5 +140,5 @@ module _ (d : Device) (staging report : List ℕ) where
   serve-moves Offer = unless (Move d staging report) (refusalOf 16 d (length staging) (length report)) d (onKind d (kindIn report)) stays after-kind
   serve-moves Content =
       unless (Move d staging report) (refusalOf 60 d (length staging) (length report)) d
-      (received d (onVerdict (d .parts) (sessionOf d) (contents.fieldsIn report) staging (contentVerdict d (contents.fieldsIn report)))) stays
-      (after-content (contentVerdict d (contents.fieldsIn report)) (content-says (d .parts) (d .stage) (contents.fieldsIn report)))
+      (received d (onContent (sessionPart d) (sessionOf d) (headIn report) (drop 8 report) staging)) stays
+      (after-content (contentVerdict d (headIn report)) (content-says (sessionPart d .region) (d .stage) (headIn report)))

@@ -5,19 +5,12 @@ use mathlib.Core.Bool.{Bool, true, false, not, cond, _&&_}
 use mathlib.Core.List.{List, [], _∷_}
 use Prim.Native.Nat.{ℕ}
 use lib.Dec.{eqb, leb}
-use lib.ListN.{length}
+use lib.ListN.{length, drop}
 use Rattle.wire.specs.Codes.{NOTIFY-ON-READY, INFO-START-ENTIRE-TRANSACTION, INFO-END-OFFER-LIST}
 use Rattle.wire.proofs.Chain.{either}
 use Rattle.offers.specs.Kind.{Kind, offer, information, extended, kindIn}
-use Rattle.contents.specs.Content.{fieldsIn}
-use Rattle.contents.specs.declared.content.ContentFields.{ContentFields}
-use Rattle.image.specs.Region.{regionBytes}
-use Rattle.image.specs.Judge.{imageIn}
-use Rattle.image.specs.declared.judge.Image.{Image}
-use Rattle.image.specs.declared.judge.Image.the-variants.{Damaged, Foreign, Bears}
-use Rattle.component.specs.Lists.{partAt}
-use Rattle.component.specs.Versions.{imageVersionFits}
-use Rattle.component.specs.declared.record.Component.{Component}
+use Rattle.contents.specs.Head.{headIn}
+use Rattle.contents.specs.declared.head.ContentHead.{ContentHead}
 use Rattle.component.specs.declared.list.Found.the-variants.{At}
 use Rattle.session.specs.Stage.{isOpen, openSlot}
 use Rattle.session.specs.Owed.{owes}
@@ -29,7 +22,6 @@ use Rattle.session.specs.declared.effect.Effect.{Effect}
 use Rattle.offering.specs.Offer.{onOffer}
 use Rattle.offering.specs.Signal.{onInformation, onNotify, onExtended}
 use Rattle.receiving.specs.Content.{isLast, takeBlock}
-use Rattle.receiving.specs.Finish.{Finished, judge, finish}
 use Rattle.receiving.specs.Receive.{onBlock, onVerdict}
 use Rattle.receiving.specs.declared.checks.ContentVerdict.{ContentVerdict}
 use Rattle.receiving.specs.declared.checks.ContentVerdict.the-variants.{Refuse, Take}
@@ -38,7 +30,7 @@ use Rattle.device.specs.declared.record.Device.{Device}
 use Rattle.device.specs.Record.{sessionOf}
 use Rattle.device.specs.Refusals.{Outcome, servedWith, refusalOf, readySent}
 use Rattle.device.specs.Offer.{onKind, offerEntry}
-use Rattle.device.specs.Content.{contentVerdict, received, contentEntry}
+use Rattle.device.specs.Content.{sessionPart, contentVerdict, received, contentEntry}
 use Rattle.device.specs.Promises.{awaits, becomesIdle, OfferReplies, ContentReplies}
 use Rattle.device.proofs.Answers.{served-row}
 
@@ -75,12 +67,6 @@ stays-open : (b : Bool) → (b && not b) ≡ false
 stays-open true = refl
 stays-open false = refl
 
--- an image that is judged leaves the session idle
-judge-idles : (parts : List Component) (k : ℕ) (m : Image) → judge parts k m .session .stage ≡ Idle
-judge-idles parts k Damaged = refl
-judge-idles parts k Foreign = refl
-judge-idles parts k (Bears v) = either (λ (f : Finished). f .session .stage ≡ Idle) (imageVersionFits (partAt parts k) v) _ _ refl refl
-
 is-open : (s : Stage) (k : ℕ) → openSlot s ≡ At k → isOpen s ≡ true
 is-open Idle k e = cc
 is-open (Offered o) k e = refl
@@ -90,18 +76,18 @@ is-open (Receiving r) k e = refl
 abbrev Sends : Device → Outcome → Type 0
 Sends d a = a .sent ≡ a .reply ∷ readySent (cond (becomesIdle d (a .device)) (d .owed) owed.Nothing)
 
-module _ (d : Device) (c : ContentFields) (s : List ℕ) where
-  verdict-sends : (v : ContentVerdict) → ContentSays (d .parts) (d .stage) c v → Sends d (received d (onVerdict (d .parts) (sessionOf d) c s v))
-  unfolding onBlock finish
+module _ (d : Device) (c : ContentHead) (bytes s : List ℕ) where
+  verdict-sends : (v : ContentVerdict) → ContentSays (sessionPart d .region) (d .stage) c v → Sends d (received d (onVerdict (sessionPart d) (sessionOf d) c bytes s v))
+  unfolding onBlock
   verdict-sends (Refuse status) h = rw (stays-open (isOpen (d .stage)))
   verdict-sends (Take k) h = go (isLast c) refl where
-    go : (b : Bool) → isLast c ≡ b → Sends d (received d (onBlock (d .parts) (sessionOf d) k c (takeBlock (d .parts) k c s)))
-    go true e = rw (e, is-open (d .stage) k (h .0), judge-idles (d .parts) k (imageIn (regionBytes (partAt (d .parts) k .region) (takeBlock (d .parts) k c s)) (partAt (d .parts) k .id)))
+    go : (b : Bool) → isLast c ≡ b → Sends d (received d (onBlock (sessionPart d) (sessionOf d) k c (takeBlock (sessionPart d .region) c bytes s)))
+    go true e = rw (e, is-open (d .stage) k (h .0))
     go false e = rw (e, is-open (d .stage) k (h .0))
 
 pub content-replies : ContentReplies
 unfolding contentEntry
 content-replies d staging report e =
-    let v = contentVerdict d (fieldsIn report) in
-    let r = served-row (refusalOf 60 d (length staging) (length report)) d (received d (onVerdict (d .parts) (sessionOf d) (fieldsIn report) staging v)) e in
-    rw r (verdict-sends d (fieldsIn report) staging v (content-says (d .parts) (d .stage) (fieldsIn report)))
+    let v = contentVerdict d (headIn report) in
+    let r = served-row (refusalOf 60 d (length staging) (length report)) d (received d (onVerdict (sessionPart d) (sessionOf d) (headIn report) (drop 8 report) staging v)) e in
+    rw r (verdict-sends d (headIn report) (drop 8 report) staging v (content-says (sessionPart d .region) (d .stage) (headIn report)))

@@ -9,6 +9,7 @@ use lib.ListN.{length, getD, replicate}
 use Rattle.wire.specs.Codes.{NOTIFY-ON-READY}
 use Rattle.offers.specs.Kind.{Kind, offer, information, extended, kindIn}
 use Rattle.contents.specs.Content.{fieldsIn}
+use Rattle.contents.specs.Head.{headIn}
 use Rattle.contents.specs.declared.content.ContentFields.{ContentFields}
 use Rattle.component.specs.Record.{FitsComponent, listed}
 use Rattle.component.specs.Lists.{partAt}
@@ -78,12 +79,12 @@ pub record TakesBlock (d : Device) (staging report : List ℕ) : Type 0 where
   pub slot : ℕ
   pub opened : openSlot (d .stage) ≡ At slot
   pub row : contentEntry d staging report .row ≡ served
-  pub verdict : contentVerdict d (fieldsIn report) ≡ Take slot
+  pub verdict : contentVerdict d (headIn report) ≡ Take slot
   pub written : (j : ℕ) → fieldsIn report .address .0 ≤ j → j < fieldsIn report .address .0 + fieldsIn report .length
       → getD (contentStaging d staging report) (window d slot .base .0 + j) 0 ≡ getD report (8 + (j - fieldsIn report .address .0)) 0
   pub rest : (j : ℕ) → j < window d slot .len → Around (fieldsIn report) j
       → getD (contentStaging d staging report) (window d slot .base .0 + j) 0
-      ≡ cond (isFirst (fieldsIn report)) 0xFF (getD staging (window d slot .base .0 + j) 0)
+      ≡ cond (isFirst (headIn report)) 0xFF (getD staging (window d slot .base .0 + j) 0)
   pub beside : (j : ℕ) → Beside d slot j → getD (contentStaging d staging report) j 0 ≡ getD staging j 0
 
 -- the staging buffer keeps its length, and changes only by a valid block of the accepted offer

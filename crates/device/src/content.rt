@@ -8,18 +8,18 @@ use slots::slot::part_at;
 use slots::slot::slot_of;
 use slots::slot::with_part;
 ghost use mathlib.Core.Path.{_≡_};
-ghost use lib.ListN.{length};
-ghost use Rattle.contents.specs.Content.{fieldsIn};
+ghost use lib.ListN.{length, drop};
+ghost use Rattle.contents.specs.Head.{headIn};
 ghost use Rattle.receiving.specs.Receive.{onContent, stagingAfter};
 ghost use Rattle.device.specs.Record.{sessionOf};
 ghost use Rattle.device.specs.Refusals.{told};
-ghost use Rattle.device.specs.Content.{received as receivedBy, contentEntry, contentStaging};
+ghost use Rattle.device.specs.Content.{sessionPart, received as receivedBy, contentEntry, contentStaging};
 
 impl Device {
     // A packet that no row refuses.
     fn on_content(self, report: &[u8], staging: &mut [u8]) -> Answer
         requires { ⌜ length (now report) ≡ 60 ⌝ }
-        ensures { λ r. ⌜ (told r ≡ receivedBy self (onContent (self .parts) (sessionOf self) (fieldsIn (now (report .entry))) (now (staging .entry)))) × (now (staging .exit) ≡ stagingAfter (self .parts) (self .stage) (fieldsIn (now (report .entry))) (now (staging .entry))) ⌝ }
+        ensures { λ r. ⌜ (told r ≡ receivedBy self (onContent (sessionPart self) (sessionOf self) (headIn (now (report .entry))) (drop 8 (now (report .entry))) (now (staging .entry)))) × (now (staging .exit) ≡ stagingAfter (sessionPart self .region) (self .stage) (headIn (now (report .entry))) (drop 8 (now (report .entry))) (now (staging .entry))) ⌝ }
     {
         let parts = self.parts;
         let stage = self.stage;

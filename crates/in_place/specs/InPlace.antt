@@ -1,14 +1,15 @@
 -- What an entry over the bytes of a record answers, and the bytes that it leaves.
 use Prim.Native.Nat.{ℕ}
 use mathlib.Core.List.{List, _++_}
-use Rattle.contents.specs.Content.{fieldsIn}
+use lib.ListN.{drop}
+use Rattle.contents.specs.Head.{headIn}
 use Rattle.offers.specs.declared.kind.OfferPacket.{OfferPacket}
 use Rattle.receiving.specs.Receive.{onContent}
 use Rattle.offering.specs.Packet.{onPacket}
 use Rattle.device.specs.declared.record.Device.{Device}
 use Rattle.device.specs.Record.{sessionOf}
 use Rattle.device.specs.Refusals.{Row, served, D, rowOf, dueSent, readySent, Outcome, servedWith}
-use Rattle.device.specs.Content.{received}
+use Rattle.device.specs.Content.{sessionPart, received}
 use Rattle.device_bytes.specs.Layout.{deviceBytes, deviceIn}
 use Rattle.in_place.specs.declared.Reply.{Reply}
 
@@ -34,7 +35,8 @@ leftBy before o = keptBy (o .row) before (deviceBytes (o .device))
 
 -- what a content packet that no row refuses comes to, over the record in these bytes
 abbrev pub contentBy : (b staging report : List ℕ) → Outcome
-contentBy b staging report = received (deviceIn b) (onContent (deviceIn b .parts) (sessionOf (deviceIn b)) (fieldsIn report) staging)
+contentBy b staging report =
+    received (deviceIn b) (onContent (sessionPart (deviceIn b)) (sessionOf (deviceIn b)) (headIn report) (drop 8 report) staging)
 
 -- .. and a packet of the offer channel
 abbrev pub packetBy : (b : List ℕ) → OfferPacket → Outcome

@@ -12,11 +12,11 @@ use receiving::content;
 use slots::slot::slot_of;
 ghost use mathlib.Core.Path.{_≡_};
 ghost use mathlib.Core.Bool.{true};
-ghost use lib.ListN.{length};
+ghost use lib.ListN.{length, drop};
 ghost use Rattle.wire.specs.Bytes.{same};
-ghost use Rattle.contents.specs.Content.{fieldsIn};
+ghost use Rattle.contents.specs.Head.{headIn};
 ghost use Rattle.receiving.specs.Receive.{stagingAfter};
-ghost use Rattle.device.specs.Content.{contentEntry, contentStaging};
+ghost use Rattle.device.specs.Content.{sessionPart, contentEntry, contentStaging};
 ghost use Rattle.device_bytes.specs.Layout.{DEVICE-SIZE, deviceBytes, deviceIn, readDevice};
 ghost use Rattle.in_place.specs.InPlace.{outcomeOf, leftBy, contentBy};
 
@@ -25,7 +25,7 @@ fn on_content(bytes: &mut [u8], staging: &mut [u8], report: &[u8]) -> Reply
     requires { ⌜ (length (now bytes) ≡ DEVICE-SIZE) × (same (deviceBytes (deviceIn (now bytes))) (now bytes) ≡ true) × (length (now report) ≡ 60) ⌝ }
     ensures { λ r. ⌜ (outcomeOf r (contentBy (now (bytes .entry)) (now (staging .entry)) (now (report .entry)) .device) ≡ contentBy (now (bytes .entry)) (now (staging .entry)) (now (report .entry)))
         × (now (bytes .exit) ≡ deviceBytes (contentBy (now (bytes .entry)) (now (staging .entry)) (now (report .entry)) .device))
-        × (now (staging .exit) ≡ stagingAfter (deviceIn (now (bytes .entry)) .parts) (deviceIn (now (bytes .entry)) .stage) (fieldsIn (now (report .entry))) (now (staging .entry))) ⌝ }
+        × (now (staging .exit) ≡ stagingAfter (sessionPart (deviceIn (now (bytes .entry))) .region) (deviceIn (now (bytes .entry)) .stage) (headIn (now (report .entry))) (drop 8 (now (report .entry))) (now (staging .entry))) ⌝ }
 {
     let session = session_in(bytes);
     let stage = session.stage;

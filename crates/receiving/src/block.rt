@@ -4,13 +4,9 @@ use contents::head::ContentHead;
 use image::region::Region;
 ghost use mathlib.Core.Path.{_≡_};
 ghost use mathlib.Core.Bool.{cond};
-ghost use mathlib.Core.List.{List};
-ghost use Prim.Native.Nat.{ℕ, min};
-ghost use lib.ListN.{length};
-ghost use Rattle.contents.specs.Head.{withData};
+ghost use Prim.Native.Nat.{min};
 ghost use Rattle.image.specs.Region.{eraseOf};
-ghost use Rattle.component.specs.declared.record.Component.{Component};
-ghost use Rattle.receiving.specs.Content.{window, takeBlock};
+ghost use Rattle.receiving.specs.Content.{takeBlock};
 
 // A first block erases the region.
 fn erase_on_first(region: Region, first: bool, staging: &mut [u8])
@@ -31,7 +27,7 @@ fn counted(length: u8, n: usize) -> usize
 
 // On first, fill the region with 0xFF; write the data.
 pub(crate) fn take_block(region: Region, c: ContentHead, data: &[u8], staging: &mut [u8])
-    ensures { λ _. ⌜ ((parts : List Component) → (slot : ℕ) → window parts slot ≡ region → now (staging .exit) ≡ takeBlock parts slot (withData c (now («data» .entry))) (now (staging .entry))) ⌝ }
+    ensures { λ _. ⌜ now (staging .exit) ≡ takeBlock region c (now («data» .entry)) (now (staging .entry)) ⌝ }
 {
     let address = c.address;
     let n = counted(c.length, data.len());

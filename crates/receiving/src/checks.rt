@@ -5,14 +5,7 @@ use session::stage::Stage;
 use slots::slot::slot_of;
 use wire::codes;
 ghost use mathlib.Core.Path.{_≡_};
-ghost use mathlib.Core.Bool.{not};
-ghost use mathlib.Core.List.{List, []};
-ghost use Prim.Native.Nat.{ℕ};
-ghost use Rattle.contents.specs.Head.{withData};
-ghost use Rattle.image.specs.Region.{holds};
-ghost use Rattle.component.specs.declared.record.Component.{Component};
-ghost use Rattle.session.specs.Stage.{atSlot};
-ghost use Rattle.receiving.specs.Content.{isFirst, isLast, window, noOffer, badShape, badFirst, badSequence, contentVerdict};
+ghost use Rattle.receiving.specs.Content.{isFirst, isLast, noOffer, badShape, badFirst, badSequence, badAddress, contentVerdict};
 
 // The most bytes of data in a block.
 const BLOCK_LIMIT: u8 = 52;
@@ -26,13 +19,13 @@ pub enum ContentVerdict {
 }
 
 pub(crate) fn is_first(c: ContentHead) -> bool
-    ensures { λ r. ⌜ r ≡ isFirst (withData c []) ⌝ }
+    ensures { λ r. ⌜ r ≡ isFirst c ⌝ }
 {
     codes::FLAG_FIRST_BLOCK <= c.flags
 }
 
 pub(crate) fn is_last(c: ContentHead) -> bool
-    ensures { λ r. ⌜ r ≡ isLast (withData c []) ⌝ }
+    ensures { λ r. ⌜ r ≡ isLast c ⌝ }
 {
     c.flags / codes::FLAG_LAST_BLOCK % 2 == 1
 }
@@ -46,14 +39,14 @@ fn no_offer(stage: Stage) -> bool
 
 // Check 2: length 0 or over 52, or a flag bit other than the two.
 fn bad_shape(c: ContentHead) -> bool
-    ensures { λ r. ⌜ r ≡ badShape (withData c []) ⌝ }
+    ensures { λ r. ⌜ r ≡ badShape c ⌝ }
 {
     (c.length == 0) | (BLOCK_LIMIT < c.length) | (c.flags % codes::FLAG_LAST_BLOCK != 0)
 }
 
 // Check 3: offered without first, or receiving with first.
 fn bad_first(stage: Stage, c: ContentHead) -> bool
-    ensures { λ r. ⌜ r ≡ badFirst stage (withData c []) ⌝ }
+    ensures { λ r. ⌜ r ≡ badFirst stage c ⌝ }
 {
     let receiving = stage.is_receiving();
     let first = is_first(c);
@@ -62,7 +55,7 @@ fn bad_first(stage: Stage, c: ContentHead) -> bool
 
 // Check 4: receiving, and sequence not the expected one.
 fn bad_sequence(stage: Stage, c: ContentHead) -> bool
-    ensures { λ r. ⌜ r ≡ badSequence stage (withData c []) ⌝ }
+    ensures { λ r. ⌜ r ≡ badSequence stage c ⌝ }
 {
     let verdict = stage.sequence_verdict(c.sequence);
     verdict.is_wrong()
@@ -70,7 +63,7 @@ fn bad_sequence(stage: Stage, c: ContentHead) -> bool
 
 // Check 5: address and length past the region of the session's component.
 fn bad_address(region: Region, c: ContentHead) -> bool
-    ensures { λ r. ⌜ r ≡ not (holds region (c .address) (c .length)) ⌝ }
+    ensures { λ r. ⌜ r ≡ badAddress region c ⌝ }
 {
     let address = c.address;
     !region.holds(address, c.length as usize)
@@ -78,7 +71,7 @@ fn bad_address(region: Region, c: ContentHead) -> bool
 
 // Checks 1 to 5, and 6 where none applies, for a device whose session may write to this region.
 pub fn judge_content(region: Region, stage: Stage, c: ContentHead) -> ContentVerdict
-    ensures { λ r. ⌜ ((parts : List Component) → (bytes : List ℕ) → window parts (atSlot stage) ≡ region → r ≡ contentVerdict parts stage (withData c bytes)) ⌝ }
+    ensures { λ r. ⌜ r ≡ contentVerdict region stage c ⌝ }
 {
     if no_offer(stage) {
         return ContentVerdict::Refuse(codes::ERROR_NO_OFFER);

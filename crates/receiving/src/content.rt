@@ -15,12 +15,6 @@ use session::stage::Receiving;
 use session::stage::Stage;
 use wire::codes;
 ghost use mathlib.Core.Path.{_≡_};
-ghost use mathlib.Core.List.{List, []};
-ghost use Prim.Native.Nat.{ℕ};
-ghost use lib.ListN.{set};
-ghost use Rattle.contents.specs.Head.{withData};
-ghost use Rattle.component.specs.Lists.{partAt};
-ghost use Rattle.session.specs.Stage.{atSlot};
 ghost use Rattle.receiving.specs.Receive.{blockReply, goesOn, onBlock, onContent, stagingAfter};
 
 // What a content packet does, and the session's component afterwards.
@@ -39,7 +33,7 @@ fn block_reply(session: Session, sequence: u16, status: u8, ready: Owed) -> Effe
 
 // After a block that is not the last: receiving, one sequence on.
 fn goes_on(session: Session, slot: u8, c: ContentHead) -> Session
-    ensures { λ r. ⌜ r ≡ goesOn session slot (withData c []) ⌝ }
+    ensures { λ r. ⌜ r ≡ goesOn session slot c ⌝ }
 {
     let stage = session.stage;
     let token = stage.token();
@@ -49,7 +43,7 @@ fn goes_on(session: Session, slot: u8, c: ContentHead) -> Session
 
 // A taken block, with the staging buffer after its write.
 fn on_block(part: Component, session: Session, slot: u8, c: ContentHead, staging: &[u8]) -> Taken
-    ensures { λ r. ⌜ ((parts : List Component) → (bytes : List ℕ) → partAt parts slot ≡ part → (r .effect ≡ onBlock parts session slot (withData c bytes) (now (staging .entry)) .effect) × (set parts slot (r .part) ≡ onBlock parts session slot (withData c bytes) (now (staging .entry)) .parts)) ⌝ }
+    ensures { λ r. ⌜ r ≡ onBlock part session slot c (now (staging .entry)) ⌝ }
 {
     if is_last(c) {
         let owed = session.owed;
@@ -73,10 +67,8 @@ pub fn on_content(
     data: &[u8],
     staging: &mut [u8],
 ) -> Taken
-    ensures { λ r. ⌜ ((parts : List Component) → partAt parts (atSlot (session .stage)) ≡ part
-        → (r .effect ≡ onContent parts session (withData c (now («data» .entry))) (now (staging .entry)) .effect)
-        × (set parts (atSlot (session .stage)) (r .part) ≡ onContent parts session (withData c (now («data» .entry))) (now (staging .entry)) .parts)
-        × (now (staging .exit) ≡ stagingAfter parts (session .stage) (withData c (now («data» .entry))) (now (staging .entry)))) ⌝ }
+    ensures { λ r. ⌜ (r ≡ onContent part session c (now («data» .entry)) (now (staging .entry)))
+        × (now (staging .exit) ≡ stagingAfter (part .region) (session .stage) c (now («data» .entry)) (now (staging .entry))) ⌝ }
 {
     let stage = session.stage;
     let region = part.region;

@@ -3,10 +3,6 @@ use component::record::Component;
 use image::judge::Image;
 use wire::codes;
 ghost use mathlib.Core.Path.{_≡_};
-ghost use mathlib.Core.List.{List};
-ghost use Prim.Native.Nat.{ℕ};
-ghost use lib.ListN.{set};
-ghost use Rattle.component.specs.Lists.{partAt};
 ghost use Rattle.receiving.specs.Finish.{finish as finishOf};
 
 // What a finished image comes to.
@@ -24,7 +20,7 @@ fn failed(part: Component, status: u8) -> Finished
 
 // The only place that judges and stages.
 pub(crate) fn finish(part: Component, staging: &[u8]) -> Finished
-    ensures { λ r. ⌜ ((parts : List Component) → (slot : ℕ) → partAt parts slot ≡ part → (r .status ≡ finishOf parts slot (now (staging .entry)) .status) × (set parts slot (r .part) ≡ finishOf parts slot (now (staging .entry)) .parts)) ⌝ }
+    ensures { λ r. ⌜ r ≡ finishOf part (now (staging .entry)) ⌝ }
 {
     let region = part.region;
     let judged = region.image(staging, part.id);

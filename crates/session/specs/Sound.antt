@@ -14,6 +14,7 @@ use Rattle.component.specs.declared.list.Found.{Found}
 use Rattle.component.specs.declared.list.Found.the-variants as found
 use Rattle.component.specs.declared.setup.SetupVerdict.{SetupVerdict}
 use Rattle.component.specs.declared.setup.SetupVerdict.the-variants.{Fine, S1, S2, S3, S4}
+use Rattle.slots.specs.Slots.{slotOf}
 use Rattle.session.specs.declared.owed.Owed.{Owed}
 use Rattle.session.specs.declared.effect.Session.{Session}
 use Rattle.session.specs.Stage.{openSlot}
@@ -30,13 +31,13 @@ refusesSetup S4 = true
 abbrev pub breaksSetup : (n count : ℕ) → List Component → Bool
 breaksSetup n count parts = refusesSetup (setupVerdict n count parts)
 
--- opens on an unlisted or pending component
-abbrev pub wrongSlot : (count : ℕ) → List Component → Found → Bool
-wrongSlot count parts found.Nothing = false
-wrongSlot count parts (found.At k) = leb count k || isPending (partAt parts k .staged)
+-- opens on a slot that is unlisted, or whose component, c, is pending
+abbrev pub wrongSlot : (count : ℕ) → Component → Found → Bool
+wrongSlot count c found.Nothing = false
+wrongSlot count c (found.At k) = leb count k || isPending (c .staged)
 
 abbrev pub opensWrong : (count : ℕ) → List Component → Session → Bool
-opensWrong count parts session = wrongSlot count parts (openSlot (session .stage))
+opensWrong count parts session = wrongSlot count (partAt parts (slotOf (openSlot (session .stage)))) (openSlot (session .stage))
 
 -- owes while idle
 abbrev pub owesOn : Found → Owed → Bool

@@ -10,9 +10,6 @@ use component::setup::staging_too_long;
 use slots::slot::part_at;
 use slots::slot::slot_of;
 ghost use mathlib.Core.Path.{_≡_};
-ghost use mathlib.Core.List.{List};
-ghost use Rattle.component.specs.Lists.{partAt};
-ghost use Rattle.slots.specs.Slots.{slotOf};
 ghost use Rattle.session.specs.Sound.{refusesSetup, wrongSlot, owesOn, breaksD1};
 
 // S1 to S4 refuse it.
@@ -40,7 +37,7 @@ pub fn owes_on(at: Found, owed: Owed) -> bool
 
 // The slot that the session is open on is unlisted, or its component, which is this one, is pending.
 pub fn wrong_slot(count: u8, part: Component, at: Found) -> bool
-    ensures { λ r. ⌜ ((parts : List Component) → partAt parts (slotOf at) ≡ part → r ≡ wrongSlot count parts at) ⌝ }
+    ensures { λ r. ⌜ r ≡ wrongSlot count part at ⌝ }
 {
     match at {
         Found::Nothing => false,

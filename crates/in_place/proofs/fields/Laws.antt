@@ -5,13 +5,13 @@ use Prim.Native.Nat.{ℕ, zero, suc, _+_, _*_, _<_, _≤_}
 use native.Mathlib.Nat.{not-suc-le-zero, le-of-suc-le-suc}
 use native.Mathlib.Omega.{arith}
 use lib.ListN.{length, getD, set, take, drop, length-append}
-use lib.Seq.{take-at, drop-at, set-getD, set-out}
+use lib.Seq.{take-at, drop-at, set-out}
 use Rattle.wire.specs.Bytes.{number, bytesOf, copyOf}
 use Rattle.wire.proofs.words.Copies.{copy-same}
 use Rattle.component.specs.Lists.{partAt}
-use Rattle.component.specs.Record.{blankComponent}
 use Rattle.component.specs.declared.record.Component.{Component}
 use Rattle.session.specs.declared.effect.Session.{Session}
+use Rattle.receiving.proofs.content.Laws.{kept}
 use Rattle.device.specs.Record.{sessionOf, withSession}
 use Rattle.device.specs.declared.record.Device.{Device}
 use Rattle.device_bytes.specs.Layout.{PARTS-START, PART-SIZE, stageBytes, owedBytes, partBytes, partsBytes, deviceBytes, deviceIn}
@@ -101,7 +101,7 @@ pub part-stored : (b s last : List ℕ) (d : Device) (slot k : ℕ) (c : Compone
 part-stored b s last d slot k c h e seven f g l =
     let in-use : slot < length (d .parts) = omega arith in
     let old = partAt (d .parts) slot in
-    let same-parts : d .parts ≡ set (d .parts) slot old = sym (set-getD (d .parts) slot blankComponent) in
+    let same-parts : d .parts ≡ set (d .parts) slot old = sym (kept (d .parts) slot) in
     let n : length (front d ++ partsBytes (take slot (d .parts))) ≡ PARTS-START + slot * PART-SIZE
     = length-append (front d) (partsBytes (take slot (d .parts))) ∙ ap₂ (λ (x y : ℕ). x + y) (front-fourteen d) (front-sized (d .parts) slot (omega arith)) in
     put-at b (front d ++ partsBytes (take slot (d .parts))) (partBytes old) (partsBytes (drop (suc slot) (d .parts))) s last (PARTS-START + slot * PART-SIZE) k

@@ -1,5 +1,5 @@
 -- What D1, D2 and D3 answer of the bytes of a record. Assumes nothing.
-use mathlib.Core.Path.{_≡_, refl, sym, ap, _∙_}
+use mathlib.Core.Path.{_≡_, refl, sym, ap}
 use mathlib.Core.Bool.{Bool, true, false, cond, not, _||_}
 use mathlib.Core.List.{List}
 use Prim.Native.Nat.{ℕ}
@@ -32,12 +32,11 @@ Broken b = not (same (deviceBytes (deviceIn b)) b) || breaksD1 (deviceIn b)
 pub broken : (b : List ℕ) (t long bad wrong owes flaw : Bool) (n k : ℕ) (session : Session) (slot : Found) (part : Component)
     → t ≡ same (deviceBytes (deviceIn b)) b → n ≡ number (bytesAt 4 2 b) → session ≡ sessionOf (deviceIn b) → slot ≡ openSlot (session .stage) → k ≡ slotOf slot
     → part ≡ partAt (deviceIn b .parts) k → long ≡ stagingTooLong n → bad ≡ badCount (getD b 6 0)
-    → ((parts : List Component) → partAt parts (slotOf slot) ≡ part → wrong ≡ wrongSlot (getD b 6 0) parts slot) → owes ≡ owesOn slot (session .owed)
+    → wrong ≡ wrongSlot (getD b 6 0) part slot → owes ≡ owesOn slot (session .owed)
     → flaw ≡ unsound n (take (getD b 6 0) (deviceIn b .parts)) → (not t || ((long || bad) || (wrong || (owes || flaw)))) ≡ Broken b
 unfolding deviceIn
 broken b t long bad wrong owes flaw n k session slot part e f g h i j l m w o u =
-    let p = sym (j ∙ ap (λ (x : ℕ). partAt (deviceIn b .parts) x) i) in
-    rw (e, l, m, w (deviceIn b .parts) p, o, u, h, g, f)
+    rw (e, l, m, w, o, u, j, i, h, g, f)
     (ap (λ (x : Bool). not (same (deviceBytes (deviceIn b)) b) || x) (sym (grouped (number (bytesAt 4 2 b)) (getD b 6 0) (deviceIn b .parts) (sessionOf (deviceIn b)))))
 
 module _ (b : List ℕ) (size n m : ℕ) where

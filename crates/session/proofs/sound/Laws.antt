@@ -57,7 +57,7 @@ module _ {n count : ℕ} {parts : List Component} {session : Session} where
   -- a session that is open on a slot is open on a component that is listed and not pending
   pub open-slot : (k : ℕ) → Passes n count parts session → openSlot (session .stage) ≡ At k → (k < count) × (isPending (partAt parts k .staged) ≡ false)
   open-slot k p e =
-      let h : wrongSlot count parts (At k) ≡ false = rw e at (p .slot) in
+      let h : wrongSlot count (partAt parts k) (At k) ≡ false = rw e at (p .slot) in
       let m = neither (leb count k) _ h in (leb-false count k (m .0), m .1)
 
   -- the region of a component in use lies in the staging buffer

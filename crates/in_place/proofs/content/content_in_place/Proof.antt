@@ -1,13 +1,13 @@
 -- `content::content_in_place` meets its contract: D1 to D3, or the answer to a block. Assumes nothing.
 use mathlib.Core.Path.{_≡_, sym, ap, _∙_}
 use denote.Ref.{now}
-use lib.ListN.{length}
+use lib.ListN.{length, drop}
 use Rattle.wire.proofs.Chain.{by}
-use Rattle.contents.specs.Content.{fieldsIn}
+use Rattle.contents.specs.Head.{headIn}
 use Rattle.receiving.specs.Receive.{onContent, stagingAfter}
 use Rattle.device.specs.Record.{sessionOf}
 use Rattle.device.specs.Refusals.{Row, served, refusalOf, refusedBy}
-use Rattle.device.specs.Content.{received, contentEntry, contentStaging}
+use Rattle.device.specs.Content.{sessionPart, received, contentEntry, contentStaging}
 use Rattle.device.proofs.Passes.{serves}
 use Rattle.device.proofs.answer.Laws.{none-refuses, one-keeps}
 use Rattle.device_bytes.specs.Layout.{readDevice}
@@ -38,9 +38,9 @@ returns c =
     let row = refusalOf 60 d (length s) (length p) in
     let q = c .before .before .before .refusal-in .ensures in
     let t = rw q at (by (c .before .before .is-refused .ensures) (c .before .if1 .taken)) in
-    let k = refused-leaves row d (c .refused .result) (received d (onContent (d .parts) (sessionOf d) (fieldsIn p) s)) (now (a .bytes)) t
+    let k = refused-leaves row d (c .refused .result) (received d (onContent (sessionPart d) (sessionOf d) (headIn p) (drop 8 p) s)) (now (a .bytes)) t
     (λ e. c .refused .ensures e ∙ ap (λ (r : Row). refusedBy r e) q) in
-    (k .0, k .1, sym (one-keeps row s (stagingAfter (d .parts) (d .stage) (fieldsIn p) s) t))
+    (k .0, k .1, sym (one-keeps row s (stagingAfter (sessionPart d .region) (d .stage) (headIn p) (drop 8 p) s) t))
 
 -- no row refuses the call, so the bytes are a record's, and the report has 60
 serves-it : (c : tie.Else1) → let a = c .before .before .before .before .before .before .before .args in refusalOf 60 (readDevice (now (a .bytes))) (length (now (a .staging))) (length (now (a .report))) ≡ served

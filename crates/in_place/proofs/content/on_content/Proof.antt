@@ -1,26 +1,18 @@
 -- `content::on_content` meets its contract: what the packet does to the session and to the component in its slot, each stored over its own bytes. Assumes nothing.
-use mathlib.Core.Path.{_≡_, sym, ap, subst, _∙_}
-use mathlib.Core.List.{List}
-use Prim.Native.Nat.{ℕ, _-_}
+use mathlib.Core.Path.{_≡_, sym, ap, _∙_}
+use Prim.Native.Nat.{_-_}
 use native.Mathlib.Omega.{arith}
 use denote.Ref.{now}
 use lib.ListN.{length, take, drop, set, length-drop}
 use lib.Seq.{take-all}
 use Rattle.wire.proofs.words.Sames.{same-eq}
-use Rattle.component.specs.Lists.{partAt}
-use Rattle.component.specs.declared.record.Component.{Component}
-use Rattle.slots.specs.Slots.{slotOf}
-use Rattle.contents.specs.Content.{fieldsIn}
+use Rattle.contents.specs.Head.{headIn}
 use Rattle.session.specs.Stage.{atSlot}
-use Rattle.session.specs.declared.effect.Effect.{Effect}
-use Rattle.session.specs.declared.effect.Session.{Session}
-use Rattle.receiving.specs.Receive.{Received, onContent}
-use Rattle.receiving.proofs.content.Laws.{on-read, staging-read}
+use Rattle.receiving.specs.Receive.{onContent}
 use Rattle.device.specs.Record.{sessionOf, withSession}
-use Rattle.device.specs.Refusals.{servedWith}
+use Rattle.device.specs.Content.{sessionPart}
 use Rattle.device_bytes.specs.Layout.{deviceBytes, deviceIn}
 use Rattle.device_bytes.proofs.Record.{device-length}
-use Rattle.in_place.specs.InPlace.{outcomeOf}
 use Rattle.in_place.proofs.fields.Laws.{seven-in}
 use borrow.Author.Needs.{needs}
 use Rattle.in_place.proofs.content.on_content.Statement.{statement}
@@ -78,34 +70,27 @@ same-length c = search needs
 same-length-2 : tie.Need-same-length-2
 same-length-2 c = search needs
 
--- the session's slot, and the component in it
-slot-is : (c : tie.After-slot-of) → c .slot-of .result ≡ atSlot (deviceIn (now (c .before .before .before .before .before .before .before .args .bytes)) .stage)
-slot-is c = c .slot-of .ensures ∙ ap slotOf (c .before .open-slot .ensures) ∙ ap (λ (s : Session). atSlot (s .stage)) (c .before .before .session-in .ensures)
-
-part-is : (c : tie.After-component-at) → let d = deviceIn (now (c .before .before .before .before .before .before .before .before .before .args .bytes)) in partAt (d .parts) (atSlot (c .before .before .before .before .session-in .result .stage)) ≡ c .component-at .result
-part-is c =
-    sym (c .component-at .ensures ∙ ap (partAt (deviceIn (now (c .before .before .before .before .before .before .before .before .before .args .bytes)) .parts)) (c .before .before .slot-of .ensures ∙ ap slotOf (c .before .before .before .open-slot .ensures)))
-
 returns : tie.Need-returns
 returns c =
-    let start = c .before .before .before .before .before .before .before .before .before .before .before .before .before .before .before .before .before .before .before .before .before .before .before .before .before .before .before in
+    let stored = c .before .before .before in
+    let session = stored .before .before .before .before in
+    let taken = session .before .before .before .before .before .before .before in
+    let head = taken .before .before .before in
+    let part = head .before in
+    let slot = part .before .before in
+    let opened = slot .before in
+    let read = opened .before in
+    let start = read .before .before .before .before .before in
     let b = now (start .args .bytes) in
     let p = now (start .args .report) in
-    let s = now (start .args .staging) in
     let d = deviceIn b in
-    let taken = c .before .before .before .before .before .before .before .before .before .before .before .before .before .before .on-content in
     let e : take (length p - 8) (drop 8 p) ≡ drop 8 p = take-all (length p - 8) (drop 8 p) (simp length-drop (omega arith)) in
-    let o = rw (c .before .before .before .before .before .before .before .before .before .before .before .before .before .before .before .before .before .before .before .before .before .before .session-in .ensures, c .before .before .before .before .before .before .before .before .before .before .before .before .before .before .before .before .before .read-head .ensures, e) at (taken .ensures (d .parts) (part-is (c .before .before .before .before .before .before .before .before .before .before .before .before .before .before .before .before .before .before))) in
-    let q = on-read (d .parts) p s (sessionOf d) in
-    let r = onContent (d .parts) (sessionOf d) (fieldsIn p) s in
-    let f : taken .result .effect ≡ r .effect = o .0 ∙ ap (λ (t : Received). t .effect) q in
-    let g : set (d .parts) (c .before .before .before .before .before .before .before .before .before .before .before .before .before .before .before .before .before .before .before .before .slot-of .result) (taken .result .part) ≡ r .parts
-    = ap (λ (k : ℕ). set (d .parts) k (taken .result .part)) (slot-is (c .before .before .before .before .before .before .before .before .before .before .before .before .before .before .before .before .before .before .before .before)) ∙ o .1 ∙ ap (λ (t : Received). t .parts) q in (
-      subst (λ (t : Effect). outcomeOf (c .served .result) (servedWith d (r .parts) t .device) ≡ servedWith d (r .parts) t) f (c .served .ensures d (r .parts)),
-      c .before .before .before .store-part .ensures (withSession d (d .parts) (taken .result .effect .session)) (seven-in b) (session-stored (c .before .before .before .before .before .before .before))
-          ∙ ap (λ (l : List Component). deviceBytes (withSession d l (taken .result .effect .session))) g
-          ∙ ap (λ (t : Effect). deviceBytes (withSession d (r .parts) (t .session))) f,
-      o .2 ∙ staging-read (d .parts) p s (d .stage),
+    let k = rw (opened .open-slot .ensures, read .session-in .ensures) at (slot .slot-of .ensures) in
+    let o = rw (part .component-at .ensures, k, read .session-in .ensures, head .read-head .ensures, e) at (taken .on-content .ensures) in
+    let r = onContent (sessionPart d) (sessionOf d) (headIn p) (drop 8 p) (now (start .args .staging)) in (
+      rw (o .0) at (c .served .ensures d (set (d .parts) (atSlot (d .stage)) (r .part))),
+      rw (o .0, k) at (stored .store-part .ensures (withSession d (d .parts) (taken .on-content .result .effect .session)) (seven-in b) (session-stored session)),
+      o .1,
     )
 
 pub on-content-spec : {M : Type 1} → statement M

@@ -34,10 +34,10 @@ same-length c = search needs
 
 returns : tie.Need-returns
 unfolding takeBlock
-returns c parts slot h =
+returns c =
     let n = c .before .before .before .before .before .before .before .before .before .before .counted in
     let z : n .result - 0 ≡ n .result = omega arith in
-    c .before .before .write .ensures ∙ rw (z, n .ensures, counts, c .before .before .before .before .before .before .before .erase-on-first .ensures, c .before .before .before .before .before .before .before .before .before .is-first .ensures, h)
+    c .before .before .write .ensures ∙ rw (z, n .ensures, counts, c .before .before .before .before .before .before .before .erase-on-first .ensures, c .before .before .before .before .before .before .before .before .before .is-first .ensures)
 
 pub take-block-spec : {M : Type 1} → statement M
 take-block-spec =

@@ -1,10 +1,6 @@
 -- `content::on_block` meets its contract: the end of the image, or one sequence on. Assumes nothing.
-use mathlib.Core.Path.{_∙_}
-use denote.Ref.{now}
 use Rattle.receiving.specs.Receive.{onBlock}
 use Rattle.wire.proofs.Chain.{by}
-use Rattle.receiving.proofs.finish.Laws.{idles}
-use Rattle.receiving.proofs.content.Laws.{kept}
 use borrow.Author.Needs.{needs}
 use Rattle.receiving.proofs.content.on_block.Statement.{statement}
 use Rattle.receiving.proofs.content.on_block.Tie as tie
@@ -29,17 +25,22 @@ block-reply-requires-2 c κs = search needs
 
 returns : tie.Need-returns
 unfolding onBlock
-returns c parts bytes h =
-    let a = c .before .before .before .before .before .before .before .args in
-    let f = c .before .before .before .finish .ensures parts (a .slot) h in
-    rw (by (c .before .before .before .before .before .is-last .ensures) (c .before .before .before .before .if1 .taken))
-    (c .block-reply .ensures ∙ rw (c .before .idle .ensures, f .0, idles parts (a .slot) (now (a .staging))), f .1)
+returns c =
+    rw (
+      by (c .before .before .before .before .before .is-last .ensures) (c .before .before .before .before .if1 .taken),
+      c .block-reply .ensures,
+      c .before .idle .ensures,
+      c .before .before .before .finish .ensures,
+    )
 
 returns-2 : tie.Need-returns-2
 unfolding onBlock
-returns-2 c parts bytes h =
-    rw (by (c .before .before .before .is-last .ensures) (c .before .before .if1 .left))
-    (c .block-reply2 .ensures ∙ rw (c .before .goes-on .ensures), kept parts _ _ h)
+returns-2 c =
+    rw (
+      by (c .before .before .before .is-last .ensures) (c .before .before .if1 .left),
+      c .block-reply2 .ensures,
+      c .before .goes-on .ensures,
+    )
 
 pub on-block-spec : {M : Type 1} → statement M
 on-block-spec =

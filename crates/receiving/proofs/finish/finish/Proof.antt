@@ -1,15 +1,6 @@
 -- `finish::finish` meets its contract: by what the image is, and then by its version. Assumes nothing.
-use mathlib.Core.Path.{_≡_, refl}
-use mathlib.Core.List.{List}
-use Prim.Native.Nat.{ℕ}
-use denote.Ref.{now}
-use Rattle.image.specs.Region.{regionBytes}
-use Rattle.image.specs.Judge.{imageIn}
-use Rattle.component.specs.Lists.{partAt}
-use Rattle.component.specs.declared.record.Component.{Component}
 use Rattle.receiving.specs.Finish.{finish}
 use Rattle.wire.proofs.Chain.{by}
-use Rattle.receiving.proofs.content.Laws.{kept}
 use borrow.Author.Needs.{needs}
 use Rattle.receiving.proofs.finish.finish.Statement.{statement}
 use Rattle.receiving.proofs.finish.finish.Tie as tie
@@ -41,34 +32,31 @@ with-staged-requires c κs = search needs
 failed-requires-3 : tie.Need-failed-requires-3
 failed-requires-3 c κs = search needs
 
--- the image in the region of the component in the slot
-seen : (c : tie.After-image) (parts : List Component) (slot : ℕ) → let a = c .before .before .before .args in
-    partAt parts slot ≡ a .part → c .image .result ≡ imageIn (regionBytes (partAt parts slot .region) (now (a .staging))) (partAt parts slot .id)
-seen c parts slot h = rw h (c .image .ensures)
-
 returns : tie.Need-returns
 unfolding finish
-returns c parts slot h =
-    let e = by (seen (c .before .before .before) parts slot h) (c .before .enum-told .given .1) in rw (e, c .failed .ensures) (refl, kept parts slot _ h)
+returns c = rw (by (c .before .before .before .image .ensures) (c .before .enum-told .given .1), c .failed .ensures)
 
 returns-2 : tie.Need-returns-2
 unfolding finish
-returns-2 c parts slot h =
-    let e = by (seen (c .before .before .before) parts slot h) (c .before .enum-told2 .given .1) in rw (e, c .failed2 .ensures) (refl, kept parts slot _ h)
+returns-2 c = rw (by (c .before .before .before .image .ensures) (c .before .enum-told2 .given .1), c .failed2 .ensures)
 
 returns-3 : tie.Need-returns-3
 unfolding finish
-returns-3 c parts slot h =
-    let e = by (seen (c .before .before .before .before .before .before) parts slot h) (c .before .before .before .before .judged .given .1) in
-    let f = by (c .before .before .image-version-fits .ensures) (c .before .if1 .taken) in
-    rw (e, h, f, c .with-staged .ensures) (refl, refl)
+returns-3 c =
+    rw (
+      by (c .before .before .before .before .before .before .image .ensures) (c .before .before .before .before .judged .given .1),
+      by (c .before .before .image-version-fits .ensures) (c .before .if1 .taken),
+      c .with-staged .ensures,
+    )
 
 returns-4 : tie.Need-returns-4
 unfolding finish
-returns-4 c parts slot h =
-    let e = by (seen (c .before .before .before .before .before .before) parts slot h) (c .before .before .before .before .judged .given .1) in
-    let f = by (c .before .before .image-version-fits .ensures) (c .before .if1 .left) in
-    rw (e, h, f, c .failed3 .ensures) (refl, kept parts slot _ h)
+returns-4 c =
+    rw (
+      by (c .before .before .before .before .before .before .image .ensures) (c .before .before .before .before .judged .given .1),
+      by (c .before .before .image-version-fits .ensures) (c .before .if1 .left),
+      c .failed3 .ensures,
+    )
 
 pub finish-spec : {M : Type 1} → statement M
 finish-spec =

@@ -1,7 +1,5 @@
 -- `sound::breaks_d1` meets its contract: D1 in another order, each part as its helper says. Assumes nothing.
-use mathlib.Core.Path.{sym, ap, _∙_}
-use Prim.Native.Nat.{ℕ}
-use Rattle.component.specs.Lists.{partAt}
+use mathlib.Core.Path.{sym}
 use Rattle.session.proofs.sound.Grouped.{grouped}
 use borrow.Author.Needs.{needs}
 use Rattle.session.proofs.sound.breaks_d1.Statement.{statement}
@@ -34,13 +32,14 @@ some-unsound-requires c κs = search needs
 returns : tie.Need-returns
 returns c =
     let a = c .before .before .before .before .before .before .before .before .args in
-    let p = sym (c .before .before .before .before .before .part-at .ensures ∙ ap (λ (k : ℕ). partAt (a .parts) k) (c .before .before .before .before .before .before .slot-of .ensures)) in
     rw (
       c .before .before .before .before .staging-too-long .ensures,
       c .before .before .before .bad-count .ensures,
-      c .before .before .wrong-slot .ensures (a .parts) p,
+      c .before .before .wrong-slot .ensures,
       c .before .owes-on .ensures,
       c .some-unsound .ensures,
+      c .before .before .before .before .before .part-at .ensures,
+      c .before .before .before .before .before .before .slot-of .ensures,
       c .before .before .before .before .before .before .before .open-slot .ensures,
     )
     (sym (grouped (a .n) (a .count) (a .parts) (a .session)))

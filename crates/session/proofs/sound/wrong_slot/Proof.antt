@@ -13,10 +13,10 @@ is-pending-requires : tie.Need-is-pending-requires
 is-pending-requires c κs = search needs
 
 returns : tie.Need-returns
-returns c = λ parts e. rw (c .enum-told .given .1)
+returns c = search needs
 
 returns-2 : tie.Need-returns-2
-returns-2 c = λ parts e. let f = rw (c .before .before .at .given .1) at e in rw (c .before .before .at .given .1, c .is-pending .ensures, f)
+returns-2 c = rw (c .before .before .at .given .1, c .is-pending .ensures)
 
 pub wrong-slot-spec : {M : Type 1} → statement M
 wrong-slot-spec =

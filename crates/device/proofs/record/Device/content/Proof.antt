@@ -1,12 +1,12 @@
 -- `Device::content` meets its contract: D1 to D3, or the answer to a block. Assumes nothing.
 use mathlib.Core.Path.{_≡_, sym, _∙_}
 use denote.Ref.{now}
-use lib.ListN.{length}
+use lib.ListN.{length, drop}
 use Rattle.wire.proofs.Chain.{by}
-use Rattle.contents.specs.Content.{fieldsIn}
+use Rattle.contents.specs.Head.{headIn}
 use Rattle.receiving.specs.Receive.{stagingAfter}
 use Rattle.device.specs.Refusals.{served, refusalOf}
-use Rattle.device.specs.Content.{contentEntry, contentStaging}
+use Rattle.device.specs.Content.{sessionPart, contentEntry, contentStaging}
 use Rattle.device.proofs.Passes.{serves}
 use Rattle.device.proofs.answer.Laws.{none-refuses, one-refuses, one-keeps}
 use borrow.Author.Needs.{needs}
@@ -28,7 +28,7 @@ returns c =
     let a = c .before .before .before .before .before .before .args in
     let q = c .before .before .before .refusal .ensures in
     let t = rw q at (by (c .before .before .is-refused .ensures) (c .before .if1 .taken)) in
-    (c .refused .ensures ∙ rw q (sym (one-refuses _ _ _ t)), sym (one-keeps (refusalOf 60 (a .self) (length (now (a .staging))) (length (now (a .report)))) (now (a .staging)) (stagingAfter (a .self .parts) (a .self .stage) (fieldsIn (now (a .report))) (now (a .staging))) t))
+    (c .refused .ensures ∙ rw q (sym (one-refuses _ _ _ t)), sym (one-keeps (refusalOf 60 (a .self) (length (now (a .staging))) (length (now (a .report)))) (now (a .staging)) (stagingAfter (sessionPart (a .self) .region) (a .self .stage) (headIn (now (a .report))) (drop 8 (now (a .report))) (now (a .staging))) t))
 
 -- no row refuses the call, so the report has 60 bytes
 serves-it : (c : tie.Else1) → let a = c .before .before .before .before .before .args in refusalOf 60 (a .self) (length (now (a .staging))) (length (now (a .report))) ≡ served

@@ -61,12 +61,11 @@ pub record Masked (b : List ℕ) (mask : ℕ) (trace : List Exchange) : Type 0 w
   pub bits : (i : ℕ) → i < countIn b → hasBit mask i ≡ completedIn 0 trace (idIn (entryAt b i))
   pub ones : ones mask ≡ completedOf b trace (countIn b)
 
--- the counts of a record are those of the list, and the ones in its mask are the list's completed offers
+-- the counts of a record are those of the list, and its mask shows the list's completed offers
 pub record Counted (b : List ℕ) (h : Host) (trace : List Exchange) : Type 0 where
   pub packets : h .packets ≡ length trace
   pub passes : h .passes ≡ passesIn trace
-  pub bits : (i : ℕ) → i < countIn b → hasBit (h .mask) i ≡ completedIn 0 trace (idIn (entryAt b i))
-  pub ones : ones (h .mask) ≡ completedOf b trace (countIn b)
+  pub mask : Masked b (h .mask) trace
 
 -- from a fresh record over an accepted bundle, whatever is heard
 pub record Ends (b : List ℕ) (token : ℕ) (replies : ℕ → List ℕ) : Type 0 where

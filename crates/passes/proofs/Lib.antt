@@ -2,4 +2,3 @@ pub mod Tests
 pub mod Sets
 pub mod Pass
 pub mod Passes
-pub mod Order

@@ -1,4 +1,5 @@
--- The counts of an ended record are those of the list sent, whatever was heard: packets, passes, and the completed offers in its mask. Assumes nothing.
+-- The counts of a record are those of the list sent, whatever was heard: packets and passes, and in its mask the completed offers that it has heard of.
+-- Assumes nothing.
 use mathlib.Core.Path.{_≡_, refl, sym, ap, ap₂, subst, _∙_}
 use mathlib.Core.Bool.{Bool, true, false, cond, _&&_, _||_}
 use mathlib.Core.List.{List, [], _∷_, _++_, append-nil}
@@ -25,12 +26,12 @@ use Rattle.decide.specs.declared.Action.the-variants.{Notify, Offer, Block}
 use Rattle.decide.specs.declared.Move.{Move}
 use Rattle.update.specs.Trace as trace
 use Rattle.update.specs.Trace.{Exchange, opensPass, passesIn, completedIn}
-use Rattle.update.specs.Ends.{heardAs, talk, completedOf, HostCounts, HostTallies}
+use Rattle.update.specs.Ends.{heardAs, talk, completedOf, Masked, HostMasks, HostCounts, HostTallies}
 use Rattle.decide.proofs.Moves.{isTaken, opening-cases, listing-cases, offering-cases, waiting-cases, closing-cases, sending-cases, offer-cases}
 use Rattle.update.proofs.Mask.{no-bit, with-bit, onesBelow, ones-below}
 use Rattle.update.proofs.Packets.{offer-opens, offer-completes, offer-about, block-opens, block-about, block-completes}
 use Rattle.update.proofs.Ready.{ReadyAt}
-use Rattle.update.proofs.Ends.{is-end, hostAt, ready-at, step-at}
+use Rattle.update.proofs.Ends.{hostAt, moveAt, ready-at, step-at, next-at, ended-at}
 use Rattle.update.proofs.Trace.{aboutIn, length-more, passes-more, about-more, completed-more}
 
 -- the id of an entry
@@ -78,9 +79,10 @@ heard : {b : List ℕ} {h : Host} {g : HostStage} {xs : List Exchange} {reply : 
     → Tells b xs (h .packets) (h .passes) mask
 heard k mask m = record { packets = k .packets; passes = k .passes; marks = m }
 
--- what is known after a move, when what it sends is answered by any reply
+-- what is known after a move: its mask is what the list shows that it has heard; and what is known when what it sends is answered by any reply
 abbrev After : (b : List ℕ) → List Exchange → Move → Type 0
-After b xs m = (reply : List ℕ) → KnownAt b (m .host) (m .host .stage) (xs ++ heardAs (packetOf b (m .host .token) (m .action)) reply) reply
+After b xs m =
+    Marks b xs (m .host .mask) × ((reply : List ℕ) → KnownAt b (m .host) (m .host .stage) (xs ++ heardAs (packetOf b (m .host .token) (m .action)) reply) reply)
 
 module _ (b : List ℕ) (α : Accepted b) where
   -- an exchange that completes nothing
@@ -102,63 +104,77 @@ module _ (b : List ℕ) (α : Accepted b) where
   -- an end
   after-ends : (h : Host) (xs : List Exchange) → Heard b h xs → (e : End) → After b xs (ends h e)
   unfolding packetOf
-  after-ends h xs k e reply = rw append-nil (record { packets = k .packets; passes = k .passes; shown = k .marks })
+  after-ends h xs k e = (k .marks, λ reply. rw append-nil (record { packets = k .packets; passes = k .passes; shown = k .marks }))
 
   -- code 1
   after-list : (h : Host) (xs : List Exchange) → Heard b h xs → After b xs (list h)
   unfolding packetOf
-  after-list h xs k reply = record {
-    packets = packets-more h xs k _;
-    passes = ap (λ (n : ℕ). n + 1) (k .passes) ∙ sym (passes-more xs _);
-    shown = marks-same xs (h .mask) _ refl (k .marks);
-  }
+  after-list h xs k = (
+    k .marks,
+    λ reply. record {
+      packets = packets-more h xs k _;
+      passes = ap (λ (n : ℕ). n + 1) (k .passes) ∙ sym (passes-more xs _);
+      shown = marks-same xs (h .mask) _ refl (k .marks);
+    },
+  )
 
   -- the offer of a listed entry
   after-offer : (h : Host) (xs : List Exchange) (t : Turn) → Heard b h xs → h .token < 256 → t .entry < countIn b
       → After b xs (sends h (Offering t) (Offer (t .entry)))
   unfolding packetOf
-  after-offer h xs t k s l reply = record {
-    packets = packets-more h xs k _;
-    passes = passes-same h xs k _ (offer-opens b α (h .token) (t .entry) s l);
-    shown = (
-      marks-same xs (h .mask) _ (offer-completes b α (h .token) (t .entry) reply s l) (k .marks),
-      about-more 0 xs _ ∙ offer-about b α (h .token) (t .entry) (aboutIn 0 xs) s l,
-    );
-  }
+  after-offer h xs t k s l = (
+    k .marks,
+    λ reply. record {
+      packets = packets-more h xs k _;
+      passes = passes-same h xs k _ (offer-opens b α (h .token) (t .entry) s l);
+      shown = (
+        marks-same xs (h .mask) _ (offer-completes b α (h .token) (t .entry) reply s l) (k .marks),
+        about-more 0 xs _ ∙ offer-about b α (h .token) (t .entry) (aboutIn 0 xs) s l,
+      );
+    },
+  )
 
   -- or code 2
   after-next : (h : Host) (xs : List Exchange) (e : ℕ) → Heard b h xs → h .token < 256 → After b xs (offerFrom (countIn b) e h)
   unfolding packetOf
   after-next h xs e k s =
       offer-cases (After b xs) (countIn b) e h
-      (after-offer h xs (record { entry = e; busy = 0 }) k s)
-      (λ reply. record {
-        packets = packets-more h xs k _;
-        passes = passes-same h xs k _ refl;
-        shown = marks-same xs (h .mask) _ refl (k .marks);
-      })
+      (after-offer h xs (record { entry = e; busy = 0 }) k s) (
+        k .marks,
+        λ reply. record {
+          packets = packets-more h xs k _;
+          passes = passes-same h xs k _ refl;
+          shown = marks-same xs (h .mask) _ refl (k .marks);
+        },
+      )
 
   -- notify on ready
   after-notify : (h : Host) (xs : List Exchange) (t : Turn) → Heard b h xs → aboutIn 0 xs ≡ idAt b (t .entry) → After b xs (sends h (Waiting t) Notify)
   unfolding packetOf
-  after-notify h xs t k a reply = record {
-    packets = packets-more h xs k _;
-    passes = passes-same h xs k _ refl;
-    shown = (marks-same xs (h .mask) _ refl (k .marks), about-more 0 xs _ ∙ a);
-  }
+  after-notify h xs t k a = (
+    k .marks,
+    λ reply. record {
+      packets = packets-more h xs k _;
+      passes = passes-same h xs k _ refl;
+      shown = (marks-same xs (h .mask) _ refl (k .marks), about-more 0 xs _ ∙ a);
+    },
+  )
 
   -- a block of the entry that the last offer was for
   after-block : (h : Host) (xs : List Exchange) (p : Place) → Heard b h xs → p .entry < countIn b → p .block < length (blocksAt b (p .entry))
       → aboutIn 0 xs ≡ idAt b (p .entry) → After b xs (sends h (Sending p) (Block p))
   unfolding packetOf
-  after-block h xs p k l m a reply = record {
-    packets = packets-more h xs k _;
-    passes = passes-same h xs k _ (block-opens b α p l m);
-    shown = (
-      (λ i j. completed-more 0 xs _ (idAt b i) ∙ rw (block-completes b α p reply l m, a, k .marks i j)),
-      about-more 0 xs _ ∙ block-about b α p (aboutIn 0 xs) l m ∙ a,
-    );
-  }
+  after-block h xs p k l m a = (
+    k .marks,
+    λ reply. record {
+      packets = packets-more h xs k _;
+      passes = passes-same h xs k _ (block-opens b α p l m);
+      shown = (
+        (λ i j. completed-more 0 xs _ (idAt b i) ∙ rw (block-completes b α p reply l m, a, k .marks i j)),
+        about-more 0 xs _ ∙ block-about b α p (aboutIn 0 xs) l m ∙ a,
+      );
+    },
+  )
 
   -- the block was not taken, or is not the last: the mask stays
   due-same : (p : Place) (mask : ℕ) (xs : List Exchange) (reply : List ℕ) → (isTaken p reply && isLast b p) ≡ false → Due b p mask xs reply → Marks b xs mask
@@ -180,12 +196,14 @@ module _ (b : List ℕ) (α : Accepted b) where
       → After b xs (decideIn g (countIn b) (lastIn b g) h reply)
   unfolding decideIn packetOf
   after-by h xs reply Fresh z r k =
-      let w = heard k (h .mask) (k .shown) in
-      λ reply′. record {
-        packets = packets-more h xs w _;
-        passes = passes-same h xs w _ refl;
-        shown = marks-same xs (h .mask) _ refl (k .shown);
-      }
+      let w = heard k (h .mask) (k .shown) in (
+        k .shown,
+        λ reply′. record {
+          packets = packets-more h xs w _;
+          passes = passes-same h xs w _ refl;
+          shown = marks-same xs (h .mask) _ refl (k .shown);
+        },
+      )
   after-by h xs reply Opening z r k =
       let w = heard k (h .mask) (k .shown) in
       opening-cases (After b xs) (countIn b) h reply (after-ends h xs w) (after-list h xs w)
@@ -213,8 +231,7 @@ module _ (b : List ℕ) (α : Accepted b) where
   after-by h xs reply Closing z r k =
       let w = heard k (h .mask) (k .shown) in
       closing-cases (After b xs) (countIn b) h reply (after-ends h xs w) (λ e. after-list h xs w)
-  after-by h xs reply (Ended e) z r k = λ reply′.
-      rw (append-nil, z) (record { packets = k .packets; passes = k .passes; shown = k .shown })
+  after-by h xs reply (Ended e) z r k = (k .shown, λ reply′. rw (append-nil, z) (record { packets = k .packets; passes = k .passes; shown = k .shown }))
 
 -- the ones of a mask are the completed offers that a list shows
 ones-shown : (b : List ℕ) (xs : List Exchange) (mask n : ℕ) → ((i : ℕ) → i < n → hasBit mask i ≡ completedIn 0 xs (idAt b i)) → onesBelow mask n ≡ completedOf b xs n
@@ -224,32 +241,42 @@ ones-shown b xs mask (suc n) m =
     ap₂ (λ (x : Bool) (y : ℕ). cond x 1 0 + y) (m n (omega arith)) (ones-shown b xs mask n (λ i l. m i (omega arith)))
 
 module _ (b : List ℕ) (token : ℕ) (replies : ℕ → List ℕ) (α : Accepted b) (s : bundle.bundleRow b ≡ bundle.served) (t : token < 256) where
+  -- what a step leaves, of a record that is known
+  after-at : (k : ℕ) → KnownAt b (hostAt b token replies α s t k) (hostAt b token replies α s t k .stage) (talk b token replies k .trace) (replies k)
+      → After b (talk b token replies k .trace) (moveAt b token replies α s t k)
+  after-at k = after-by b α (hostAt b token replies α s t k) (talk b token replies k .trace) (replies k) (hostAt b token replies α s t k .stage) refl (ready-at b token replies α s t k)
+
   -- every record is known
   known-at : (k : ℕ) → KnownAt b (talk b token replies k .host) (talk b token replies k .host .stage) (talk b token replies k .trace) (replies k)
   unfolding talk passesIn completedIn
   known-at zero = record { packets = refl; passes = refl; shown = λ i l. no-bit i }
   known-at (suc k) =
       subst (λ (x : Step). KnownAt b (x .host) (x .host .stage) (talk b token replies k .trace ++ heardAs (x .sent) (replies (suc k))) (replies (suc k)))
-      (sym (step-at b token replies α s t k))
-      (after-by b α (hostAt b token replies α s t k) (talk b token replies k .trace) (replies k) (hostAt b token replies α s t k .stage) refl
-      (ready-at b token replies α s t k) (known-at k) (replies (suc k)))
+      (sym (step-at b token replies α s t k)) (after-at k (known-at k) .1 (replies (suc k)))
 
--- once the host has ended, the counts are those of the list sent
-pub host-counts : HostCounts
-host-counts b token replies k bytes s t e =
+  -- so every mask shows what was heard
+  marks-at : (k : ℕ) → Marks b (talk b token replies k .trace) (hostAt b token replies α s t (suc k) .mask)
+  marks-at k = subst (λ (h : Host). Marks b (talk b token replies k .trace) (h .mask)) (sym (next-at b token replies α s t k)) (after-at k (known-at k) .0)
+
+-- after every step the mask's bits and ones are the completed offers that it has heard of
+pub host-masks : HostMasks
+host-masks b token replies k bytes s t =
     let α = accepted b bytes s in
-    let h = talk b token replies k .host in
-    let r = ready-at b token replies α s t k in
-    let w = known-at b token replies α s t k in
-    let m = subst (λ (g : HostStage). Shown b g (h .mask) (talk b token replies k .trace) (replies k)) (is-end (h .stage) e .1) (w .shown) in
-    record {
-      packets = w .packets;
-      passes = w .passes;
-      bits = m;
-      ones = ones-below (h .mask) (countIn b) (r .mask) ∙ ones-shown b (talk b token replies k .trace) (h .mask) (countIn b) m;
-    }
+    let m = marks-at b token replies α s t k in
+    let mask = hostAt b token replies α s t (suc k) .mask in
+    record { bits = m; ones = ones-below mask (countIn b) (ready-at b token replies α s t (suc k) .mask) ∙ ones-shown b (talk b token replies k .trace) mask (countIn b) m }
 
 -- at every step the packets and passes are those of the list sent
 pub host-tallies : HostTallies
 host-tallies b token replies k bytes s t =
     let w = known-at b token replies (accepted b bytes s) s t k in (w .packets, w .passes)
+
+-- once the host has ended, it has heard all: the counts are those of the list sent
+pub host-counts : HostCounts
+host-counts b token replies k bytes s t e =
+    let n = host-tallies b token replies k bytes s t in
+    record {
+      packets = n .0;
+      passes = n .1;
+      mask = subst (λ (h : Host). Masked b (h .mask) (talk b token replies k .trace)) (ended-at b token replies (accepted b bytes s) s t k e) (host-masks b token replies k bytes s t);
+    }

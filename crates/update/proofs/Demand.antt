@@ -73,7 +73,7 @@ reports : (b : List ℕ) (h : Host) (trace : List Exchange) → Counted b h trac
       ending = ending.done;
     }
 unfolding reportOf
-reports b h trace c e = rw (c .ones, c .packets, c .passes, e)
+reports b h trace c e = rw (c .mask .ones, c .packets, c .passes, e)
 
 -- the premise goes along with the order
 reordered : (b b′ : List ℕ) (token token′ : ℕ) (d : Device) (staging : List ℕ) → Premise b token d staging → Bytes b′ → token′ < 256 → rows.bundleRow b′ ≡ rows.served

@@ -25,7 +25,7 @@ use Rattle.update.proofs.Packets.{all-built}
 use Rattle.update.proofs.Ready.{Ready, Goes, goes, step-moves, fresh-ready, owed-step}
 
 -- a stage that has ended is an end
-pub is-end : (g : HostStage) → hasEnded g ≡ true → (e : End) × (g ≡ Ended e)
+is-end : (g : HostStage) → hasEnded g ≡ true → (e : End) × (g ≡ Ended e)
 is-end Fresh h = absurd (false≢true h)
 is-end Opening h = absurd (false≢true h)
 is-end Listing h = absurd (false≢true h)
@@ -67,9 +67,13 @@ module _ (b : List ℕ) (token : ℕ) (replies : ℕ → List ℕ) (α : Accepte
   goes-at k = goes b α (hostAt k) (replies k) (ready-at k)
 
   -- the next record is what the move leaves
-  next-at : (k : ℕ) → hostAt (suc k) ≡ moveAt k .host
+  pub next-at : (k : ℕ) → hostAt (suc k) ≡ moveAt k .host
   unfolding talk
   next-at k = ap (λ (x : Step). x .host) (step-at k)
+
+  -- an ended record stays
+  pub ended-at : (k : ℕ) → hasEnded (hostAt k .stage) ≡ true → hostAt (suc k) ≡ hostAt k
+  ended-at k e = next-at k ∙ ap (λ (m : Move). m .host) (stays (hostAt k .stage) (countIn b) (lastIn b (hostAt k .stage)) (hostAt k) (replies k) e)
 
   -- after k steps: an end, or k packets
   Counts : (k : ℕ) → Host → Type 0

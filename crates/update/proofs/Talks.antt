@@ -17,7 +17,7 @@ use Rattle.host_record.specs.declared.record.Host.{Host}
 use Rattle.decide.specs.declared.Move.{Move}
 use Rattle.update.specs.Trace.{Exchange}
 use Rattle.update.specs.Run.{System, boundOf, deliver, exchange, run, start}
-use Rattle.update.specs.Ends.{talk, heardAs, Counted}
+use Rattle.update.specs.Ends.{talk, heardAs, Counted, RunEnds}
 use Rattle.update.proofs.Leads.{steps, goes, going, going-next}
 use Rattle.update.proofs.Ends.{stays, step-at, host-ends}
 use Rattle.update.proofs.Counts.{host-counts}
@@ -135,3 +135,8 @@ module _ (b : List ℕ) where
         subst (λ (h : Host). Counted b h (at k .trace)) (host-is k)
         (subst (λ (x : List Exchange). Counted b (talk b token hears k .host) x) (trace-is k)
         (host-counts b token hears k bytes accept small (subst (λ (h : Host). hasEnded (h .stage) ≡ true) (sym (host-is k)) e)))
+
+-- a run always ends, and stays
+pub run-ends : RunEnds
+run-ends b token d staging reply bytes accept small =
+    let e = ended-within b token d staging reply bytes accept small in (e, λ m. ended-stays b m (at b token d staging reply bytes accept small (boundOf b)) e)

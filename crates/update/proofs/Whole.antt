@@ -147,7 +147,7 @@ module _ (b : List ℕ) (token : ℕ) (d : Device) (staging reply : List ℕ) (P
 
   -- what the passes reached is what the list shows
   is-staged : (i : ℕ) → i < countIn b → stagedIn b (c .last) i ≡ passesOf y os .set i
-  is-staged i l = sym (counted .bits i l) ∙ c .landed .bits i
+  is-staged i l = sym (counted .mask .bits i l) ∙ c .landed .bits i
 
   -- a member by the list is one by the passes
   to-set : (i : ℕ) → i < countIn b → T (stagedIn b (c .last) i) → T (passesOf y os .set i)

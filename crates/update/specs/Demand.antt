@@ -22,8 +22,14 @@ use Rattle.host_record.specs.declared.record.HostStage.the-variants.{Ended}
 use Rattle.host_record.specs.declared.record.End.the-variants.{Done}
 use Rattle.update.specs.Trace.{passesIn, completedIn}
 use Rattle.update.specs.Run.{System, answerTo, run, start, recordsIn, lastOf}
+use Rattle.update.specs.Answer as answer
+use Rattle.update.specs.Answer.{Ran, ended}
 use Rattle.update.specs.Ends.{Counted, completedOf}
 use Rattle.update.specs.Claim.{offerAt, Set, Good, Smallest, Leaves, Fills}
+
+-- every body for a component that the device has is good
+abbrev pub GoodBodies : (b : List ℕ) → Device → Type 0
+GoodBodies b d = (i k : ℕ) → i < countIn b → find d (offerAt b i .id) ≡ At k → Good (part d k) (offerAt b i) (blocksAt b i)
 
 -- the premise: a device state and a staging buffer that pass D1 and D2, a bundle that the check accepts, and a good body for each component that the
 -- device has
@@ -35,7 +41,7 @@ pub record Premise (b : List ℕ) (token : ℕ) (d : Device) (staging : List ℕ
   pub d1 : deviceRows.breaksD1 d ≡ false
   pub d2 : length staging ≡ d .«staging_len»
   pub accepted : rows.bundleRow b ≡ rows.served
-  pub good : (i k : ℕ) → i < countIn b → find d (offerAt b i .id) ≡ At k → Good (part d k) (offerAt b i) (blocksAt b i)
+  pub good : GoodBodies b d
 
 -- staged in this run: the list shows a last content of entry i answered with status 0
 abbrev pub stagedIn : (b : List ℕ) → System → Set
@@ -99,3 +105,7 @@ pub record Demand (b : List ℕ) (token : ℕ) (d : Device) (staging reply : Lis
 abbrev pub DemandThree : Type 0
 DemandThree = (b : List ℕ) (token : ℕ) (d : Device) (staging reply : List ℕ) → Premise b token d staging
     → Demand b token d staging reply (lastOf b token d staging reply)
+
+-- demand 3 of an answer: where the bodies are good and no row refuses, it is the answer of a run of which the whole claim holds
+abbrev pub DemandOf : (b : List ℕ) → (token : ℕ) → Device → (staging : List ℕ) → Ran → Type 0
+DemandOf b token d staging ran = GoodBodies b d → ran .row ≡ answer.served → (s : System) × (ran ≡ ended s) × Demand b token d staging [] s

@@ -15,12 +15,13 @@ use Rattle.contents.specs.Content as content
 use Rattle.contents.specs.declared.content.ContentFields.{ContentFields}
 use Rattle.layout.specs.Layout.{countIn, idIn}
 use Rattle.layout.specs.Rows as bundle
+use Rattle.device.specs.declared.record.Device.{Device}
 use Rattle.host_record.specs.Record.{freshHost, hasBit, hasEnded}
 use Rattle.make.specs.Answer.{served}
 use Rattle.host.specs.Step.{entryAt, stepOf}
 use Rattle.host_record.specs.declared.record.Host.{Host}
 use Rattle.update.specs.Trace.{Exchange, passesIn, completedIn}
-use Rattle.update.specs.Run.{boundOf}
+use Rattle.update.specs.Run.{run, boundOf, lastOf}
 
 -- a host that hears any replies, with the list of what it sent: reply k is heard by step k, so it answers what step k - 1 sent
 pub record Talk : Type 0 where
@@ -55,12 +56,16 @@ unfoldable pub completedOf : (b : List ℕ) → List Exchange → (n : ℕ) → 
 completedOf b trace zero = 0
 completedOf b trace (suc n) = cond (completedIn 0 trace (idIn (entryAt b n))) 1 0 + completedOf b trace n
 
--- the counts of a record are those of the list, and the ones in its mask are the list's completed offers
+-- the mask's bits are the completed offers of a list, and its ones their number
+pub record Masked (b : List ℕ) (mask : ℕ) (trace : List Exchange) : Type 0 where
+  pub bits : (i : ℕ) → i < countIn b → hasBit mask i ≡ completedIn 0 trace (idIn (entryAt b i))
+  pub ones : ones mask ≡ completedOf b trace (countIn b)
+
+-- the counts of a record are those of the list, and its mask shows the list's completed offers
 pub record Counted (b : List ℕ) (h : Host) (trace : List Exchange) : Type 0 where
   pub packets : h .packets ≡ length trace
   pub passes : h .passes ≡ passesIn trace
-  pub bits : (i : ℕ) → i < countIn b → hasBit (h .mask) i ≡ completedIn 0 trace (idIn (entryAt b i))
-  pub ones : ones (h .mask) ≡ completedOf b trace (countIn b)
+  pub mask : Masked b (h .mask) trace
 
 -- from a fresh record over an accepted bundle, whatever is heard
 pub record Ends (b : List ℕ) (token : ℕ) (replies : ℕ → List ℕ) : Type 0 where
@@ -74,11 +79,21 @@ pub record Ends (b : List ℕ) (token : ℕ) (replies : ℕ → List ℕ) : Type
 abbrev pub HostEnds : Type 0
 HostEnds = (b : List ℕ) (token : ℕ) (replies : ℕ → List ℕ) → Bytes b → bundle.bundleRow b ≡ bundle.served → token < 256 → Ends b token replies
 
+-- a run always ends, whatever the device and its staging buffer, and an ended run stays
+abbrev pub RunEnds : Type 0
+RunEnds = (b : List ℕ) (token : ℕ) (d : Device) (staging reply : List ℕ) → Bytes b → bundle.bundleRow b ≡ bundle.served → token < 256
+    → (hasEnded (lastOf b token d staging reply .host .stage) ≡ true) × ((m : ℕ) → run b m (lastOf b token d staging reply) ≡ lastOf b token d staging reply)
+
 -- at every step the packets and passes of the record are those of the list sent
 abbrev pub HostTallies : Type 0
 HostTallies = (b : List ℕ) (token : ℕ) (replies : ℕ → List ℕ) (k : ℕ) → Bytes b → bundle.bundleRow b ≡ bundle.served → token < 256
     → (talk b token replies k .host .packets ≡ length (talk b token replies k .trace))
     × (talk b token replies k .host .passes ≡ passesIn (talk b token replies k .trace))
+
+-- after every step: the mask shows what that step has heard, the list of the packets that were sent before it with their replies
+abbrev pub HostMasks : Type 0
+HostMasks = (b : List ℕ) (token : ℕ) (replies : ℕ → List ℕ) (k : ℕ) → Bytes b → bundle.bundleRow b ≡ bundle.served → token < 256
+    → Masked b (talk b token replies (suc k) .host .mask) (talk b token replies k .trace)
 
 -- once it has ended, and so has heard every reply of the list, all its counts are those of the list sent
 abbrev pub HostCounts : Type 0

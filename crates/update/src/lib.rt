@@ -1,10 +1,9 @@
 // Both ends: the run of a fresh host against a device, and what it answers.
 ghost use mathlib.Core.Path.{_≡_};
-ghost use mathlib.Core.List.{List, []};
+ghost use mathlib.Core.List.{List};
 ghost use Prim.Native.Nat.{ℕ};
-ghost use Rattle.update.specs.Run.{lastOf};
 ghost use Rattle.update.specs.Answer.{rowOf, refusedBy, runOf, told};
-ghost use Rattle.update.specs.Demand.{Premise, Demand};
+ghost use Rattle.update.specs.Demand.{DemandOf};
 use crate::turn::run_to_end;
 use bundle::check;
 use device::record::Device;
@@ -45,10 +44,10 @@ fn refused(refusal: RunRefusal, token: u8, device: Device) -> RunAnswer
     }
 }
 
-// The bundle's rows, D1 and D2; or the run, and the claim about it.
+// The bundle's rows, D1 and D2; or the run, and demand 3 of its answer.
 pub fn run(bundle: &[u8], token: u8, device: Device, staging: &mut [u8]) -> RunAnswer
     ensures { λ r. ⌜ (told r (now (staging .exit)) ≡ runOf (now (bundle .entry)) token device (now (staging .entry)))
-        × (Premise (now (bundle .entry)) token device (now (staging .entry)) → Demand (now (bundle .entry)) token device (now (staging .entry)) [] (lastOf (now (bundle .entry)) token device (now (staging .entry)) [])) ⌝ }
+        × DemandOf (now (bundle .entry)) token device (now (staging .entry)) (told r (now (staging .exit))) ⌝ }
 {
     let checked = check(bundle);
     let verdict = checked.verdict;

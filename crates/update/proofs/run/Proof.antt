@@ -1,14 +1,18 @@
 -- `run` meets its contract: its first row, or the end of the run; and demand 3. Assumes nothing.
 use mathlib.Core.Path.{_≡_, sym, ap, _∙_}
-use mathlib.Core.List.{[]}
+use mathlib.Core.Bool.{false}
+use Prim.Native.Nat.{_<_}
 use borrow.Author.Tests.{eq-eqb, ne-eqb}
 use Rattle.layout.specs.Rows as rows
 use Rattle.bundle.specs.Contents.{Contents}
+use Rattle.device.specs.Refusals.{breaksD1}
 use Rattle.host_record.specs.Record.{Reported}
 use Rattle.bundle.proofs.Told.{fine-row, bad-row, check-row}
-use Rattle.update.specs.Answer.{served, ended}
+use Rattle.update.specs.Answer.{served, B, D, ended}
+use Rattle.update.specs.Demand.{GoodBodies, Premise}
+use Rattle.update.proofs.Ranges.{device-fits}
 use Rattle.update.proofs.Answers.{bundle-refuses, d1-refuses, d2-refuses, no-row}
-use Rattle.update.proofs.Demand.{demand-three}
+use Rattle.update.proofs.Answered.{refused-answered, served-answered}
 use borrow.Author.Needs.{needs}
 use Rattle.update.proofs.run.Statement.{statement}
 use Rattle.update.proofs.run.Tie as tie
@@ -37,11 +41,13 @@ refused-requires c κs = search needs
 
 returns : tie.Need-returns
 returns c =
-    let a = c .before .before .before .before .before .before .before .before .args in (
-      c .refused .ensures (a .staging .now)
-          ∙ sym (d1-refuses (a .bundle .now) (a .token) (a .device) (a .staging .now) (served-is (c .before .before .before)) (sym (c .before .before .breaks-d1 .ensures) ∙ c .before .if2 .taken)),
-      demand-three (a .bundle .now) (a .token) (a .device) (a .staging .now) [],
-    )
+    let a = c .before .before .before .before .before .before .before .before .args in
+    refused-answered (a .bundle .now) (a .token) (a .device) (a .staging .now) _ (D 1) tt (c .refused .ensures (a .staging .now))
+    (d1-refuses (a .bundle .now) (a .token) (a .device) (a .staging .now) (served-is (c .before .before .before)) (sym (c .before .before .breaks-d1 .ensures) ∙ c .before .if2 .taken))
+
+-- D1 does not refuse the device
+fine : (c : tie.Else2) → breaksD1 (c .before .before .before .before .before .before .before .args .device) ≡ false
+fine c = sym (c .before .breaks-d1 .ensures) ∙ c .if2 .left
 
 cast-if3 : tie.Need-cast-if3
 cast-if3 c = search needs
@@ -51,11 +57,9 @@ refused-requires-2 c κs = search needs
 
 returns-2 : tie.Need-returns-2
 returns-2 c =
-    let a = c .before .before .before .before .before .before .before .before .before .before .args in (
-      c .refused2 .ensures (a .staging .now)
-          ∙ sym (d2-refuses (a .bundle .now) (a .token) (a .device) (a .staging .now) (served-is (c .before .before .before .before .before)) (sym (c .before .before .before .before .breaks-d1 .ensures) ∙ c .before .before .before .if2 .left) (ne-eqb _ _ (c .before .if3 .taken))),
-      demand-three (a .bundle .now) (a .token) (a .device) (a .staging .now) [],
-    )
+    let a = c .before .before .before .before .before .before .before .before .before .before .args in
+    refused-answered (a .bundle .now) (a .token) (a .device) (a .staging .now) _ (D 2) tt (c .refused2 .ensures (a .staging .now))
+    (d2-refuses (a .bundle .now) (a .token) (a .device) (a .staging .now) (served-is (c .before .before .before .before .before)) (fine (c .before .before .before)) (ne-eqb _ _ (c .before .if3 .taken)))
 
 run-to-end-requires : tie.Need-run-to-end-requires
 run-to-end-requires c κs = (c .before .before .before .before .before .before .before .check .ensures, served-is (c .before .before .before .before .before))
@@ -69,24 +73,41 @@ refused-requires-3 c κs = search needs
 same-length : tie.Need-same-length
 same-length c = search needs
 
+-- the token is a byte
+small : (c : tie.Start) → c .args .token < 256
+small c = search needs
+
+-- demand 3's premise, where the bodies are good: the ranges are those of the parameters' types, and no row refuses
+premise : (c : tie.Else3) → let a = c .before .before .before .before .before .before .before .before .before .args in
+    GoodBodies (a .bundle .now) (a .device) → Premise (a .bundle .now) (a .token) (a .device) (a .staging .now)
+premise c good =
+    let k = c .before .before .before .before .before .before .before in
+    record {
+      small = small (k .before .before);
+      fits = device-fits (k .before .before .args .device) _ (k .before .before .good .1 .1 .0);
+      bytes = λ i. k .slice-known .given i .fits;
+      bundle = λ i. k .before .shared-slice-known .given i .fits;
+      d1 = fine (c .before .before);
+      d2 = c .if3 .left;
+      accepted = served-is (c .before .before .before .before);
+      good = good;
+    }
+
 returns-3 : tie.Need-returns-3
 returns-3 c =
     let a = c .before .before .before .before .before .before .before .before .before .before .before .before .before .before .before .before .args in
-    let k = c .before .before .before .before .before .run-to-end in (
-      ap (λ (x : Reported). record { row = served; report = x; device = k .result .device; staging = k .last .1 .1 .1 .1 .0 }) (c .report .ensures)
-          ∙ ap ended (sym (k .ensures .1))
-          ∙ sym (no-row (a .bundle .now) (a .token) (a .device) (a .staging .now) (served-is (c .before .before .before .before .before .before .before .before .before .before .before)) (sym (c .before .before .before .before .before .before .before .before .before .before .breaks-d1 .ensures) ∙ c .before .before .before .before .before .before .before .before .before .if2 .left) (eq-eqb _ _ (c .before .before .before .before .before .before .before .if3 .left))),
-      demand-three (a .bundle .now) (a .token) (a .device) (a .staging .now) [],
-    )
+    let k = c .before .before .before .before .before .run-to-end in
+    let e = c .before .before .before .before .before .before .before in
+    served-answered (a .bundle .now) (a .token) (a .device) (a .staging .now) _ (premise e)
+    (ap (λ (x : Reported). record { row = served; report = x; device = k .result .device; staging = k .last .1 .1 .1 .1 .0 }) (c .report .ensures) ∙ ap ended (sym (k .ensures .1)))
+    (no-row (a .bundle .now) (a .token) (a .device) (a .staging .now) (served-is (e .before .before .before .before)) (fine (e .before .before)) (eq-eqb _ _ (e .if3 .left)))
 
 returns-4 : tie.Need-returns-4
 returns-4 c =
     let a = c .before .before .before .before .before .before .args in
-    let k = c .before .before .before .check in (
-      c .refused3 .ensures (a .staging .now)
-          ∙ sym (bundle-refuses (a .bundle .now) (a .token) (a .device) (a .staging .now) _ _ (row-is (c .before .before .before) ∙ bad-row (k .result .verdict) (k .result .place) (λ z. c .before .if1 .left (c .before .before .row-number .ensures ∙ z)))),
-      demand-three (a .bundle .now) (a .token) (a .device) (a .staging .now) [],
-    )
+    let k = c .before .before .before .check in
+    refused-answered (a .bundle .now) (a .token) (a .device) (a .staging .now) _ (B _ _) tt (c .refused3 .ensures (a .staging .now))
+    (bundle-refuses (a .bundle .now) (a .token) (a .device) (a .staging .now) _ _ (row-is (c .before .before .before) ∙ bad-row (k .result .verdict) (k .result .place) (λ z. c .before .if1 .left (c .before .before .row-number .ensures ∙ z))))
 
 pub run-spec : {M : Type 1} → statement M
 run-spec =

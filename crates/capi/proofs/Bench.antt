@@ -5,8 +5,6 @@ use Rattle.wire.specs.Bytes.{same}
 use Rattle.wire.specs.Checks.{firstOf, any, pairs}
 use Rattle.offers.specs.Offer.{offerBytes, fieldsIn, buildOf}
 use Rattle.offers.specs.Kind.{kindIn, readOf}
-use Rattle.contents.specs.Content as content
-use Rattle.contents.specs.Content.{cleared}
 use Rattle.versions.specs.Reply.{flat, replyBytes}
 use Rattle.image.specs.Region.{within, blank, put, eraseOf, writeOf}
 use Rattle.component.specs.Lists.{firstFrom, find}
@@ -27,7 +25,7 @@ use Rattle.c_read.specs.Read.{readOfferCall}
 use Rattle.capi.specs.Bench.{CallsHold}
 
 pub calls-hold : CallsHold
-unfolding flatten same firstOf any pairs offerBytes fieldsIn buildOf kindIn readOf content.fieldsIn cleared flat replyBytes within blank put eraseOf writeOf firstFrom find badIds badRegions setupVerdict breaksD1 refusalOf rejections needUnmet offerVerdict onOffer offerEntry contentVerdict takeBlock onBlock contentEntry setUpOf versionEntry partsBytes deviceBytes partsIn deviceIn readDevice listIn hostBytes bodiesBytes contentsBytes setUpCall versionsCall offerCall contentCall buildOfferCall readOfferCall
+unfolding flatten same firstOf any pairs offerBytes fieldsIn buildOf kindIn readOf flat replyBytes within blank put eraseOf writeOf firstFrom find badIds badRegions setupVerdict breaksD1 refusalOf rejections needUnmet offerVerdict onOffer offerEntry contentVerdict takeBlock onBlock contentEntry setUpOf versionEntry partsBytes deviceBytes partsIn deviceIn readDevice listIn hostBytes bodiesBytes contentsBytes setUpCall versionsCall offerCall contentCall buildOfferCall readOfferCall
 calls-hold = record {
   sets-up = refl;
   versions = refl;

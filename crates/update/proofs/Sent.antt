@@ -1,5 +1,5 @@
 -- What the device reads in the offers and blocks of the host. Assumes nothing.
-use Prim.Native.Nat.{ℕ, _+_, _-_, _^_, _≤_, _<_}
+use Prim.Native.Nat.{ℕ, _+_, _^_, _≤_, _<_}
 use mathlib.Core.Path.{_≡_, refl, ap}
 use mathlib.Core.Bool.{Bool, true, false, cond}
 use mathlib.Core.List.{List, [], _∷_, _++_}
@@ -7,16 +7,16 @@ use native.Mathlib.Nat.{mod-lt}
 use native.Mathlib.Omega.{arith}
 use borrow.Author.Tests.{ne-eqb, le-leb, le-ltb}
 use lib.Dec.{leb, eqb}
-use lib.ListN.{length, getD, set, take, replicate, length-set}
+use lib.ListN.{length, getD, set, take, drop, length-set}
 use lib.Seq.{take-append-seam}
 use Rattle.wire.specs.Codes.{KIND-INFORMATION, KIND-EXTENDED, FLAG-FIRST-BLOCK, FLAG-LAST-BLOCK}
 use Rattle.offers.specs.Offer.{fieldsIn}
 use Rattle.offers.specs.Kind.{offer, kindIn}
 use Rattle.offers.specs.declared.offer.OfferFields.{OfferFields}
-use Rattle.contents.specs.Content as content
-use Rattle.contents.specs.Content.{cleared}
-use Rattle.contents.specs.declared.content.ContentFields.{ContentFields}
-use Rattle.contents.proofs.content.Laws.{packet-fields}
+use Rattle.wire.proofs.words.Laws.{round}
+use Rattle.contents.specs.Content.{cleared, contentBytes}
+use Rattle.contents.specs.Head.{headIn}
+use Rattle.contents.specs.declared.head.ContentHead.{ContentHead}
 use Rattle.image.specs.declared.region.Region.{Region}
 use Rattle.layout.specs.Layout.{countIn, offerIn}
 use Rattle.bundle.proofs.Accepted.{Accepted}
@@ -61,28 +61,33 @@ flags-first false true = refl
 flags-first false false = refl
 
 -- the data that counts is the record's
-pub data-back : (bytes zeros : List ℕ) → take (length bytes) (cleared (length bytes) (bytes ++ zeros)) ≡ bytes
+data-back : (bytes zeros : List ℕ) → take (length bytes) (cleared (length bytes) (bytes ++ zeros)) ≡ bytes
 unfolding cleared
 data-back bytes zeros = rw (take-append-seam bytes zeros) (take-append-seam bytes _)
 
 module _ (b : List ℕ) where
-  -- a block as the device reads it
-  abbrev pub contentOf : Place → ContentFields
-  contentOf p = record {
+  -- the head of a block as the device reads it
+  abbrev pub headAt : Place → ContentHead
+  headAt p = record {
     flags = flagsAt b p;
     length = length (blockAt b p .bytes);
     sequence = sequenceOf (p .block);
     address = blockAt b p .address;
-    «data» = cleared (length (blockAt b p .bytes)) (blockAt b p .bytes ++ replicate (52 - length (blockAt b p .bytes)) 0);
   }
 
   -- what is read in the packet of a block
-  pub block-reads : (p : Place) → blockAt b p .address .0 < 256 ^ 4 → content.fieldsIn (blockPacket b p) ≡ contentOf p
-  block-reads p h = packet-fields _ (mod-lt (p .block) (omega arith)) h
+  pub block-reads : (p : Place) → blockAt b p .address .0 < 256 ^ 4 → headIn (blockPacket b p) ≡ headAt p
+  unfolding contentBytes
+  block-reads p h = simp (round 2 (sequenceOf (p .block)) (mod-lt (p .block) (omega arith)), round 4 (blockAt b p .address .0) h)
+
+  -- its data
+  pub block-data : (p : Place) → take (length (blockAt b p .bytes)) (drop 8 (blockPacket b p)) ≡ blockAt b p .bytes
+  unfolding contentBytes
+  block-data p = data-back (blockAt b p .bytes) _
 
   -- it fits the session that waits for it, and a region that holds it
   pub block-fits : (p : Place) (r : Region) → 1 ≤ length (blockAt b p .bytes) → length (blockAt b p .bytes) ≤ 52
-      → blockAt b p .address .0 + length (blockAt b p .bytes) ≤ r .len → Fitting (contentOf p) (p .block) r
+      → blockAt b p .address .0 + length (blockAt b p .bytes) ≤ r .len → Fitting (headAt p) (p .block) r
   block-fits p r some few room =
       record {
         shape = rw (ne-eqb (length (blockAt b p .bytes)) 0 (omega arith), le-ltb 52 (length (blockAt b p .bytes)) few, flags-sound (eqb (p .block) 0) (isLast b p));
@@ -92,7 +97,7 @@ module _ (b : List ℕ) where
       }
 
   -- its last flag
-  pub block-is-last : (p : Place) → device.isLast (contentOf p) ≡ isLast b p
+  pub block-is-last : (p : Place) → device.isLast (headAt p) ≡ isLast b p
   block-is-last p = flags-last (eqb (p .block) 0) (isLast b p)
 
   module _ (α : Accepted b) where

@@ -11,7 +11,7 @@ use lib.Dec.{eqb, eqb·suc-zero}
 use lib.ListN.{length, getD, set, drop}
 use Rattle.wire.specs.Codes.{SUCCESS}
 use Rattle.wire.specs.declared.version.Version.{Version}
-use Rattle.contents.specs.Content.{fieldsIn}
+use Rattle.contents.specs.Head.{headIn}
 use Rattle.contents.specs.Reply.{replyBytes}
 use Rattle.records.specs.Record.{Block}
 use Rattle.image.specs.Region.{within, regionBytes, blank, put}
@@ -45,7 +45,7 @@ use Rattle.update.specs.Run.{System, channelOf, answerTo, flight}
 use Rattle.update.specs.Claim.{writes, imageOf, Inside}
 use Rattle.update.proofs.Leads.{said, Goes, Leads, leads-none, leads-step, turn}
 use Rattle.update.proofs.Packets.{block-length}
-use Rattle.update.proofs.Sent.{contentOf, block-reads, block-fits, block-is-last, data-back}
+use Rattle.update.proofs.Sent.{headAt, block-reads, block-data, block-fits, block-is-last}
 use Rattle.update.proofs.Turns.{hostAs, turning, turnPacket, turnStage, turn-sent, turn-host, turn-answered}
 
 -- what a list says of its rest
@@ -131,25 +131,25 @@ module _ (b : List ℕ) (α : Accepted b) (t : ℕ) (small : t < 256) (d : Devic
         carried = α .carries (entryAt b e) .each k noBlock i
 
         -- it fits the session and the region
-        fits : Fitting (contentOf b (spot k)) k r
+        fits : Fitting (headAt b (spot k)) k r
         fits = block-fits b (spot k) r (carried .some) (carried .few) inside
 
         -- it is read as it was built
-        reads : fieldsIn (blockPacket b (spot k)) ≡ contentOf b (spot k)
+        reads : headIn (blockPacket b (spot k)) ≡ headAt b (spot k)
         reads = block-reads b (spot k) (omega (arith, o .len))
 
         -- its data is put into the region
-        puts-it : takeBlock ps slot (contentOf b (spot k)) s ≡ s′
+        puts-it : takeBlock r (headAt b (spot k)) (drop 8 (blockPacket b (spot k))) s ≡ s′
         puts-it =
-            puts d ps slot t (contentOf b (spot k)) k (awaits slot t k) s (blockAt b (spot k) .bytes) fits
-            (le-leb (r .base .0 + r .len) (length s) (omega (arith, o .room))) (data-back (blockAt b (spot k) .bytes) _) refl
+            puts r (headAt b (spot k)) k s (drop 8 (blockPacket b (spot k))) (blockAt b (spot k) .bytes) fits
+            (le-leb (r .base .0 + r .len) (length s) (omega (arith, o .room))) (block-data b (spot k)) refl
             ∙ becomes
 
         -- so the buffer is s′ afterwards
         staging-is : serveStaging (held d ps (awaits slot t k)) (channelOf (blockPacket b (spot k))) s (blockPacket b (spot k)) ≡ s′
         staging-is =
             rw (ne-eqb (length (blockPacket b (spot k))) 16 (λ w. omega (arith, size)))
-            (block-staging d ps slot t (contentOf b (spot k)) s (blockPacket b (spot k)) size reads k fits sound ∙ puts-it)
+            (block-staging d ps slot t (headAt b (spot k)) s (blockPacket b (spot k)) size reads k fits sound ∙ puts-it)
 
         -- the answer to a block
         heard-by : (p : ℕ) (x : Bool) → isLast b (spot k) ≡ x
@@ -169,7 +169,7 @@ module _ (b : List ℕ) (α : Accepted b) (t : ℕ) (small : t < 256) (d : Devic
             turn b (blockPacket b (spot k)) (blockPacket b (spot (suc k))) (hostAs t (Sending (spot k)) m p q sk la) (hostAs t (Sending (spot (suc k))) m (p + 1) q sk la)
             (held d ps (awaits slot t k)) (held d ps (awaits slot t (suc k))) s s′ (taken k) trace
             (rw (ne-eqb (length (blockPacket b (spot k))) 16 (λ w. omega (arith, size)))
-            (block-next d ps slot t (contentOf b (spot k)) s (blockPacket b (spot k)) size reads k fits sound (block-is-last b (spot k) ∙ z)))
+            (block-next d ps slot t (headAt b (spot k)) s (blockPacket b (spot k)) size reads k fits sound (block-is-last b (spot k) ∙ z)))
             staging-is
             (ap (λ (x : Move). moved b x .sent) (heard-by p false z) ∙ ap (λ (n : ℕ). blockPacket b (spot n) ∷ []) (add-one k))
             (ap (λ (x : Move). x .host) (heard-by p false z) ∙ ap (λ (n : ℕ). hostAs t (Sending (spot n)) m (p + 1) q sk la) (add-one k))
@@ -186,7 +186,7 @@ module _ (b : List ℕ) (α : Accepted b) (t : ℕ) (small : t < 256) (d : Devic
             (hostAs t (turnStage b α t small (suc e)) (withBit m e) (p + 1) q sk true)
             (held d ps (awaits slot t k)) (idleWith d (set ps slot (withStaged (partAt ps slot) v))) s s′ (taken k) trace
             (rw (ne-eqb (length (blockPacket b (spot k))) 16 (λ y. omega (arith, size)))
-            (block-last d ps slot t (contentOf b (spot k)) s (blockPacket b (spot k)) size reads k fits sound img v (block-is-last b (spot k) ∙ z) (ap (regionBytes r) puts-it ∙ w) right id version new))
+            (block-last d ps slot t (headAt b (spot k)) s (blockPacket b (spot k)) size reads k fits sound img v (block-is-last b (spot k) ∙ z) (ap (regionBytes r) puts-it ∙ w) right id version new))
             staging-is
             (ap (λ (x : Move). moved b x .sent) (heard-by p true z) ∙ turn-sent b α t small (e + 1) (Sending (spot k)) (withBit m e) p q sk true
             ∙ ap (λ (n : ℕ). turnPacket b α t small n ∷ []) (add-one e))

@@ -6,12 +6,12 @@ use mathlib.Core.Bool.{Bool, true, false, cond, true≢false}
 use mathlib.Core.List.{List, [], _∷_}
 use native.Mathlib.Omega.{arith}
 use lib.Dec.{eqb, leb}
-use lib.ListN.{length, take, length-take}
+use lib.ListN.{length, take, drop, length-take}
 use Rattle.wire.specs.Bytes.{Bytes}
 use Rattle.wire.specs.Codes.{NOTIFY-ON-READY, INFO-START-ENTIRE-TRANSACTION, INFO-END-OFFER-LIST}
 use Rattle.offers.specs.Kind.{Kind, offer, information, extended, kindIn}
-use Rattle.contents.specs.Content.{fieldsIn}
-use Rattle.contents.specs.declared.content.ContentFields.{ContentFields}
+use Rattle.contents.specs.Head.{headIn}
+use Rattle.contents.specs.declared.head.ContentHead.{ContentHead}
 use Rattle.layout.specs.Layout.{countIn}
 use Rattle.layout.specs.Rows as rows
 use Rattle.bundle.specs.Contents.{checkOf}
@@ -21,11 +21,11 @@ use Rattle.session.specs.declared.effect.Effect.{Effect}
 use Rattle.offering.specs.Offer.{onOffer}
 use Rattle.offering.specs.Signal.{onInformation, onNotify, onExtended}
 use Rattle.receiving.specs.Content.{isLast}
-use Rattle.receiving.specs.Receive.{Received, onBlock, onVerdict}
+use Rattle.receiving.specs.Receive.{onBlock, onVerdict}
 use Rattle.device.specs.Record.{sessionOf}
 use Rattle.device.specs.Refusals.{Row, served, D, Outcome, told, refusalOf, unlessRefused, servedWith}
 use Rattle.device.specs.Offer.{onKind, offerEntry}
-use Rattle.device.specs.Content.{contentVerdict, received, contentEntry}
+use Rattle.device.specs.Content.{sessionPart, contentVerdict, received, contentEntry}
 use Rattle.device.specs.Entries.{serveEntry, serveStaging}
 use Rattle.device.specs.declared.record.Device.{Device}
 use Rattle.session.specs.declared.owed.Owed.{Owed}
@@ -35,6 +35,7 @@ use Rattle.device.specs.declared.answer.Channel.{Channel}
 use Rattle.device.specs.declared.answer.Channel.the-variants.{Offer, Content}
 use Rattle.receiving.specs.declared.checks.ContentVerdict.{ContentVerdict}
 use Rattle.receiving.specs.declared.checks.ContentVerdict.the-variants.{Refuse, Take}
+use Rattle.receiving.specs.declared.content.Taken.{Taken}
 use Rattle.wire.proofs.Chain.{either}
 use Rattle.host_record.specs.Record.{freshHost, hasEnded}
 use Rattle.decide.specs.Decide.{decideOf}
@@ -75,10 +76,10 @@ module _ (d : Device) where
   kind-first (extended s) = either EffectFirst (eqb (s .code) NOTIFY-ON-READY) _ _ (notify-first (s .token) (isOpen (d .stage)) (d .owed)) refl
 
   -- of a content packet
-  content-first : (c : ContentFields) (s : List ℕ) (v : ContentVerdict) → First (received d (onVerdict (d .parts) (sessionOf d) c s v))
+  content-first : (c : ContentHead) (bytes s : List ℕ) (v : ContentVerdict) → First (received d (onVerdict (sessionPart d) (sessionOf d) c bytes s v))
   unfolding onBlock
-  content-first c s (Refuse status) = refl
-  content-first c s (Take k) = either (λ (r : Received). First (received d r)) (isLast c) _ _ refl refl
+  content-first c bytes s (Refuse status) = refl
+  content-first c bytes s (Take k) = either (λ (t : Taken). First (received d t)) (isLast c) _ _ refl refl
 
   -- of a refused call
   unless-first : (row : Row) (a : Outcome) → First a → First (unlessRefused row d a)
@@ -90,8 +91,8 @@ module _ (d : Device) where
   unfolding serveEntry offerEntry contentEntry
   serve-first Offer staging p = unless-first (refusalOf 16 d (length staging) (length p)) (onKind d (kindIn p)) (kind-first (kindIn p))
   serve-first Content staging p =
-      let v = contentVerdict d (fieldsIn p) in
-      unless-first (refusalOf 60 d (length staging) (length p)) (received d (onVerdict (d .parts) (sessionOf d) (fieldsIn p) staging v)) (content-first (fieldsIn p) staging v)
+      let v = contentVerdict d (headIn p) in
+      unless-first (refusalOf 60 d (length staging) (length p)) (received d (onVerdict (sessionPart d) (sessionOf d) (headIn p) (drop 8 p) staging v)) (content-first (headIn p) (drop 8 p) staging v)
 
 -- the first 16 bytes of a packet
 pub first-16 : (p : List ℕ) → length p ≡ 60 → 16 ≡ length (take 16 p)

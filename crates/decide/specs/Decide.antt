@@ -9,7 +9,6 @@ use Rattle.wire.specs.Codes.{INFO-START-ENTIRE-TRANSACTION, INFO-START-OFFER-LI
 use Rattle.offers.specs.Reply as offerReply
 use Rattle.contents.specs.Reply as contentReply
 use Rattle.table.specs.Table.{LIST, OFFER, SEND, NEXT, WAIT, SAME, DECIDE, cell}
-use Rattle.bundle.specs.Contents.{Contents}
 use Rattle.host_record.specs.declared.record.Host.{Host}
 use Rattle.host_record.specs.declared.record.Turn.{Turn}
 use Rattle.host_record.specs.declared.record.Place.{Place}
@@ -18,7 +17,7 @@ use Rattle.host_record.specs.declared.record.HostStage.the-variants.{Fresh, Ope
 use Rattle.host_record.specs.declared.record.End.{End}
 use Rattle.host_record.specs.declared.record.End.the-variants.{Done, Status, Foreign, Unexpected, Busy}
 use Rattle.host_record.specs.Record.{withBit, sequenceOf}
-use Rattle.host_record.specs.Fits.{BUSY-LIMIT, recordBreaks, lastOf, recordsOn}
+use Rattle.host_record.specs.Fits.{BUSY-LIMIT, recordBreaks, lastOf}
 use Rattle.decide.specs.declared.Action.{Action}
 use Rattle.decide.specs.declared.Action.the-variants.{Nothing, Information, Notify, Offer, Block}
 use Rattle.decide.specs.declared.Move.{Move}
@@ -168,7 +167,6 @@ entryOf Notify = 0
 entryOf (Offer entry) = entry
 entryOf (Block p) = p .entry
 
--- what is decided over the contents of a bundle: N1, or a move
-unfoldable pub decisionOf : Contents → Host → (reply : List ℕ) → Decided
-decisionOf c h reply =
-    cond (recordBreaks (c .count) (recordsOn c) h) N1 (Moves (decideOf (c .count) (lastOf (recordsOn c) (h .stage)) h reply))
+-- what is decided over a bundle of n offers, where the body in hand has k records: N1, or a move
+unfoldable pub decisionOf : (n k : ℕ) → Host → (reply : List ℕ) → Decided
+decisionOf n k h reply = cond (recordBreaks n k h) N1 (Moves (decideOf n (lastOf k (h .stage)) h reply))

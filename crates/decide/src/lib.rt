@@ -1,7 +1,5 @@
 // What the host decides on a reply (document 01, "The host"): N1, or what to send and the next record.
 ghost use mathlib.Core.Path.{_≡_};
-ghost use Rattle.bundle.specs.Contents.{Contents};
-ghost use Rattle.host_record.specs.Fits.{recordsOn, inHand, UpToSeven};
 ghost use Rattle.decide.specs.Decide.{entryOf, decisionOf};
 use crate::decide::decide;
 use host_record::fits::breaks;
@@ -46,9 +44,9 @@ pub fn entry_of(action: Action) -> u32
     }
 }
 
-// Over the contents of a bundle with n offers, where the body in hand has k records: N1, or the move.
+// Over a bundle of n offers, where the body in hand has k records: N1, or the move.
 pub fn decision(n: u8, k: u32, h: Host, reply: &[u8]) -> Decided
-    ensures { λ r. ⌜ ((c : Contents) → UpToSeven (recordsOn c) → c .count ≡ n → recordsOn c (inHand (h .stage)) ≡ k → r ≡ decisionOf c h (now (reply .entry))) ⌝ }
+    ensures { λ r. ⌜ r ≡ decisionOf n k h (now (reply .entry)) ⌝ }
 {
     if breaks(n, k, h) {
         return Decided::N1;

@@ -1,32 +1,40 @@
--- The inner step: over the contents of a bundle that was checked once, and a cursor, the place of the record after the one in hand. It judges its own
--- input by tests of constant time: what is out of range is N1. Where it may be used, it is the step.
-use Prim.Native.Nat.{ℕ, suc, _≤_}
+-- The inner step: over what the check answered for a bundle, and a cursor, the place of the record after the one in hand. A refused bundle is its row, and
+-- the rest is judged by tests of constant time: what is out of range is N1. Over what the check answers, with the right cursor, it is the step.
+use Prim.Native.Nat.{ℕ, zero, suc, _+_, _≤_}
 use mathlib.Core.Path.{_≡_}
-use mathlib.Core.Bool.{false}
 use mathlib.Core.List.{List}
 use lib.ListN.{drop}
 use Rattle.wire.specs.Bytes.{Bytes}
+use Rattle.records.specs.declared.Next.{Next}
+use Rattle.records.specs.declared.Next.the-variants as next
 use Rattle.records.specs.Parse.{whole, recordsOf}
-use Rattle.records.specs.Walk.{between}
+use Rattle.records.specs.Walk.{between, nextOf}
 use Rattle.layout.specs.Rows as bundle
 use Rattle.bundle.specs.Contents.{Contents, checkOf}
 use Rattle.host_record.specs.declared.record.Host.{Host}
 use Rattle.host_record.specs.declared.record.HostStage.{HostStage}
 use Rattle.host_record.specs.declared.record.HostStage.the-variants.{Fresh, Opening, Listing, Offering, Waiting, Sending, Closing, Ended}
+use Rattle.host_record.specs.declared.fits.Body.{Body}
+use Rattle.host_record.specs.Fits.{recordsOn, bodyOf, inHand}
 use Rattle.decide.specs.declared.Decided.{Decided}
 use Rattle.decide.specs.declared.Decided.the-variants as decided
-use Rattle.decide.specs.Decide.{decisionOf}
-use Rattle.make.specs.Answer.{N, refusedBy}
-use Rattle.make.specs.Made.{bodyEnd, InnerStep, madeOf}
-use Rattle.host.specs.Step.{blocksAt, breaksN1, stepOf}
+use Rattle.decide.specs.Decide.{entryOf, decisionOf}
+use Rattle.make.specs.Answer.{B, N, refusedBy}
+use Rattle.make.specs.Made.{InnerStep, madeOf}
+use Rattle.host.specs.Step.{blocksAt, stepOf}
 
--- the inner step: N1, or the move
-abbrev pub innerBy : (b : List ℕ) → Contents → (cursor : ℕ) → Host → Decided → InnerStep
-innerBy b c cursor h decided.N1 = record { step = refusedBy (N 1) h; cursor = cursor }
-innerBy b c cursor h (decided.Moves m) = madeOf b c cursor h (m .host) (m .action)
+-- the inner step over accepted contents: N1, or the move
+abbrev pub innerOn : (b : List ℕ) → Contents → (cursor : ℕ) → Host → Decided → InnerStep
+innerOn b c cursor h decided.N1 = record { step = refusedBy (N 1) h; cursor = cursor }
+innerOn b c cursor h (decided.Moves m) = madeOf b (bodyOf c (entryOf (m .action))) cursor h (m .host) (m .action)
+
+-- by the row of the check: a refused bundle answers its row, sends nothing and keeps the record
+abbrev pub innerBy : bundle.Row → (b : List ℕ) → Contents → (cursor : ℕ) → Host → (reply : List ℕ) → InnerStep
+innerBy bundle.served b c cursor h reply = innerOn b c cursor h (decisionOf (c .count) (recordsOn c (inHand (h .stage))) h reply)
+innerBy (bundle.B k entry) b c cursor h reply = record { step = refusedBy (B k entry) h; cursor = cursor }
 
 unfoldable pub innerOf : (b : List ℕ) → Contents → (cursor : ℕ) → Host → (reply : List ℕ) → InnerStep
-innerOf b c cursor h reply = innerBy b c cursor h (decisionOf c h reply)
+innerOf b c cursor h reply = innerBy (c .row) b c cursor h reply
 
 -- the cursor stands after the record in hand: what follows it in the body is the records after that one
 abbrev pub CursorIn : (b : List ℕ) → HostStage → (cursor : ℕ) → Type 0
@@ -36,14 +44,39 @@ CursorIn b Listing cursor = Unit {0}
 CursorIn b (Offering t) cursor = Unit {0}
 CursorIn b (Waiting t) cursor = Unit {0}
 CursorIn b (Sending p) cursor =
-    (cursor ≤ bodyEnd (checkOf b) p)
-    × (recordsOf (between b cursor (bodyEnd (checkOf b) p)) ≡ whole (drop (suc (p .block)) (blocksAt b (p .entry))))
+    (cursor ≤ bodyOf (checkOf b) (p .entry) .end)
+    × (recordsOf (between b cursor (bodyOf (checkOf b) (p .entry) .end)) ≡ whole (drop (suc (p .block)) (blocksAt b (p .entry))))
 CursorIn b Closing cursor = Unit {0}
 CursorIn b (Ended e) cursor = Unit {0}
 
--- where the check passes, N1 does not hold and the cursor is right, the inner step is the step, and leaves the cursor right
+-- over what the check answers for the bundle, with the right cursor, the inner step is the step, and leaves the cursor right
 abbrev pub InnerIsStep : Type 0
-InnerIsStep = (b : List ℕ) (h : Host) (cursor : ℕ) (reply : List ℕ) → Bytes b → bundle.bundleRow b ≡ bundle.served
-    → breaksN1 b h ≡ false → CursorIn b (h .stage) cursor
+InnerIsStep = (b : List ℕ) (h : Host) (cursor : ℕ) (reply : List ℕ) → Bytes b → CursorIn b (h .stage) cursor
     → (innerOf b (checkOf b) cursor h reply .step ≡ stepOf b h reply)
     × CursorIn b (stepOf b h reply .host .stage) (innerOf b (checkOf b) cursor h reply .cursor)
+
+-- on from what stands at a place: past a record, and no further where there is none
+abbrev pub pastRecord : (from : ℕ → ℕ) → (at : ℕ) → Next → ℕ
+pastRecord from at next.End = at
+pastRecord from at next.Bad = at
+pastRecord from at (next.Record address start size past) = from past
+
+-- the place after the first `count` records that stand from `at` on; where there are fewer, the place after the last
+unfoldable pub placeAfter : (b : List ℕ) → (at end count : ℕ) → ℕ
+placeAfter b at end zero = at
+placeAfter b at end (suc count) = pastRecord (λ past. placeAfter b past end count) at (nextOf b at end)
+
+-- the cursor of a record, found by a walk over the body in hand, and 0 where no block's reply is awaited
+abbrev pub cursorAt : (b : List ℕ) → Body → HostStage → ℕ
+cursorAt b body Fresh = 0
+cursorAt b body Opening = 0
+cursorAt b body Listing = 0
+cursorAt b body (Offering t) = 0
+cursorAt b body (Waiting t) = 0
+cursorAt b body (Sending p) = placeAfter b (body .start) (body .end) (p .block + 1)
+cursorAt b body Closing = 0
+cursorAt b body (Ended e) = 0
+
+-- the cursor of a record over the contents of a bundle
+abbrev pub cursorOf : (b : List ℕ) → Contents → HostStage → ℕ
+cursorOf b c stage = cursorAt b (bodyOf c (inHand stage)) stage

@@ -13,7 +13,7 @@ use Rattle.bundle.specs.Contents.{blocksIn}
 use Rattle.host_record.specs.declared.record.Host.{Host}
 use Rattle.host_record.specs.declared.record.Place.{Place}
 use Rattle.host_record.specs.declared.record.HostStage.{HostStage}
-use Rattle.host_record.specs.Fits.{stageBreaks, recordBreaks, isLastOf, lastOf}
+use Rattle.host_record.specs.Fits.{stageBreaks, recordBreaks, isLastOf, lastOf, inHand}
 use Rattle.decide.specs.declared.Action.{Action}
 use Rattle.decide.specs.declared.Action.the-variants as action
 use Rattle.decide.specs.declared.Move.{Move}
@@ -34,17 +34,17 @@ recordsAt b i = length (blocksAt b i)
 
 -- N1 over a bundle
 abbrev pub badStage : (b : List ℕ) → HostStage → Bool
-badStage b stage = stageBreaks (countIn b) (recordsAt b) stage
+badStage b stage = stageBreaks (countIn b) (recordsAt b (inHand stage)) stage
 
 unfoldable pub breaksN1 : (b : List ℕ) → Host → Bool
-breaksN1 b h = recordBreaks (countIn b) (recordsAt b) h
+breaksN1 b h = recordBreaks (countIn b) (recordsAt b (inHand (h .stage))) h
 
 -- the block in hand is the last of its body
 abbrev pub isLast : (b : List ℕ) → Place → Bool
-isLast b p = isLastOf (recordsAt b) p
+isLast b p = isLastOf (recordsAt b (p .entry)) p
 
 abbrev pub lastIn : (b : List ℕ) → HostStage → Bool
-lastIn b stage = lastOf (recordsAt b) stage
+lastIn b stage = lastOf (recordsAt b (inHand stage)) stage
 
 -- its flags
 abbrev pub flagsAt : (b : List ℕ) → Place → ℕ

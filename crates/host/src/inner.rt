@@ -1,4 +1,4 @@
-// The inner step: over the contents of a bundle that was checked once, and a cursor, the place of the record after the one in hand.
+// The inner step: over what the check answered for a bundle, and a cursor, the place of the record after the one in hand.
 ghost use mathlib.Core.Path.{_≡_};
 ghost use Rattle.bundle.specs.Contents.{toldChecked};
 ghost use Rattle.make.specs.Made.{toldInner};
@@ -10,11 +10,13 @@ use host_record::fits::body_at;
 use host_record::fits::in_hand;
 use host_record::record::Host;
 use layout::Checked;
+use layout::row_number;
 use make::action::made;
 use make::action::refused;
 use make::answer::InnerAnswer;
+use make::answer::StepRefusal;
 
-// N1, or the move.
+// The bundle's row, N1, or the move.
 pub fn inner_step(
     checked: Checked,
     cursor: usize,
@@ -24,12 +26,20 @@ pub fn inner_step(
 ) -> InnerAnswer
     ensures { λ r. ⌜ toldInner r ≡ innerOf (now (bundle .entry)) (toldChecked checked) cursor h (now (reply .entry)) ⌝ }
 {
+    let verdict = checked.verdict;
+    if row_number(verdict) != 0 {
+        let row = StepRefusal::Bundle {
+            verdict: verdict,
+            place: checked.place,
+        };
+        return refused(row, h, cursor);
+    }
     let table = checked.table;
     let stage = h.stage;
     let hand = body_at(table, in_hand(stage));
     let d = decision(checked.count, hand.records, h, reply);
     match d {
-        Decided::N1 => refused(h, cursor),
+        Decided::N1 => refused(StepRefusal::N1, h, cursor),
         Decided::Moves(m) => {
             let action = m.action;
             let body = body_at(table, entry_of(action));

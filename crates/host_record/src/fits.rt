@@ -1,13 +1,9 @@
 // Row N1: a record that does not fit the bundle, told in constant time by how many offers it has and how many records the body in hand has. And whether a
 // block is the last of its body.
 ghost use mathlib.Core.Path.{_≡_};
-ghost use mathlib.Core.Bool.{false};
-ghost use Prim.Native.Nat.{ℕ, _+_, _^_, _<_, _≤_};
+ghost use Prim.Native.Nat.{_+_, _^_};
 ghost use lib.Dec.{leb};
-ghost use lib.ListN.{getD};
-ghost use Rattle.layout.specs.Layout.{blankEntry};
-ghost use Rattle.host_record.specs.Room.{Spare, RoomIn, Room};
-ghost use Rattle.host_record.specs.Fits.{turnBreaks, placeBreaks, stageBreaks, recordBreaks, isLastOf, lastOf, inHand, UpToSeven};
+ghost use Rattle.host_record.specs.Fits.{turnBreaks, placeBreaks, stageBreaks, recordBreaks, isLastOf, lastOf, bodyOn, inHand};
 use crate::record::Host;
 use crate::record::HostStage;
 use crate::record::PACKET_LIMIT;
@@ -38,8 +34,7 @@ fn body_of(e: Entry) -> Body
 
 // The body of entry i; past the table it is empty.
 pub fn body_at(table: [Entry; 7], i: u32) -> Body
-    ensures { λ r. ⌜ r ≡ record { start = getD table i blankEntry .offset; end = getD table i blankEntry .offset + getD table i blankEntry .length; records = getD table i blankEntry .records } ⌝ }
-    ensures { λ r. ⌜ (7 ≤ i → r .records ≡ 0) ⌝ }
+    ensures { λ r. ⌜ r ≡ bodyOn table i ⌝ }
 {
     if i < 7 {
         let e = table[i as usize];
@@ -60,17 +55,15 @@ fn turn_breaks(n: u8, t: Turn) -> bool
     (n as u32 <= t.entry) | (BUSY_LIMIT < t.busy)
 }
 
-// N1: points at an entry or a body record that the bundle lacks.
+// N1: points at an entry or a body record that the bundle lacks; no bundle has an eighth entry.
 fn place_breaks(n: u8, k: u32, p: Place) -> bool
-    ensures { λ r. ⌜ ((records : ℕ → ℕ) → UpToSeven records → records (p .entry) ≡ k → r ≡ placeBreaks n records p) ⌝ }
-    ensures { λ r. ⌜ (r ≡ false → (p .entry < 32) × Spare (p .block)) ⌝ }
+    ensures { λ r. ⌜ r ≡ placeBreaks n k p ⌝ }
 {
     (n as u32 <= p.entry) | ((OFFER_LIMIT as u32 <= p.entry) | (k <= p.block))
 }
 
 fn stage_breaks(n: u8, k: u32, stage: HostStage) -> bool
-    ensures { λ r. ⌜ ((records : ℕ → ℕ) → UpToSeven records → records (inHand stage) ≡ k → r ≡ stageBreaks n records stage) ⌝ }
-    ensures { λ r. ⌜ (r ≡ false → RoomIn stage) ⌝ }
+    ensures { λ r. ⌜ r ≡ stageBreaks n k stage ⌝ }
 {
     match stage {
         HostStage::Fresh => false,
@@ -95,10 +88,9 @@ fn mask_breaks(n: u8, mask: u32) -> bool
     }
 }
 
-// N1: .. more passes than offers, 2^31 or more packets, or a mask bit past its offers. A record that passes has room to go on.
+// N1: .. more passes than offers, 2^31 or more packets, or a mask bit past its offers.
 pub fn breaks(n: u8, k: u32, h: Host) -> bool
-    ensures { λ r. ⌜ ((records : ℕ → ℕ) → UpToSeven records → records (inHand (h .stage)) ≡ k → r ≡ recordBreaks n records h) ⌝ }
-    ensures { λ r. ⌜ (r ≡ false → Room h × RoomIn (h .stage)) ⌝ }
+    ensures { λ r. ⌜ r ≡ recordBreaks n k h ⌝ }
 {
     let stage = h.stage;
     let points = stage_breaks(n, k, stage);
@@ -108,13 +100,13 @@ pub fn breaks(n: u8, k: u32, h: Host) -> bool
 
 // The block in hand is the last of its body, which has k records.
 pub fn is_last(k: u32, p: Place) -> bool
-    ensures { λ r. ⌜ ((records : ℕ → ℕ) → records (p .entry) ≡ k → r ≡ isLastOf records p) ⌝ }
+    ensures { λ r. ⌜ r ≡ isLastOf k p ⌝ }
 {
     (p.block as u64) + 1 == k as u64
 }
 
 pub fn last_in(k: u32, stage: HostStage) -> bool
-    ensures { λ r. ⌜ ((records : ℕ → ℕ) → records (inHand stage) ≡ k → r ≡ lastOf records stage) ⌝ }
+    ensures { λ r. ⌜ r ≡ lastOf k stage ⌝ }
 {
     match stage {
         HostStage::Fresh => false,

@@ -1,13 +1,9 @@
-// What an action sends, over the body of a bundle that was checked once, and a cursor, the place of the record after the one in hand.
+// What an action sends, over the body of its entry in a bundle that was checked once, and a cursor, the place of the record after the one in hand.
 ghost use mathlib.Core.Path.{_≡_};
-ghost use mathlib.Core.Bool.{false, cond};
-ghost use lib.Dec.{eqb};
+ghost use mathlib.Core.List.{[]};
 ghost use lib.ListN.{length, replicate};
-ghost use Rattle.bundle.specs.Contents.{Contents};
-ghost use Rattle.host_record.specs.Fits.{bodyOf};
-ghost use Rattle.decide.specs.Decide.{entryOf};
-ghost use Rattle.make.specs.Answer.{N, refusedBy};
-ghost use Rattle.make.specs.Made.{madeOf, toldInner, writtenStep};
+ghost use Rattle.make.specs.Answer.{rowOf, refusedBy};
+ghost use Rattle.make.specs.Made.{recordStart, laidOffer, laidBlock, laidOf, writtenOf, laidBy, madeOf, toldInner};
 use crate::answer::InnerAnswer;
 use crate::answer::Sent;
 use crate::answer::StepAnswer;
@@ -25,14 +21,14 @@ use layout::limits::HEAD;
 use records::Next;
 use records::walk::next_record;
 
-// N1: nothing is sent, and the record is unchanged.
-pub fn refused(h: Host, cursor: usize) -> InnerAnswer
-    ensures { λ r. ⌜ toldInner r ≡ record { step = refusedBy (N 1) h; cursor = cursor } ⌝ }
+// A row refuses the step: nothing is sent, and the record is unchanged.
+pub fn refused(refusal: StepRefusal, h: Host, cursor: usize) -> InnerAnswer
+    ensures { λ r. ⌜ toldInner r ≡ record { step = refusedBy (rowOf refusal) h; cursor = cursor } ⌝ }
 {
     let none = [0u8; 60];
     InnerAnswer {
         step: StepAnswer {
-            refusal: StepRefusal::N1,
+            refusal: refusal,
             sent: Sent::Nothing,
             packet: none,
             host: h,
@@ -43,12 +39,13 @@ pub fn refused(h: Host, cursor: usize) -> InnerAnswer
 
 // Nothing is sent.
 fn none(packet: &mut [u8], served: bool, cursor: usize) -> Written
-    ensures { λ r. ⌜ (r ≡ record { served = served; sent = Sent.Nothing; cursor = cursor }) × (now (packet .exit) ≡ replicate (length (now (packet .entry))) 0) ⌝ }
+    ensures { λ r. ⌜ laidBy r (now (packet .exit)) ≡ record { served = served; sent = []; packet = replicate (length (now (packet .entry))) 0; cursor = cursor } ⌝ }
 {
     packet::clear(packet);
+    let sent = Sent::Nothing;
     Written {
         served: served,
-        sent: Sent::Nothing,
+        sent: sent,
         cursor: cursor,
     }
 }
@@ -56,7 +53,7 @@ fn none(packet: &mut [u8], served: bool, cursor: usize) -> Written
 // The offer of an entry; where the bytes do not have it, N1.
 fn written_offer(packet: &mut [u8], b: &[u8], cursor: usize, entry: u32, token: u8) -> Written
     requires { ⌜ length (now packet) ≡ 60 ⌝ }
-    ensures { λ r. ⌜ ((c : Contents) → (before after : Host) → after .token ≡ token → writtenStep r (now (packet .exit)) before after ≡ madeOf (now (b .entry)) c cursor before after (Action.Offer entry)) ⌝ }
+    ensures { λ r. ⌜ laidBy r (now (packet .exit)) ≡ laidOffer (now (b .entry)) cursor token entry ⌝ }
 {
     if (HEAD as u64) + (ENTRY as u64) * (entry as u64 + 1) <= b.len() as u64 {
         packet::offer(packet, b, entry, token);
@@ -72,7 +69,7 @@ fn written_offer(packet: &mut [u8], b: &[u8], cursor: usize, entry: u32, token: 
 
 // Where the record of block k starts: at the body's start, or at the cursor.
 fn start_of(body: Body, cursor: usize, k: u32) -> usize
-    ensures { λ r. ⌜ r ≡ cond (eqb k 0) (body .start) cursor ⌝ }
+    ensures { λ r. ⌜ r ≡ recordStart body cursor k ⌝ }
 {
     if k == 0 { body.start } else { cursor }
 }
@@ -80,7 +77,7 @@ fn start_of(body: Body, cursor: usize, k: u32) -> usize
 // The block of the record that stands at its start; where none stands there, N1.
 fn written_block(packet: &mut [u8], b: &[u8], body: Body, cursor: usize, p: Place) -> Written
     requires { ⌜ length (now packet) ≡ 60 ⌝ }
-    ensures { λ r. ⌜ ((c : Contents) → (before after : Host) → bodyOf c (p .entry) ≡ body → writtenStep r (now (packet .exit)) before after ≡ madeOf (now (b .entry)) c cursor before after (Action.Block p)) ⌝ }
+    ensures { λ r. ⌜ laidBy r (now (packet .exit)) ≡ laidBlock (now (b .entry)) body cursor p ⌝ }
 {
     let at = start_of(body, cursor, p.block);
     let r = next_record(b, at, body.end);
@@ -114,7 +111,7 @@ fn written_in(
     token: u8,
 ) -> Written
     requires { ⌜ length (now packet) ≡ 60 ⌝ }
-    ensures { λ r. ⌜ ((c : Contents) → (before after : Host) → bodyOf c (entryOf action) ≡ body → after .token ≡ token → writtenStep r (now (packet .exit)) before after ≡ madeOf (now (b .entry)) c cursor before after action) ⌝ }
+    ensures { λ r. ⌜ laidBy r (now (packet .exit)) ≡ laidOf (now (b .entry)) body cursor token action ⌝ }
 {
     match action {
         Action::Nothing => none(packet, true, cursor),
@@ -148,8 +145,7 @@ pub fn written(
     action: Action,
     token: u8,
 ) -> Written
-    ensures { λ r. ⌜ ((c : Contents) → (before after : Host) → length (now (packet .entry)) ≡ 60 → bodyOf c (entryOf action) ≡ body → after .token ≡ token → writtenStep r (now (packet .exit)) before after ≡ madeOf (now (b .entry)) c cursor before after action) ⌝ }
-    ensures { λ r. ⌜ (eqb (length (now (packet .entry))) 60 ≡ false → (r ≡ record { served = false; sent = Sent.Nothing; cursor = cursor }) × (now (packet .exit) ≡ now (packet .entry))) ⌝ }
+    ensures { λ r. ⌜ laidBy r (now (packet .exit)) ≡ writtenOf (now (packet .entry)) (now (b .entry)) body cursor token action ⌝ }
 {
     if packet.len() == 60 {
         written_in(packet, b, body, cursor, action, token)
@@ -164,7 +160,7 @@ pub fn written(
 
 // What an action sends, with the body of its entry.
 pub fn made(b: &[u8], body: Body, cursor: usize, before: Host, m: Move) -> InnerAnswer
-    ensures { λ r. ⌜ ((c : Contents) → bodyOf c (entryOf (m .action)) ≡ body → toldInner r ≡ madeOf (now (b .entry)) c cursor before (m .host) (m .action)) ⌝ }
+    ensures { λ r. ⌜ toldInner r ≡ madeOf (now (b .entry)) body cursor before (m .host) (m .action) ⌝ }
 {
     let after = m.host;
     let action = m.action;
@@ -182,6 +178,6 @@ pub fn made(b: &[u8], body: Body, cursor: usize, before: Host, m: Move) -> Inner
             cursor: w.cursor,
         }
     } else {
-        refused(before, w.cursor)
+        refused(StepRefusal::N1, before, w.cursor)
     }
 }

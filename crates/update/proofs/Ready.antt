@@ -12,7 +12,7 @@ use lib.ListN.{length, drop}
 use lib.Seq.{drop-cons}
 use lib.Pow.{pow-pos}
 use Rattle.wire.proofs.Tests.{both}
-use Rattle.layout.specs.Layout.{BUNDLE-LIMIT, countIn, entriesIn}
+use Rattle.layout.specs.Layout.{BUNDLE-LIMIT, OFFER-LIMIT, countIn, entriesIn}
 use Rattle.layout.specs.Rows as bundle
 use Rattle.bundle.proofs.Accepted.{Accepted}
 use Rattle.host_record.specs.Record.{freshHost, hasEnded}
@@ -197,12 +197,14 @@ module _ (b : List ℕ) (α : Accepted b) where
   fits-stage passes Listing r = refl
   fits-stage passes (Offering t) r = rw (lt-leb (countIn b) (t .entry) (r .0)) (le-ltb BUSY-LIMIT (t .busy) (r .1))
   fits-stage passes (Waiting t) r = rw (lt-leb (countIn b) (t .entry) (r .0)) (le-ltb BUSY-LIMIT (t .busy) (r .1))
-  fits-stage passes (Sending p) r = rw (lt-leb (countIn b) (p .entry) (r .0)) (lt-leb (length (blocksAt b (p .entry))) (p .block) (r .1))
+  fits-stage passes (Sending p) r =
+      rw (lt-leb (countIn b) (p .entry) (r .0), lt-leb OFFER-LIMIT (p .entry) (omega (arith, r .0, α .few)))
+      (lt-leb (length (blocksAt b (p .entry))) (p .block) (r .1))
   fits-stage passes Closing r = refl
   fits-stage passes (Ended e) r = refl
 
   -- a ready record does not meet N1
-  pub ready-fits : (h : Host) → Ready b h → breaksN1 b h ≡ false
+  ready-fits : (h : Host) → Ready b h → breaksN1 b h ≡ false
   unfolding breaksN1
   ready-fits h r =
       rw (fits-stage (h .passes) (h .stage) (r .stage), le-ltb (countIn b) (h .passes) (r .passes), lt-leb PACKET-LIMIT (h .packets) (omega (arith, r .room, bound-small)))

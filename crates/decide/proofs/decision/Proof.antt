@@ -1,32 +1,28 @@
--- `decision`: N1, or the move. Assumes nothing.
+-- `decision`: N1, or the move, which what N1 leaves has room for. Assumes nothing.
 use mathlib.Core.Path.{sym, ap, _∙_}
 use mathlib.Core.Bool.{Bool}
-use Rattle.host_record.specs.Fits.{recordsOn}
+use Rattle.host_record.proofs.fits.Laws.{room}
 use Rattle.decide.specs.declared.Decided.the-variants.{Moves}
 use Rattle.decide.specs.Decide.{decideOf, decisionOf}
 use borrow.Author.Needs.{needs}
 use Rattle.decide.proofs.decision.Statement.{statement}
 use Rattle.decide.proofs.decision.Tie as tie
 
-breaks-requires : tie.Need-breaks-requires
-breaks-requires c κs = search needs
-
-returns : tie.Need-returns
+refused : tie.Need-returns
 unfolding decisionOf
-returns c = λ b up n k. rw (n, sym (c .before .breaks .ensures .0 (recordsOn b) up k), c .if1 .taken)
-
-last-in-requires : tie.Need-last-in-requires
-last-in-requires c κs = search needs
+refused c = rw (sym (c .before .breaks .ensures), c .if1 .taken)
 
 decide-requires : tie.Need-decide-requires
-decide-requires c κs = c .before .before .breaks .ensures .1 (c .before .if1 .left)
+decide-requires c κs =
+    let a = c .before .before .before .before .args in
+    room (a .n) (a .k) (search needs) (search needs) (a .h) (sym (c .before .before .breaks .ensures) ∙ c .before .if1 .left)
 
-returns-2 : tie.Need-returns-2
+moved : tie.Need-returns-2
 unfolding decisionOf
-returns-2 c =
+moved c =
     let a = c .before .before .before .before .before .args in
-    λ b up n k. rw (n, sym (c .before .before .before .breaks .ensures .0 (recordsOn b) up k), c .before .before .if1 .left)
-    (ap Moves (c .decide .ensures ∙ ap (λ (l : Bool). decideOf (a .n) l (a .h) (a .reply .now)) (c .before .last-in .ensures (recordsOn b) k)))
+    rw (sym (c .before .before .before .breaks .ensures), c .before .before .if1 .left)
+    (ap Moves (c .decide .ensures ∙ ap (λ (l : Bool). decideOf (a .n) l (a .h) (a .reply .now)) (c .before .last-in .ensures)))
 
 pub decision-spec : {M : Type 1} → statement M
-decision-spec = tie.close (tie.spec breaks-requires returns last-in-requires decide-requires returns-2)
+decision-spec = tie.close (tie.spec (λ c κs. search needs) refused (λ c κs. search needs) decide-requires moved)

@@ -1,4 +1,4 @@
--- Where the check passes, N1 does not hold and the cursor is right, the inner step is the step, and leaves the cursor right. Assumes nothing.
+-- Over what the check answers for a bundle, with the right cursor, the inner step is the step, and leaves the cursor right. Assumes nothing.
 use mathlib.Core.Path.{_≡_, refl, sym, ap, ap₂, subst, _∙_}
 use mathlib.Core.Bool.{Bool, true, false, _||_}
 use mathlib.Core.List.{List, [], _∷_, map}
@@ -17,12 +17,12 @@ use Rattle.records.specs.Parse.{Parsed, whole, broken, recordsOf, blocksOf}
 use Rattle.records.specs.Walk.{between, nextOf}
 use Rattle.records.specs.declared.Next.{Next}
 use Rattle.records.specs.declared.Next.the-variants as next
-use Rattle.layout.specs.Layout.{ENTRY, OFFER-LIMIT, countIn, tableEnd, entriesIn, offsetIn, lengthIn, bodyIn}
+use Rattle.layout.specs.Layout.{ENTRY, OFFER-LIMIT, countIn, tableEnd, entriesIn, offsetIn, lengthIn, bodyIn, blankEntry}
 use Rattle.layout.specs.Rows as bundle
 use Rattle.layout.specs.declared.Entry.{Entry}
-use Rattle.layout.specs.Layout.{blankEntry}
 use Rattle.bundle.specs.Contents.{Contents, entryIn, contentsBy, checkOf}
 use Rattle.bundle.proofs.Accepted.{Accepted, accepted}
+use Rattle.bundle.proofs.Told.{check-row}
 use Rattle.host_record.specs.declared.record.Host.{Host}
 use Rattle.host_record.specs.declared.record.Turn.{Turn}
 use Rattle.host_record.specs.declared.record.Place.{Place}
@@ -32,13 +32,13 @@ use Rattle.host_record.specs.declared.record.End.{End}
 use Rattle.decide.specs.declared.Action.{Action}
 use Rattle.decide.specs.declared.Action.the-variants as action
 use Rattle.decide.specs.declared.Move.{Move}
-use Rattle.host_record.specs.Fits.{BUSY-LIMIT}
-use Rattle.decide.specs.Decide.{ends, offerFrom, noted, completes, decideIn, decideOf, decisionOf}
-use Rattle.host_record.specs.Fits.{PACKET-LIMIT, turnBreaks, placeBreaks, stageBreaks, recordBreaks, lastOf}
+use Rattle.host_record.specs.declared.fits.Body.{Body}
+use Rattle.host_record.specs.Fits.{BUSY-LIMIT, PACKET-LIMIT, turnBreaks, placeBreaks, stageBreaks, recordBreaks, lastOf, listedAt, recordsOn, bodyOf, inHand}
+use Rattle.decide.specs.Decide.{ends, offerFrom, noted, completes, decideIn, decideOf, entryOf, decisionOf}
 use Rattle.make.specs.Packet.{blockBytes}
 use Rattle.host.specs.Step.{entryAt, blocksAt, recordsAt, badStage, breaksN1, isLast, lastIn, noBlock, blockAt, packetOf, moved, stepOn, stepOf}
-use Rattle.host_record.specs.Fits.{listedAt, recordsOn}
-use Rattle.make.specs.Made.{bodyEnd, recordStart, InnerStep, sending, madeBlock, madeOf}
+use Rattle.make.specs.Answer.{B, N, refusedBy}
+use Rattle.make.specs.Made.{sending, recordStart, laidRecord, laidBlock, laidOf, InnerStep, stepOfLaid, madeOf}
 use Rattle.host.specs.Inner.{innerOf, CursorIn, InnerIsStep}
 use Rattle.decide.proofs.Moves.{opening-cases, listing-cases, offering-cases, waiting-cases, closing-cases, sending-cases, offer-cases}
 use Rattle.records.proofs.Walks.{Goes, goes}
@@ -56,14 +56,15 @@ whole-blocks broken h = absurd (omega arith)
 
 -- N1 of a stage asks only for the records of the bundle's entries
 module _ (n : ℕ) (f g : ℕ → ℕ) (same : (i : ℕ) → i < n → f i ≡ g i) where
-  place-same : (p : Place) → placeBreaks n f p ≡ placeBreaks n g p
+  place-same : (p : Place) → placeBreaks n (f (p .entry)) p ≡ placeBreaks n (g (p .entry)) p
   place-same p = go (leb n (p .entry)) refl
     where
-      go : (t : Bool) → leb n (p .entry) ≡ t → (t || leb (f (p .entry)) (p .block)) ≡ (t || leb (g (p .entry)) (p .block))
+      go : (t : Bool) → leb n (p .entry) ≡ t
+          → (t || (leb OFFER-LIMIT (p .entry) || leb (f (p .entry)) (p .block))) ≡ (t || (leb OFFER-LIMIT (p .entry) || leb (g (p .entry)) (p .block)))
       go true e = refl
       go false e = rw (same (p .entry) (leb-false n (p .entry) e))
 
-  stage-same : (s : HostStage) → stageBreaks n f s ≡ stageBreaks n g s
+  stage-same : (s : HostStage) → stageBreaks n (f (inHand s)) s ≡ stageBreaks n (g (inHand s)) s
   stage-same Fresh = refl
   stage-same Opening = refl
   stage-same Listing = refl
@@ -73,15 +74,26 @@ module _ (n : ℕ) (f g : ℕ → ℕ) (same : (i : ℕ) → i < n → f i ≡ g
   stage-same Closing = refl
   stage-same (Ended e) = refl
 
-  last-same : (s : HostStage) → stageBreaks n g s ≡ false → lastOf f s ≡ lastOf g s
+  last-same : (s : HostStage) → stageBreaks n (g (inHand s)) s ≡ false → lastOf (f (inHand s)) s ≡ lastOf (g (inHand s)) s
   last-same Fresh h = refl
   last-same Opening h = refl
   last-same Listing h = refl
   last-same (Offering t) h = refl
   last-same (Waiting t) h = refl
-  last-same (Sending p) h = rw (same (p .entry) (leb-false n (p .entry) (neither (leb n (p .entry)) (leb (g (p .entry)) (p .block)) h .0)))
+  last-same (Sending p) h = rw (same (p .entry) (leb-false n (p .entry) (neither (leb n (p .entry)) _ h .0)))
   last-same Closing h = refl
   last-same (Ended e) h = refl
+
+-- the body of an entry, as the check answers it
+abbrev pub checked : List ℕ → ℕ → Body
+checked b i = bodyOf (checkOf b) i
+
+-- a block in hand is of an entry and a record that the bundle has
+pub place-inside : (b : List ℕ) (p : Place) → badStage b (Sending p) ≡ false → (p .entry < countIn b) × (p .block < recordsAt b (p .entry))
+place-inside b p w =
+    let q = neither (leb (countIn b) (p .entry)) _ w in
+    let r = neither (leb OFFER-LIMIT (p .entry)) (leb (recordsAt b (p .entry)) (p .block)) (q .1) in
+    (leb-false (countIn b) (p .entry) (q .0), leb-false (recordsAt b (p .entry)) (p .block) (r .1))
 
 module _ (b : List ℕ) (α : Accepted b) (s : bundle.bundleRow b ≡ bundle.served) where
   -- the contents of an accepted bundle
@@ -104,11 +116,8 @@ module _ (b : List ℕ) (α : Accepted b) (s : bundle.bundleRow b ≡ bundle.ser
   records-is i l = ap (λ (e : Entry). e .records) (listed-is i l)
 
   -- a body from its start to its end
-  body-end : (p : Place) → p .entry < countIn b → bodyEnd (checkOf b) p ≡ offsetIn (entryAt b (p .entry)) + lengthIn (entryAt b (p .entry))
-  body-end p l = ap (λ (e : Entry). e .offset + e .length) (listed-is (p .entry) l)
-
-  end-inside : (p : Place) → p .entry < countIn b → bodyEnd (checkOf b) p ≤ length b
-  end-inside p l = rw (body-end p l) (α .inside (p .entry) l)
+  pub end-inside : (i : ℕ) → i < countIn b → checked b i .end ≤ length b
+  end-inside i l = rw (ap (λ (e : Entry). e .offset + e .length) (listed-is i l)) (α .inside i l)
 
   body-reads : (i : ℕ) → i < countIn b
       → recordsOf (between b (offsetIn (entryAt b i)) (offsetIn (entryAt b i) + lengthIn (entryAt b i))) ≡ whole (blocksAt b i)
@@ -118,11 +127,11 @@ module _ (b : List ℕ) (α : Accepted b) (s : bundle.bundleRow b ≡ bundle.ser
       rw e (whole-blocks (recordsOf (bodyIn b (entryAt b i))) (α .records i l))
 
   -- the block's record and those after it stand from its start on
-  record Stood (cursor : ℕ) (p : Place) : Type 0 where
-    below : recordStart (checkOf b) cursor p ≤ bodyEnd (checkOf b) p
-    reads : recordsOf (between b (recordStart (checkOf b) cursor p) (bodyEnd (checkOf b) p)) ≡ whole (drop (p .block) (blocksAt b (p .entry)))
+  pub record Stood (cursor : ℕ) (p : Place) : Type 0 where
+    pub below : recordStart (checked b (p .entry)) cursor (p .block) ≤ checked b (p .entry) .end
+    pub reads : recordsOf (between b (recordStart (checked b (p .entry)) cursor (p .block)) (checked b (p .entry) .end)) ≡ whole (drop (p .block) (blocksAt b (p .entry)))
 
-  first-stood : (cursor i : ℕ) → i < countIn b → Stood cursor (record { entry = i; block = 0 })
+  pub first-stood : (cursor i : ℕ) → i < countIn b → Stood cursor (record { entry = i; block = 0 })
   first-stood cursor i l = record { below = omega arith; reads = ap (λ (e : Entry). recordsOf (between b (e .offset) (e .offset + e .length))) (listed-is i l) ∙ body-reads i l }
 
   next-stood : (cursor : ℕ) (p : Place) → CursorIn b (Sending p) cursor → Stood cursor (record { entry = p .entry; block = p .block + 1 })
@@ -146,38 +155,42 @@ module _ (b : List ℕ) (α : Accepted b) (s : bundle.bundleRow b ≡ bundle.ser
   Same after a i = (i .step ≡ moved b (record { action = a; host = after })) × CursorIn b (after .stage) (i .cursor)
 
   module _ (cursor : ℕ) (before after : Host) where
-    offer-same : (e : ℕ) → e < countIn b → Still (after .stage) → Same after (action.Offer e) (madeOf b (checkOf b) cursor before after (action.Offer e))
-    unfolding madeOf packetOf
+    -- the step of an action, over the body of its entry
+    abbrev made : Action → InnerStep
+    made a = madeOf b (checked b (entryOf a)) cursor before after a
+
+    offer-same : (e : ℕ) → e < countIn b → Still (after .stage) → Same after (action.Offer e) (made (action.Offer e))
+    unfolding laidOf packetOf
     offer-same e l still =
         let t : tableEnd (e + 1) ≤ length b = omega (arith, α .table) in
         let k : 16 ≤ ENTRY = omega arith in
         rw (le-leb (tableEnd (e + 1)) (length b) t, α .places e l, take-take 16 ENTRY (drop (tableEnd e) b) k) (refl, still cursor)
 
     block-by : (p : Place) → p .entry < countIn b → (r : Next)
-        → Goes b (recordStart (checkOf b) cursor p) (bodyEnd (checkOf b) p) (blockAt b p) (drop (suc (p .block)) (blocksAt b (p .entry))) r
-        → (madeBlock b (checkOf b) cursor p before after r .step ≡ moved b (record { action = action.Block p; host = after }))
-        × CursorIn b (Sending p) (madeBlock b (checkOf b) cursor p before after r .cursor)
+        → Goes b (recordStart (checked b (p .entry)) cursor (p .block)) (checked b (p .entry) .end) (blockAt b p) (drop (suc (p .block)) (blocksAt b (p .entry))) r
+        → (stepOfLaid (laidRecord b (checked b (p .entry)) cursor p r) before after .step ≡ moved b (record { action = action.Block p; host = after }))
+        × CursorIn b (Sending p) (laidRecord b (checked b (p .entry)) cursor p r .cursor)
     unfolding packetOf
     block-by p l next.End h = absurd h
     block-by p l next.Bad h = absurd h
     block-by p l (next.Record a start size past) h = (
-      ap (λ (x : List ℕ). sending x after past .step)
+      ap (λ (x : List ℕ). stepOfLaid (sending x past) before after .step)
           (ap₂ (λ (t : Bool) (x : Block). blockBytes (p .block) t x) (ap (eqb (p .block + 1)) (records-is (p .entry) l)) (h .0)),
       (h .1, h .2),
     )
 
-    made-same : (a : Action) → Fine cursor a (after .stage) → Same after a (madeOf b (checkOf b) cursor before after a)
-    unfolding madeOf packetOf
+    made-same : (a : Action) → Fine cursor a (after .stage) → Same after a (made a)
+    unfolding laidOf packetOf
     made-same action.Nothing f = (refl, f cursor)
     made-same (action.Information code) f = (refl, f cursor)
     made-same action.Notify f = (refl, f cursor)
     made-same (action.Offer e) f = offer-same e (f .0) (f .1)
     made-same (action.Block p) f =
-        let r = nextOf b (recordStart (checkOf b) cursor p) (bodyEnd (checkOf b) p) in
-        let g = goes b (recordStart (checkOf b) cursor p) (bodyEnd (checkOf b) p) _ _ (f .3 .below) (end-inside p (f .1))
-        (f .3 .reads ∙ ap whole (drop-cons (blocksAt b (p .entry)) (p .block) noBlock (f .2))) in
-        let w = block-by p (f .1) r g in
-        (w .0, subst (λ (g : HostStage). CursorIn b g (madeBlock b (checkOf b) cursor p before after r .cursor)) (sym (f .0)) (w .1))
+        let at = recordStart (checked b (p .entry)) cursor (p .block) in
+        let end = checked b (p .entry) .end in
+        let g = goes b at end _ _ (f .3 .below) (end-inside (p .entry) (f .1)) (f .3 .reads ∙ ap whole (drop-cons (blocksAt b (p .entry)) (p .block) noBlock (f .2))) in
+        let w = block-by p (f .1) (nextOf b at end) g in
+        (w .0, subst (λ (g : HostStage). CursorIn b g (laidBlock b (checked b (p .entry)) cursor p .cursor)) (sym (f .0)) (w .1))
 
   -- every move from a record that N1 leaves is such an action
   module _ (cursor : ℕ) (h : Host) (reply : List ℕ) where
@@ -193,7 +206,7 @@ module _ (b : List ℕ) (α : Accepted b) (s : bundle.bundleRow b ≡ bundle.ser
     turn-inside : (t : Turn) → turnBreaks (countIn b) t ≡ false → t .entry < countIn b
     turn-inside t w = leb-false (countIn b) (t .entry) (neither (leb (countIn b) (t .entry)) (ltb BUSY-LIMIT (t .busy)) w .0)
 
-    fine-by : (g : HostStage) → h .stage ≡ g → stageBreaks (countIn b) (recordsAt b) g ≡ false → CursorIn b g cursor
+    fine-by : (g : HostStage) → h .stage ≡ g → badStage b g ≡ false → CursorIn b g cursor
         → FineMove (decideIn g (countIn b) (lastIn b g) h reply)
     unfolding decideIn
     fine-by Fresh z w k = λ x. tt
@@ -205,31 +218,38 @@ module _ (b : List ℕ) (α : Accepted b) (s : bundle.bundleRow b ≡ bundle.ser
         (λ status. offers (t .entry + 1) (noted h status)) (λ m x. tt)
     fine-by (Waiting t) z w k = waiting-cases FineMove (countIn b) h reply stops t (turn-inside t w, λ x. tt)
     fine-by (Sending p) z w k =
-        let q = neither (leb (countIn b) (p .entry)) (leb (recordsAt b (p .entry)) (p .block)) w in
-        let l = leb-false (countIn b) (p .entry) (q .0) in
-        let m = leb-false (recordsAt b (p .entry)) (p .block) (q .1) in
+        let i = place-inside b p w in
         sending-cases FineMove (countIn b) (isLast b p) p h reply (λ u. stops) (λ u v. offers (p .entry + 1) (completes h (p .entry)))
-        (λ u v. (refl, l, omega (arith, m, eqb-false (p .block + 1) (recordsAt b (p .entry)) v), next-stood cursor p k))
+        (λ u v. (refl, i .0, omega (arith, i .1, eqb-false (p .block + 1) (recordsAt b (p .entry)) v), next-stood cursor p k))
     fine-by Closing z w k = closing-cases FineMove (countIn b) h reply stops (λ u x. tt)
     fine-by (Ended e) z w k = λ x. subst (λ (g : HostStage). CursorIn b g x) (sym z) tt
 
-    -- so the inner step is the step
-    breaks-is : recordBreaks (checkOf b .count) (recordsOn (checkOf b)) h ≡ breaksN1 b h
+    -- what is decided over the contents is what is decided over the bundle
+    breaks-is : recordBreaks (checkOf b .count) (recordsOn (checkOf b) (inHand (h .stage))) h ≡ breaksN1 b h
     unfolding breaksN1
     breaks-is =
-        ap (λ (n : ℕ). recordBreaks n (recordsOn (checkOf b)) h) count-is
+        ap (λ (n : ℕ). recordBreaks n (recordsOn (checkOf b) (inHand (h .stage))) h) count-is
         ∙ ap (λ (t : Bool). t || (ltb (countIn b) (h .passes) || (leb PACKET-LIMIT (h .packets) || leb (2 ^ countIn b) (h .mask))))
         (stage-same (countIn b) (recordsOn (checkOf b)) (recordsAt b) records-is (h .stage))
 
     abbrev move : Move
     move = decideOf (countIn b) (lastIn b (h .stage)) h reply
 
-    inner-moves : breaksN1 b h ≡ false → innerOf b (checkOf b) cursor h reply ≡ madeOf b (checkOf b) cursor h (move .host) (move .action)
+    -- over an accepted bundle the inner step is N1 or the move, and so is the step
+    inner-breaks : breaksN1 b h ≡ true → innerOf b (checkOf b) cursor h reply ≡ record { step = refusedBy (N 1) h; cursor = cursor }
+    unfolding innerOf decisionOf
+    inner-breaks w = rw (check-row b, s, breaks-is, w)
+
+    inner-moves : breaksN1 b h ≡ false → innerOf b (checkOf b) cursor h reply ≡ made cursor h (move .host) (move .action)
     unfolding innerOf decisionOf breaksN1
     inner-moves w =
-        let e = last-same (countIn b) (recordsOn (checkOf b)) (recordsAt b) records-is (h .stage) (neither (stageBreaks (countIn b) (recordsAt b) (h .stage)) _ w .0) in
-        rw (breaks-is, w)
-        (ap (λ (m : Move). madeOf b (checkOf b) cursor h (m .host) (m .action)) (ap₂ (λ (n : ℕ) (l : Bool). decideOf n l h reply) count-is e))
+        let e = last-same (countIn b) (recordsOn (checkOf b)) (recordsAt b) records-is (h .stage) (neither (badStage b (h .stage)) _ w .0) in
+        rw (check-row b, s, breaks-is, w)
+        (ap (λ (m : Move). made cursor h (m .host) (m .action)) (ap₂ (λ (n : ℕ) (l : Bool). decideOf n l h reply) count-is e))
+
+    step-breaks : breaksN1 b h ≡ true → stepOf b h reply ≡ refusedBy (N 1) h
+    unfolding stepOf stepOn
+    step-breaks w = rw (s, w)
 
     step-moves : breaksN1 b h ≡ false → stepOf b h reply ≡ moved b move
     unfolding stepOf stepOn
@@ -239,36 +259,40 @@ module _ (b : List ℕ) (α : Accepted b) (s : bundle.bundleRow b ≡ bundle.ser
     unfolding breaksN1
     same w k =
         rw (inner-moves w)
-        (made-same cursor h (move .host) (move .action) (fine-by (h .stage) refl (neither (stageBreaks (countIn b) (recordsAt b) (h .stage)) _ w .0) k))
+        (made-same cursor h (move .host) (move .action) (fine-by (h .stage) refl (neither (badStage b (h .stage)) _ w .0) k))
 
--- the inner step is the step
+-- over a refused bundle both are its row
+module _ (b : List ℕ) (h : Host) (cursor : ℕ) (reply : List ℕ) (n entry : ℕ) (s : bundle.bundleRow b ≡ bundle.B n entry) where
+  inner-refused : innerOf b (checkOf b) cursor h reply ≡ record { step = refusedBy (B n entry) h; cursor = cursor }
+  unfolding innerOf
+  inner-refused = rw (check-row b, s)
+
+  step-refused : stepOf b h reply ≡ refusedBy (B n entry) h
+  unfolding stepOf
+  step-refused = rw s
+
+-- the inner step is the step, and leaves a right cursor right
+module _ (b : List ℕ) (h : Host) (cursor : ℕ) (reply : List ℕ) where
+  abbrev pub Agrees : Type 0
+  Agrees =
+      (innerOf b (checkOf b) cursor h reply .step ≡ stepOf b h reply)
+      × (CursorIn b (h .stage) cursor → CursorIn b (stepOf b h reply .host .stage) (innerOf b (checkOf b) cursor h reply .cursor))
+
+  -- where the cursor is right if the check passes and N1 does not hold of the stage
+  pub agrees : Bytes b → (bundle.bundleRow b ≡ bundle.served → badStage b (h .stage) ≡ false → CursorIn b (h .stage) cursor) → Agrees
+  unfolding breaksN1
+  agrees bytes k = go (bundle.bundleRow b) refl
+    where
+      on : (s : bundle.bundleRow b ≡ bundle.served) (t : Bool) → breaksN1 b h ≡ t → Agrees
+      on s true w = let α = accepted b bytes s in rw (inner-breaks b α s cursor h reply w, step-breaks b α s cursor h reply w) (refl, λ x. x)
+      on s false w =
+          let α = accepted b bytes s in
+          let q = same b α s cursor h reply w (k s (neither (badStage b (h .stage)) _ w .0)) in
+          rw (step-moves b α s cursor h reply w) (q .0, λ x. q .1)
+
+      go : (r : bundle.Row) → bundle.bundleRow b ≡ r → Agrees
+      go bundle.served s = on s (breaksN1 b h) refl
+      go (bundle.B n entry) s = rw (inner-refused b h cursor reply n entry s, step-refused b h cursor reply n entry s) (refl, λ x. x)
+
 pub inner-is-step : InnerIsStep
-inner-is-step b h cursor reply bytes s w k =
-    let α = accepted b bytes s in
-    let q = same b α s cursor h reply w k in
-    rw (step-moves b α s cursor h reply w) q
-
--- and so it is, cursor and all, where N1 holds
-pub inner-same : (b : List ℕ) (h : Host) (cursor : ℕ) (reply : List ℕ) → Bytes b → bundle.bundleRow b ≡ bundle.served
-    → (badStage b (h .stage) ≡ false → CursorIn b (h .stage) cursor) → innerOf b (checkOf b) cursor h reply .step ≡ stepOf b h reply
-unfolding innerOf decisionOf stepOf stepOn breaksN1
-inner-same b h cursor reply bytes s k = go (breaksN1 b h) refl
-  where
-    go : (t : Bool) → breaksN1 b h ≡ t → innerOf b (checkOf b) cursor h reply .step ≡ stepOf b h reply
-    go true e = rw (breaks-is b (accepted b bytes s) s cursor h reply, s, e)
-    go false e = inner-is-step b h cursor reply bytes s e (k (neither (badStage b (h .stage)) _ e .0)) .0
-
--- a walk past the block in hand finds the cursor
-pub cursor-found : (b : List ℕ) (p : Place) (start end cursor : ℕ) → Bytes b → bundle.bundleRow b ≡ bundle.served → badStage b (Sending p) ≡ false
-    → start ≡ listedAt (checkOf b) (p .entry) .offset → end ≡ bodyEnd (checkOf b) p
-    → ((rs : List Block) → start ≤ end → end ≤ length b → recordsOf (between b start end) ≡ whole rs → p .block + 1 ≤ length rs
-    → (cursor ≤ end) × (recordsOf (between b cursor end) ≡ whole (drop (p .block + 1) rs)))
-    → CursorIn b (Sending p) cursor
-cursor-found b p start end cursor bytes s w e d f =
-    let α = accepted b bytes s in
-    let q = neither (leb (countIn b) (p .entry)) (leb (recordsAt b (p .entry)) (p .block)) w in
-    let l = leb-false (countIn b) (p .entry) (q .0) in
-    let m = leb-false (recordsAt b (p .entry)) (p .block) (q .1) in
-    let o = first-stood b α s cursor (p .entry) l in
-    let t = rw (e, d) at f in
-    let u = t (blocksAt b (p .entry)) (o .below) (end-inside b α s p l) (o .reads) (omega arith) in (u .0, rw (← add-one (p .block)) (u .1))
+inner-is-step b h cursor reply bytes k = let q = agrees b h cursor reply bytes (λ s w. k) in (q .0, q .1 k)

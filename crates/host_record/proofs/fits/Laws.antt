@@ -1,42 +1,46 @@
 -- What N1 leaves has room to go on. Assumes nothing.
-use mathlib.Core.Path.{_≡_, refl, sym, ap}
-use mathlib.Core.Bool.{Bool, true, false, _||_}
-use Prim.Native.Nat.{ℕ, _^_, _<_, _≤_}
+use mathlib.Core.Path.{_≡_}
+use mathlib.Core.Bool.{false}
+use Prim.Native.Nat.{ℕ, _^_, _<_}
 use native.Mathlib.Omega.{arith}
-use borrow.Author.Tests.{ltb-false, leb-false, leb-true, le-leb}
+use borrow.Author.Tests.{ltb-false, leb-false}
 use lib.Dec.{leb, ltb}
 use Rattle.wire.proofs.Tests.{neither}
-use Rattle.host_record.specs.Room.{Spare, Room}
-use Rattle.host_record.specs.Fits.{BUSY-LIMIT}
-use Rattle.host_record.specs.Fits.{PACKET-LIMIT, turnBreaks}
+use Rattle.layout.specs.Layout.{OFFER-LIMIT}
+use Rattle.host_record.specs.Room.{Spare, RoomIn, Room}
+use Rattle.host_record.specs.Fits.{BUSY-LIMIT, PACKET-LIMIT, turnBreaks, placeBreaks, stageBreaks, recordBreaks}
 use Rattle.host_record.specs.declared.record.Host.{Host}
 use Rattle.host_record.specs.declared.record.Turn.{Turn}
+use Rattle.host_record.specs.declared.record.Place.{Place}
+use Rattle.host_record.specs.declared.record.HostStage.{HostStage}
+use Rattle.host_record.specs.declared.record.HostStage.the-variants.{Fresh, Opening, Listing, Offering, Waiting, Sending, Closing, Ended}
 
--- an offer in hand
-pub turn-room : (n : ℕ) (t : Turn) → n < 256 → turnBreaks n t ≡ false → Spare (t .entry)
-turn-room n t l h = let k = leb-false n (t .entry) (neither (leb n (t .entry)) (ltb BUSY-LIMIT (t .busy)) h .0) in omega arith
+module _ (n k : ℕ) (few : n < 256) (fits : k < 2 ^ 32) where
+  -- an offer in hand
+  turn-room : (t : Turn) → turnBreaks n t ≡ false → Spare (t .entry)
+  turn-room t h = omega (arith, leb-false n (t .entry) (neither (leb n (t .entry)) (ltb BUSY-LIMIT (t .busy)) h .0))
 
--- a block in hand: past the seventh entry there is no record
-pub place-breaks : (n entry block k : ℕ) → (7 ≤ entry → k ≡ 0) → (leb n entry || (leb 7 entry || leb k block)) ≡ (leb n entry || leb k block)
-place-breaks n entry block k z = ap (λ (t : Bool). leb n entry || t) (go (leb 7 entry) refl)
-  where
-    go : (t : Bool) → leb 7 entry ≡ t → (t || leb k block) ≡ leb k block
-    go true e = sym (le-leb k block (omega (arith, z (leb-true 7 entry e))))
-    go false e = refl
+  -- a block in hand
+  place-room : (p : Place) → placeBreaks n k p ≡ false → (p .entry < 32) × Spare (p .block)
+  place-room p h =
+      let q = neither (leb OFFER-LIMIT (p .entry)) (leb k (p .block)) (neither (leb n (p .entry)) _ h .1) in
+      (omega (arith, leb-false OFFER-LIMIT (p .entry) (q .0)), omega (arith, leb-false k (p .block) (q .1)))
 
--- .. and what is left, of numbers of 32 bits
-pub place-room : (n entry block k : ℕ) → k < 2 ^ 32 → (leb n entry || (leb 7 entry || leb k block)) ≡ false → (entry < 32) × Spare block
-place-room n entry block k l h =
-    let p = neither (leb 7 entry) (leb k block) (neither (leb n entry) _ h .1) in
-    let a = leb-false 7 entry (p .0) in
-    let b = leb-false k block (p .1) in (omega arith, omega arith)
+  stage-room : (s : HostStage) → stageBreaks n k s ≡ false → RoomIn s
+  stage-room Fresh h = tt
+  stage-room Opening h = tt
+  stage-room Listing h = tt
+  stage-room (Offering t) h = turn-room t h
+  stage-room (Waiting t) h = turn-room t h
+  stage-room (Sending p) h = place-room p h
+  stage-room Closing h = tt
+  stage-room (Ended e) h = tt
 
--- the counters
-pub room : (n : ℕ) (h : Host) (x y : Bool) → n < 256 → (x || (ltb n (h .passes) || (leb PACKET-LIMIT (h .packets) || y))) ≡ false
-    → (x ≡ false) × Room h
-room n h x y l e =
-    let p = neither x _ e in
-    let q = neither (ltb n (h .passes)) _ (p .1) in
-    let r = neither (leb PACKET-LIMIT (h .packets)) y (q .1) in
-    let a = ltb-false n (h .passes) (q .0) in
-    let b = leb-false PACKET-LIMIT (h .packets) (r .0) in (p .0, (omega arith, omega arith))
+  -- a record, over a bundle of fewer than 256 offers where the body in hand has fewer than 2^32 records
+  pub room : (h : Host) → recordBreaks n k h ≡ false → Room h × RoomIn (h .stage)
+  room h e =
+      let p = neither (stageBreaks n k (h .stage)) _ e in
+      let q = neither (ltb n (h .passes)) _ (p .1) in
+      let r = neither (leb PACKET-LIMIT (h .packets)) (leb (2 ^ n) (h .mask)) (q .1) in
+      let a = ltb-false n (h .passes) (q .0) in
+      let b = leb-false PACKET-LIMIT (h .packets) (r .0) in ((omega arith, omega arith), stage-room (h .stage) (p .0))

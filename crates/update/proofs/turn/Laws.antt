@@ -49,7 +49,7 @@ use Rattle.update.specs.declared.turn.BothEnds.{BothEnds}
 use Rattle.update.specs.Trace.{Exchange}
 use Rattle.update.specs.Run.{System, channelOf, heard, flight, deliver, exchange, run, start, boundOf, lastOf}
 use Rattle.update.specs.Turn.{replyOf, systemOf, Comes, stepFrom, Delivered, Turned}
-use Rattle.update.proofs.Ready.{Ready, Goes, goes, ready-fits, step-moves, fresh-ready, owed-step}
+use Rattle.update.proofs.Ready.{Ready, Goes, goes, step-moves, fresh-ready, owed-step}
 use Rattle.update.proofs.Talks.{deliver-host, run-next, ended-last}
 
 -- the first that is sent is the reply, where one is due; a READY follows only a reply
@@ -157,7 +157,7 @@ module _ (b : List ℕ) (token : ℕ) (d : Device) (staging : List ℕ) (bytes :
   module _ (e e′ : BothEnds) (s s′ : List ℕ) (ready : Ready b (e .host)) (place : CursorIn b (e .host .stage) (e .cursor)) (t : Turned b (checkOf b) e s e′ s′) where
     -- the inner step is the step
     inner : (stepFrom b (checkOf b) e .step ≡ stepOf b (e .host) (replyOf e)) × CursorIn b (stepOf b (e .host) (replyOf e) .host .stage) (stepFrom b (checkOf b) e .cursor)
-    inner = inner-is-step b (e .host) (e .cursor) (replyOf e) bytes accept (ready-fits b (accepted b bytes accept) (e .host) ready) place
+    inner = inner-is-step b (e .host) (e .cursor) (replyOf e) bytes place
 
     -- so a turn is an exchange
     turn-comes : (trace : List Exchange) → Comes (exchange b (systemOf e s trace)) e′ s′

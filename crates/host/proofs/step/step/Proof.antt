@@ -1,54 +1,36 @@
--- `step::step`: the check's row, or the inner step, which is the step. Assumes nothing.
-use mathlib.Core.Path.{_≡_, sym, ap, _∙_}
-use Rattle.layout.specs.Rows.{bundleRow, rowOf}
-use Rattle.bundle.specs.Contents.{Contents}
-use Rattle.host.specs.Step.{stepOf}
+-- `step::step`: the inner step over what the check answers, with the cursor that a walk finds. Assumes nothing.
+use mathlib.Core.Path.{_≡_, ap, _∙_}
+use Prim.Native.Nat.{ℕ}
+use Rattle.bundle.specs.Contents.{Contents, toldChecked}
+use Rattle.host_record.specs.declared.fits.Body.{Body}
+use Rattle.host_record.specs.Fits.{bodyOf}
 use Rattle.make.specs.Made.{InnerStep}
-use Rattle.host.specs.Inner.{innerOf}
-use Rattle.bundle.proofs.Told.{fine-row, bad-row, check-row}
-use Rattle.host.proofs.inner.IsStep.{inner-same}
+use Rattle.host.specs.Inner.{innerOf, cursorAt, cursorOf}
+use Rattle.host.proofs.step.Laws.{step-is-inner}
 use borrow.Author.Needs.{needs}
 use Rattle.host.proofs.step.step.Statement.{statement}
 use Rattle.host.proofs.step.step.Tie as tie
 
--- the row is that of the verdict
-row-is : (c : tie.After-check) → bundleRow (c .before .before .before .args .bundle .now) ≡ rowOf (c .check .result .verdict) (c .check .result .place)
-row-is c = sym (check-row (c .before .before .before .args .bundle .now)) ∙ sym (ap (λ (x : Contents). x .row) (c .check .ensures))
-
-check-requires : tie.Need-check-requires
-check-requires c κs = search needs
-
-row-number-requires : tie.Need-row-number-requires
-row-number-requires c κs = search needs
-
-cursor-for-requires : tie.Need-cursor-for-requires
-cursor-for-requires c κs = search needs
-
-inner-step-requires : tie.Need-inner-step-requires
-inner-step-requires c κs = search needs
+-- the cursor is that of the contents
+cursor-is : (c : tie.After-cursor-for) → let k = c .before .before .before .before in let a = k .before .before .before .args in
+    c .cursor-for .result ≡ cursorOf (a .bundle .now) (toldChecked (k .check .result)) (a .host .stage)
+cursor-is c =
+    let k = c .before .before .before .before in
+    let a = k .before .before .before .args in
+    c .cursor-for .ensures
+    ∙ ap (λ (y : Body). cursorAt (a .bundle .now) y (a .host .stage)) (c .before .body-at .ensures ∙ ap (bodyOf (toldChecked (k .check .result))) (c .before .before .in-hand .ensures))
 
 returns : tie.Need-returns
 returns c =
-    let a = c .before .before .before .before .before .before .before .before .args in
-    let k = c .before .before .before .before .before .check in
-    let s = row-is (c .before .before .before .before .before) ∙ fine-row (k .result .verdict) (k .result .place) (sym (c .before .before .before .before .row-number .ensures) ∙ c .before .before .before .if1 .taken) in
+    let f = c .before .before in
+    let k = f .before .before .before .before in
+    let a = k .before .before .before .args in
     ap (λ (x : InnerStep). x .step) (c .before .inner-step .ensures)
-    ∙ ap (λ (x : Contents). innerOf (a .bundle .now) x (c .before .before .cursor-for .result) (a .host) (a .reply .now) .step) (k .ensures)
-    ∙ inner-same (a .bundle .now) (a .host) (c .before .before .cursor-for .result) (a .reply .now) (λ i. c .before .before .before .before .before .before .before .shared-slice-known .given i .fits) s (c .before .before .cursor-for .ensures (k .ensures) s)
-
-returns-2 : tie.Need-returns-2
-unfolding stepOf
-returns-2 c =
-    let k = c .before .before .check in
-    rw (row-is (c .before .before) ∙ bad-row (k .result .verdict) (k .result .place) (λ z. c .if1 .left (c .before .row-number .ensures ∙ z)))
+    ∙ ap (λ (n : ℕ). innerOf (a .bundle .now) (toldChecked (k .check .result)) n (a .host) (a .reply .now) .step) (cursor-is f)
+    ∙ ap (λ (x : Contents). innerOf (a .bundle .now) x (cursorOf (a .bundle .now) x (a .host .stage)) (a .host) (a .reply .now) .step) (k .check .ensures)
+    ∙ step-is-inner (a .bundle .now) (a .host) (a .reply .now) (λ i. k .before .before .shared-slice-known .given i .fits)
 
 pub step-spec : {M : Type 1} → statement M
 step-spec =
     tie.close
-    (tie.spec
-    check-requires
-    row-number-requires
-    cursor-for-requires
-    inner-step-requires
-    returns
-    returns-2)
+    (tie.spec (λ c κs. search needs) (λ c κs. search needs) (λ c κs. search needs) (λ c κs. search needs) (λ c κs. search needs) returns)

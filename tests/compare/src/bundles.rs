@@ -219,7 +219,7 @@ pub fn make_check(r: &mut Random) -> Case {
         }
         _ => any_bundle(r),
     };
-    let size = if r.percent(1) { r.pick(&[0, 92, 94]) } else { CONTENTS_SIZE };
+    let size = if r.percent(1) { r.pick(&[0, CONTENTS_SIZE - 1, CONTENTS_SIZE + 1]) } else { CONTENTS_SIZE };
     Case::aimed("").number("contents size", size as u64).bytes("bundle", bytes)
 }
 

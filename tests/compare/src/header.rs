@@ -3,7 +3,7 @@
 pub const DEVICE_SIZE: usize = 140;
 pub const LIST_SIZE: usize = 91;
 pub const HOST_SIZE: usize = 24;
-pub const CONTENTS_SIZE: usize = 93;
+pub const CONTENTS_SIZE: usize = 103;
 pub const REPLIES_SIZE: usize = 32;
 pub const SHORT_SIZE: usize = 16;
 pub const LONG_SIZE: usize = 60;

@@ -3,7 +3,7 @@
 
 use second::host::{Host as SecondHost, Packet, Stage as SecondStage};
 
-use crate::bundles::{any_bundle, any_entries, bundle, entries_in};
+use crate::bundles::{any_bundle, any_entries, bundle};
 use crate::calls::Calls;
 use crate::case::{difference, hex, Case, Outcome};
 use crate::devices::guarded;
@@ -185,23 +185,6 @@ fn follow(host: SecondHost, bundle: &[u8], reply: &[u8]) -> SecondHost {
     stepped.host
 }
 
-/// The contents that the check left, with the cursor that belongs to this record.
-fn contents_for(calls: &dyn Calls, bundle: &[u8], host: &[u8]) -> (u32, Vec<u8>) {
-    let mut contents = vec![0; CONTENTS_SIZE];
-    let told = calls.check(bundle, &mut contents);
-    if told.number == SERVED {
-        if let Some(HostRecord { stage: Stage::Sending { entry, block }, .. }) = HostRecord::read(host) {
-            let entries = entries_in(bundle);
-            if let Some(own) = entries.get(entry as usize) {
-                let start = four(&bundle[8 + 24 * entry as usize + 16..]) as u64;
-                let passed: usize = own.records.iter().take(block as usize + 1).map(|(_, data)| 5 + data.len()).sum();
-                contents[85..93].copy_from_slice(&(start + passed as u64).to_le_bytes());
-            }
-        }
-    }
-    (told.number, contents)
-}
-
 struct Side {
     calls: &'static dyn Calls,
     host: Lent,
@@ -214,10 +197,10 @@ struct Side {
 pub fn run_host(case: &Case, tally: &mut Tally) -> Outcome {
     let bundle = Lent::new(case.bytes_at("bundle"));
     let mut sides = Vec::new();
-    let mut accepted = false;
     for calls in ALL {
-        let (number, contents) = contents_for(calls, bundle.bytes(), case.bytes_at("host"));
-        accepted = number == SERVED;
+        // What the check leaves, also of a refused bundle, and whatever the record is in the middle of.
+        let mut contents = [0; CONTENTS_SIZE];
+        calls.check(bundle.bytes(), &mut contents);
         sides.push(Side {
             calls,
             host: Lent::new(case.bytes_at("host")),
@@ -236,14 +219,17 @@ pub fn run_host(case: &Case, tally: &mut Tally) -> Outcome {
             let told = side.calls.step(side.host.lend(), bundle.bytes(), reply.bytes(), side.packet.lend());
             guarded(side.calls, &[&side.host, &bundle, &reply, &side.packet])?;
             let report = side.calls.report(side.host.bytes());
-            if accepted {
-                let kept = side.calls.step_checked(side.kept.lend(), side.contents.lend(), bundle.bytes(), reply.bytes(), side.kept_packet.lend());
-                guarded(side.calls, &[&side.kept, &side.contents, &bundle, &reply, &side.kept_packet])?;
-                if kept != told || side.kept.bytes() != side.host.bytes() || side.kept_packet.bytes() != side.packet.bytes() {
-                    let name = side.calls.name();
-                    let answers = [("step", side_text(side, told)), ("step over contents", kept_text(side, kept))];
-                    return Err(difference(&format!("reply {place}, {name}: the two steps differ"), &answers));
-                }
+            let older = side.contents.bytes().to_vec();
+            let kept = side.calls.step_checked(side.kept.lend(), side.contents.lend(), bundle.bytes(), reply.bytes(), side.kept_packet.lend());
+            guarded(side.calls, &[&side.kept, &side.contents, &bundle, &reply, &side.kept_packet])?;
+            if kept != told || side.kept.bytes() != side.host.bytes() || side.kept_packet.bytes() != side.packet.bytes() {
+                let name = side.calls.name();
+                let answers = [("step", side_text(side, told)), ("step over contents", kept_text(side, kept))];
+                return Err(difference(&format!("reply {place}, {name}: the two steps differ"), &answers));
+            }
+            // At every third reply the next step is lent contents that are older than its record.
+            if place % 3 == 1 {
+                side.contents.lend().copy_from_slice(&older);
             }
             answers.push((told, report));
         }
@@ -297,14 +283,18 @@ pub fn make_contents(r: &mut Random) -> Case {
     let mut contents = vec![0; CONTENTS_SIZE];
     made::Made.check(&bytes, &mut contents);
     for _ in 0..r.between(1, 3) {
-        let place = 1 + 12 * r.below(7) + 4 * r.below(3);
-        match r.below(6) {
-            0 => contents[0] = r.pick(&[0, 1, 7, 8, 31, 32, 255]),
+        let place = 3 + 4 * r.below(7 * 3 + 2);
+        match r.below(7) {
+            0 => contents[2] = r.pick(&[0, 1, 7, 8, 31, 32, 255]),
             1 => contents = r.bytes(CONTENTS_SIZE),
             2 => {
+                // A cursor that is anything, for the block that the record may have in hand.
                 let cursor = r.pick(&[0, 1, u64::MAX, u64::MAX - 4, bytes.len() as u64, r.clone().below(300) as u64]);
-                contents[85..93].copy_from_slice(&cursor.to_le_bytes());
+                let (entry, block) = (r.below(records.len()) as u32, r.below(3) as u32);
+                let kept = Contents::read(&contents).unwrap_or_default();
+                contents = Contents { entry, block, cursor, ..kept }.bytes().to_vec();
             }
+            3 => contents[r.below(2)] = r.pick(&[0, 1, 7, 8, 9, 255]),
             _ => {
                 let was = four(&contents[place..]);
                 let next = r.pick(&[0, 1, u32::MAX, was.wrapping_add(1), was.wrapping_sub(1), was / 2, bytes.len() as u32]);
@@ -320,7 +310,7 @@ pub fn make_contents(r: &mut Random) -> Case {
         followed = follow(followed, &bytes, &reply);
         replies.push(reply);
     }
-    let size = if r.percent(2) { r.pick(&[0, 92, 94]) } else { CONTENTS_SIZE };
+    let size = if r.percent(2) { r.pick(&[0, CONTENTS_SIZE - 1, CONTENTS_SIZE + 1]) } else { CONTENTS_SIZE };
     contents.resize(size, 0);
     Case::aimed("").bytes("host", host.bytes()).bytes("bundle", bytes).bytes("contents", contents).list("replies", replies)
 }

@@ -292,35 +292,57 @@ pub struct Body {
     pub records: u32,
 }
 
-/// The contents of a checked bundle with the cursor.
-#[derive(Clone, Copy, Debug, Default, PartialEq, Eq)]
+/// Where the bodies start in contents, and where the block stands whose cursor is kept.
+const BODIES: usize = 3;
+const HAND: usize = BODIES + 7 * 12;
+
+/// The contents of a checked bundle: the row that refuses it and its entry, the count, the bodies, and the block in hand with the cursor behind it.
+#[derive(Clone, Copy, Debug, PartialEq, Eq)]
 pub struct Contents {
+    pub row: u8,
+    pub place: u8,
     pub count: u8,
     pub bodies: [Body; 7],
+    pub entry: u32,
+    pub block: u32,
     pub cursor: u64,
+}
+
+impl Default for Contents {
+    /// No bundle, and no block in hand.
+    fn default() -> Contents {
+        Contents { row: 0, place: 0, count: 0, bodies: [Body::default(); 7], entry: u32::MAX, block: u32::MAX, cursor: 0 }
+    }
 }
 
 impl Contents {
     pub fn bytes(&self) -> [u8; CONTENTS_SIZE] {
         let mut out = [0; CONTENTS_SIZE];
-        out[0] = self.count;
+        out[..3].copy_from_slice(&[self.row, self.place, self.count]);
         for (entry, body) in self.bodies.iter().enumerate() {
-            let own = &mut out[1 + 12 * entry..][..12];
+            let own = &mut out[BODIES + 12 * entry..][..12];
             own[0..4].copy_from_slice(&body.offset.to_le_bytes());
             own[4..8].copy_from_slice(&body.length.to_le_bytes());
             own[8..12].copy_from_slice(&body.records.to_le_bytes());
         }
-        out[85..93].copy_from_slice(&self.cursor.to_le_bytes());
+        out[HAND..][..4].copy_from_slice(&self.entry.to_le_bytes());
+        out[HAND + 4..][..4].copy_from_slice(&self.block.to_le_bytes());
+        out[HAND + 8..].copy_from_slice(&self.cursor.to_le_bytes());
         out
     }
 
-    pub fn read(bytes: &[u8]) -> Contents {
+    /// The contents in these bytes; none in bytes that no check leaves.
+    pub fn read(bytes: &[u8]) -> Option<Contents> {
+        if bytes.len() != CONTENTS_SIZE || bytes[0] > 8 || (bytes[0] == 0 && !(1..=7).contains(&bytes[2])) {
+            return None;
+        }
         let mut bodies = [Body::default(); 7];
         for (entry, body) in bodies.iter_mut().enumerate() {
-            let own = &bytes[1 + 12 * entry..][..12];
+            let own = &bytes[BODIES + 12 * entry..][..12];
             *body = Body { offset: four(own), length: four(&own[4..]), records: four(&own[8..]) };
         }
-        Contents { count: bytes[0], bodies, cursor: number(&bytes[85..93]) }
+        let (entry, block) = (four(&bytes[HAND..]), four(&bytes[HAND + 4..]));
+        Some(Contents { row: bytes[0], place: bytes[1], count: bytes[2], bodies, entry, block, cursor: number(&bytes[HAND + 8..]) })
     }
 }
 

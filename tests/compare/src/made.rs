@@ -11,10 +11,11 @@ use cfu_updater::device::record::Device;
 use cfu_updater::session::owed::Owed;
 use cfu_updater::session::stage::{Offered, Receiving, Stage as DeviceStage};
 use cfu_updater::device::setup::set_up;
+use cfu_updater::host_record::fits::{body_at, in_hand};
 use cfu_updater::host_record::report::Progress;
 use cfu_updater::make::answer::{Sent, StepAnswer, StepRefusal};
 use cfu_updater::host::inner::inner_step;
-use cfu_updater::host::step::step;
+use cfu_updater::host::step::{cursor_for, step};
 use cfu_updater::host_record::record::{End, Host, HostStage, Place, Turn};
 use cfu_updater::image::region::{Region, StagingOffset};
 use cfu_updater::offers::kind::{read_offer_packet, OfferPacket as MadeOfferPacket};
@@ -199,7 +200,8 @@ fn read_host(bytes: &[u8]) -> Host {
 /// The contents of the crate's answer to a check.
 fn contents_of(checked: &Checked) -> Contents {
     let body = |entry: &layout::Entry| Body { offset: entry.offset, length: entry.length, records: entry.records };
-    Contents { count: checked.count, bodies: checked.table.each_ref().map(body), cursor: 0 }
+    let row = layout::row_number(checked.verdict);
+    Contents { row, place: checked.place, count: checked.count, bodies: checked.table.each_ref().map(body), ..Contents::default() }
 }
 
 /// The crate's answer to a check that such contents come from; the offers are read from the bundle and never from here.
@@ -217,7 +219,18 @@ pub fn checked_of(contents: &Contents) -> Checked {
         platform: 0,
     };
     let entry = |body: &Body| layout::Entry { offer, offset: body.offset, length: body.length, records: body.records };
-    Checked { verdict: BundleVerdict::Fine, place: 0, count: contents.count, table: contents.bodies.each_ref().map(entry) }
+    let verdict = match contents.row {
+        0 => BundleVerdict::Fine,
+        1 => BundleVerdict::B1,
+        2 => BundleVerdict::B2,
+        3 => BundleVerdict::B3,
+        4 => BundleVerdict::B4,
+        5 => BundleVerdict::B5,
+        6 => BundleVerdict::B6,
+        7 => BundleVerdict::B7,
+        _ => BundleVerdict::B8,
+    };
+    Checked { verdict, place: contents.place, count: contents.count, table: contents.bodies.each_ref().map(entry) }
 }
 
 fn stepped(answer: StepAnswer, host: &mut [u8], packet: &mut [u8]) -> Step {
@@ -350,17 +363,23 @@ impl Calls for Made {
     }
 
     fn step_checked(&self, host: &mut [u8], contents: &mut [u8], bundle: &[u8], reply: &[u8], packet: &mut [u8]) -> Step {
-        if host.len() != HOST_SIZE || contents.len() != CONTENTS_SIZE {
-            return Step { number: C1, entry: 0, length: 0 };
-        }
+        let kept = match Contents::read(contents) {
+            Some(kept) if host.len() == HOST_SIZE => kept,
+            _ => return Step { number: C1, entry: 0, length: 0 },
+        };
         if packet.len() != LONG_SIZE {
             return Step { number: C3, entry: 0, length: 0 };
         }
-        let kept = Contents::read(contents);
-        // Contents whose count is not 1 to 7 are no accepted bundle's: N1, whatever the record.
-        let known = if (1..=7).contains(&kept.count) { read_host(host) } else { host_of(&HostRecord::lost()) };
-        let answer = inner_step(checked_of(&kept), kept.cursor as usize, known, bundle, reply);
-        contents.copy_from_slice(&Contents { cursor: answer.cursor as u64, ..kept }.bytes());
+        let (known, checked) = (read_host(host), checked_of(&kept));
+        // The kept cursor is the record's own, or it is found by a walk over the body in hand.
+        let cursor = match known.stage {
+            HostStage::Sending(p) if (p.entry, p.block) == (kept.entry, kept.block) => kept.cursor as usize,
+            stage => cursor_for(bundle, body_at(checked.table, in_hand(stage)), stage),
+        };
+        let answer = inner_step(checked, cursor, known, bundle, reply);
+        if let (StepRefusal::Served, HostStage::Sending(p)) = (answer.step.refusal, answer.step.host.stage) {
+            contents.copy_from_slice(&Contents { entry: p.entry, block: p.block, cursor: answer.cursor as u64, ..kept }.bytes());
+        }
         stepped(answer.step, host, packet)
     }
 

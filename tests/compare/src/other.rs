@@ -288,7 +288,11 @@ impl Calls for Other {
         }
         let mut left = Contents::default();
         let answer = match check(bundle) {
-            Err(Fault { row, entry }) => Check { number: row_number(row), entry: entry as u32, count: 0 },
+            Err(Fault { row, entry }) => {
+                let number = row_number(row);
+                (left.row, left.place) = ((number % 256) as u8, entry as u8);
+                Check { number, entry: entry as u32, count: 0 }
+            }
             Ok(read) => {
                 left.count = read.entries.len() as u8;
                 for (body, entry) in left.bodies.iter_mut().zip(&read.entries) {
@@ -320,18 +324,17 @@ impl Calls for Other {
     }
 
     fn step_checked(&self, host: &mut [u8], contents: &mut [u8], bundle: &[u8], reply: &[u8], packet: &mut [u8]) -> Step {
-        if host.len() != HOST_SIZE || contents.len() != CONTENTS_SIZE {
+        let kept = Contents::read(contents);
+        if host.len() != HOST_SIZE || kept.is_none() {
             return Step { number: C1, entry: 0, length: 0 };
         }
         if packet.len() != LONG_SIZE {
             return Step { number: C3, entry: 0, length: 0 };
         }
         let answer = read_host(host).step(bundle, reply);
-        if let (Some(Packet::ForContent(_)), HostStage::Sending { entry, record }) = (answer.packet, answer.host.stage) {
-            if let Ok(read) = check(bundle) {
-                let cursor = place_after(&read, entry as usize, record as usize);
-                contents[85..93].copy_from_slice(&cursor.to_le_bytes());
-            }
+        if let (None, HostStage::Sending { entry, record }, Ok(read)) = (&answer.refused, answer.host.stage, check(bundle)) {
+            let cursor = place_after(&read, entry as usize, record as usize);
+            contents.copy_from_slice(&Contents { entry: entry as u32, block: record as u32, cursor, ..kept.unwrap() }.bytes());
         }
         stepped(answer, host, packet)
     }

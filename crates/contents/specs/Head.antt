@@ -3,7 +3,6 @@ use Prim.Native.Nat.{ℕ}
 use mathlib.Core.List.{List}
 use lib.ListN.{getD}
 use Rattle.wire.specs.Bytes.{number, bytesAt}
-use Rattle.contents.specs.declared.content.ContentFields.{ContentFields}
 use Rattle.contents.specs.declared.head.ContentHead.{ContentHead}
 
 -- the fields of bytes 0-7, as they stand
@@ -13,14 +12,4 @@ headIn p = record {
   length = getD p 1 0;
   sequence = number (bytesAt 2 2 p);
   address = record { 0 = number (bytesAt 4 4 p) };
-}
-
--- the content with this head and these data
-abbrev pub withData : ContentHead → List ℕ → ContentFields
-withData h bytes = record {
-  flags = h .flags;
-  length = h .length;
-  sequence = h .sequence;
-  address = h .address;
-  «data» = bytes;
 }

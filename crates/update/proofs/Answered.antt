@@ -26,4 +26,4 @@ module _ (b : List ℕ) (token : ℕ) (d : Device) (staging : List ℕ) (ran : R
   -- none does
   pub served-answered : (GoodBodies b d → Premise b token d staging) → ran ≡ ended (lastOf b token d staging [])
       → runOf b token d staging ≡ ended (lastOf b token d staging []) → Answered
-  served-answered premise e f = (e ∙ sym f, λ good s. (lastOf b token d staging [], e, demand-three b token d staging [] (premise good)))
+  served-answered premise e f = (e ∙ sym f, λ good s. (e, demand-three b token d staging [] (premise good)))

@@ -106,6 +106,8 @@ abbrev pub DemandThree : Type 0
 DemandThree = (b : List ℕ) (token : ℕ) (d : Device) (staging reply : List ℕ) → Premise b token d staging
     → Demand b token d staging reply (lastOf b token d staging reply)
 
--- demand 3 of an answer: where the bodies are good and no row refuses, it is the answer of a run of which the whole claim holds
+-- demand 3 of an answer: where the bodies are good and no row refuses, it is the answer of the run, of which the whole claim holds
 abbrev pub DemandOf : (b : List ℕ) → (token : ℕ) → Device → (staging : List ℕ) → Ran → Type 0
-DemandOf b token d staging ran = GoodBodies b d → ran .row ≡ answer.served → (s : System) × (ran ≡ ended s) × Demand b token d staging [] s
+DemandOf b token d staging ran =
+    GoodBodies b d → ran .row ≡ answer.served
+    → (ran ≡ ended (lastOf b token d staging [])) × Demand b token d staging [] (lastOf b token d staging [])

@@ -1,7 +1,7 @@
 """The must-fail edits: the wrong programs of each room, and the function that each changes.
 
-An edit file holds one wrong program or several. Each is a comment with its words, then `file:`, `old:` and `new:` of one line. Several stand together only where no
-function that one of them changes calls a function that another changes, so that each is refused in its own function and one check of the room tries them all."""
+An edit file holds one wrong program or several. Each is a comment with its words, then `file:`, `old:` and `new:` of one line. Several stand together where they
+change different functions: each is refused in its own function, and one check of the crate tries them all (docs/DECISIONS.md, Q147)."""
 import glob
 import os
 import re

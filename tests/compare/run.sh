@@ -13,6 +13,13 @@ fail() {
     exit 1
 }
 
+case ${1-} in
+-h | --help)
+    sed -n '2,/^set/{s/^# \{0,1\}//p}' "$0"
+    exit 0
+    ;;
+esac
+
 for tool in python3 cargo rt valgrind; do
     command -v "$tool" >/dev/null 2>&1 || fail "$tool is not installed"
 done

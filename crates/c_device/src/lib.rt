@@ -3,7 +3,7 @@ ghost use mathlib.Core.Path.{_≡_};
 ghost use mathlib.Core.List.{List, _++_, flatten};
 ghost use Prim.Native.Nat.{ℕ};
 ghost use lib.ListN.{length};
-ghost use Rattle.device.specs.Refusals.{readyBytes, readySent, dueSent};
+ghost use Rattle.device.specs.Refusals.{sentWith};
 ghost use Rattle.device.specs.declared.record.Device.{Device};
 ghost use Rattle.in_place.specs.InPlace.{outcomeOf, leftBy};
 ghost use Rattle.c_numbers.specs.Numbers.{filledTo};
@@ -18,6 +18,7 @@ use c_numbers::numbers::WRONG_RECORD;
 use c_numbers::numbers::device_number;
 use c_numbers::numbers::setup_number;
 use c_numbers::types::CReplies;
+use device::answer::ready_reply;
 use device::setup::set_up;
 use device_bytes::DEVICE_SIZE;
 use device_bytes::LIST_SIZE;
@@ -27,10 +28,7 @@ use device_bytes::read_list;
 use in_place::Reply;
 use in_place::content::content_in_place;
 use in_place::offer::offer_in_place;
-use offers::reply::OfferReply;
-use offers::reply::build_offer_reply;
 use session::owed::Owed;
-use wire::codes;
 use wire::words;
 
 // Two packets of 16 bytes, one after the other.
@@ -45,7 +43,7 @@ fn joined(first: [u8; 16], second: [u8; 16]) -> [u8; 32]
 
 // The replies that are sent: the one that is due and the READY that was owed, zeros behind them.
 fn replies_of(due: bool, reply: [u8; 16], ready: Owed) -> [u8; 32]
-    ensures { λ r. ⌜ r ≡ filledTo REPLIES-SIZE (flatten (dueSent due reply ++ readySent ready)) ⌝ }
+    ensures { λ r. ⌜ r ≡ filledTo REPLIES-SIZE (flatten (sentWith due reply ready)) ⌝ }
 {
     let none = [0u8; 16];
     match ready {
@@ -57,11 +55,7 @@ fn replies_of(due: bool, reply: [u8; 16], ready: Owed) -> [u8; 32]
             }
         }
         Owed::Token(token) => {
-            let b = build_offer_reply(OfferReply {
-                token,
-                reason: 0,
-                status: codes::OFFER_READY,
-            });
+            let b = ready_reply(token);
             if due {
                 joined(reply, b)
             } else {
@@ -73,7 +67,7 @@ fn replies_of(due: bool, reply: [u8; 16], ready: Owed) -> [u8; 32]
 
 // How many they are.
 fn count_of(due: bool, reply: [u8; 16], ready: Owed) -> u32
-    ensures { λ r. ⌜ r ≡ length (dueSent due reply ++ readySent ready) ⌝ }
+    ensures { λ r. ⌜ r ≡ length (sentWith due reply ready) ⌝ }
 {
     match ready {
         Owed::Nothing => { if due { 1 } else { 0 } }

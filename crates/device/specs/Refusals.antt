@@ -70,6 +70,10 @@ abbrev pub dueSent : Bool → List ℕ → List (List ℕ)
 dueSent true bytes = bytes ∷ []
 dueSent false bytes = []
 
+-- what is sent, in order: the reply where one is due, and the READY that was owed
+abbrev pub sentWith : Bool → List ℕ → Owed → List (List ℕ)
+sentWith due reply ready = dueSent due reply ++ readySent ready
+
 -- what an answer tells
 abbrev pub told : Answer → Outcome
 told a = record {
@@ -77,7 +81,7 @@ told a = record {
   due = a .due;
   reply = a .reply;
   ready = a .ready;
-  sent = dueSent (a .due) (a .reply) ++ readySent (a .ready);
+  sent = sentWith (a .due) (a .reply) (a .ready);
   device = a .device;
 }
 
@@ -92,7 +96,7 @@ servedWith d parts effect = record {
   due = effect .due;
   reply = effect .reply;
   ready = effect .ready;
-  sent = dueSent (effect .due) (effect .reply) ++ readySent (effect .ready);
+  sent = sentWith (effect .due) (effect .reply) (effect .ready);
   device = withSession d parts (effect .session);
 }
 

@@ -2,10 +2,13 @@
 use crate::record::Device;
 use component::record::Component;
 use component::setup::SetupVerdict;
+use offers::reply::OfferReply;
+use offers::reply::build_offer_reply;
 use session::effect::Effect;
 use session::owed::Owed;
+use wire::codes;
 ghost use mathlib.Core.Path.{_≡_};
-ghost use Rattle.device.specs.Refusals.{rowOf, isRefused, told, refusedBy, servedWith};
+ghost use Rattle.device.specs.Refusals.{rowOf, isRefused, readyBytes, told, refusedBy, servedWith};
 
 // Served, or the row that refuses the call.
 pub enum Refusal {
@@ -24,6 +27,17 @@ pub struct Answer {
     // The owed READY follows the reply, with this token.
     pub ready: Owed,
     pub device: Device,
+}
+
+// The READY that was owed, with its own token: 16 bytes.
+pub fn ready_reply(token: u8) -> [u8; 16]
+    ensures { λ r. ⌜ r ≡ readyBytes token ⌝ }
+{
+    build_offer_reply(OfferReply {
+        token,
+        reason: 0,
+        status: codes::OFFER_READY,
+    })
 }
 
 pub struct VersionAnswer {

@@ -1,6 +1,6 @@
 -- What an entry over the bytes of a record answers, and the bytes that it leaves.
 use Prim.Native.Nat.{ℕ}
-use mathlib.Core.List.{List, _++_}
+use mathlib.Core.List.{List}
 use lib.ListN.{drop}
 use Rattle.contents.specs.Head.{headIn}
 use Rattle.offers.specs.declared.kind.OfferPacket.{OfferPacket}
@@ -8,7 +8,7 @@ use Rattle.receiving.specs.Receive.{onContent}
 use Rattle.offering.specs.Packet.{onPacket}
 use Rattle.device.specs.declared.record.Device.{Device}
 use Rattle.device.specs.Record.{sessionOf}
-use Rattle.device.specs.Refusals.{Row, served, D, rowOf, dueSent, readySent, Outcome, servedWith}
+use Rattle.device.specs.Refusals.{Row, served, D, rowOf, sentWith, Outcome, servedWith}
 use Rattle.device.specs.Content.{sessionPart, received}
 use Rattle.device_bytes.specs.Layout.{deviceBytes, deviceIn}
 use Rattle.in_place.specs.declared.Reply.{Reply}
@@ -20,7 +20,7 @@ outcomeOf r d = record {
   due = r .due;
   reply = r .reply;
   ready = r .ready;
-  sent = dueSent (r .due) (r .reply) ++ readySent (r .ready);
+  sent = sentWith (r .due) (r .reply) (r .ready);
   device = d;
 }
 

@@ -4,15 +4,13 @@ use component::record::Staged;
 use component::setup::SetupVerdict;
 use device::answer::Answer;
 use device::answer::Refusal;
+use device::answer::ready_reply;
 use device::record::Device;
-use offers::reply::OfferReply;
-use offers::reply::build_offer_reply;
 use session::owed::Owed;
 use session::stage::Stage;
 use show::bytes;
 use show::decimal;
 use show::text;
-use wire::codes::OFFER_READY;
 
 pub fn set_up(v: SetupVerdict) {
     match v {
@@ -48,11 +46,7 @@ fn follows(ready: Owed) {
     match ready {
         Owed::Nothing => {}
         Owed::Token(t) => {
-            let r = build_offer_reply(OfferReply {
-                token: t,
-                reason: 0,
-                status: OFFER_READY,
-            });
+            let r = ready_reply(t);
             text(b", then ");
             bytes(&r);
         }

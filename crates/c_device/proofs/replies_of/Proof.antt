@@ -19,8 +19,8 @@ joined-requires-2 c κs = search needs
 enum-known-ready : tie.Need-enum-known-ready
 enum-known-ready c = search needs
 
-build-offer-reply-requires : tie.Need-build-offer-reply-requires
-build-offer-reply-requires c κs = search needs
+ready-reply-requires : tie.Need-ready-reply-requires
+ready-reply-requires c κs = search needs
 
 joined-requires-3 : tie.Need-joined-requires-3
 joined-requires-3 c κs = search needs
@@ -40,12 +40,12 @@ returns-3 : tie.Need-returns-3
 returns-3 c =
     let p = c .before .before .before .before .before .before .args .reply in
     let l : length p ≡ 16 = search needs in
-    let b = c .before .before .build-offer-reply in
+    let b = c .before .before .ready-reply in
     rw (c .before .if2 .taken, c .before .before .before .before .ready .given .1) (rw (b .ensures) at (c .joined3 .ensures) ∙ two-sent p (readyBytes _) l refl)
 
 returns-4 : tie.Need-returns-4
 returns-4 c =
-    let b = c .before .before .build-offer-reply in
+    let b = c .before .before .ready-reply in
     rw (c .before .if2 .left, c .before .before .before .before .ready .given .1) (rw (b .ensures) at (c .joined4 .ensures) ∙ one-sent (readyBytes _) refl)
 
 pub replies-of-spec : {M : Type 1} → statement M
@@ -56,7 +56,7 @@ replies-of-spec =
     joined-requires
     joined-requires-2
     enum-known-ready
-    build-offer-reply-requires
+    ready-reply-requires
     joined-requires-3
     joined-requires-4
     returns

@@ -273,7 +273,7 @@ static cfu_offer offer_of(const struct bundle *b, uint32_t entry)
 /* The count of records that the check wrote into the contents. */
 static uint32_t records_of(const struct bundle *b, uint32_t entry)
 {
-    return number_in(b->contents + 1 + 12 * (entry - 1) + 8, 4);
+    return number_in(b->contents + 3 + 12 * (entry - 1) + 8, 4);
 }
 
 static void show_bundle(const char *name, const struct bundle *b)

@@ -79,6 +79,8 @@ static BUFFER(components, CFU_COMPONENTS_SIZE);
 static BUFFER(host, CFU_HOST_SIZE);
 static BUFFER(other_host, CFU_HOST_SIZE);
 static BUFFER(contents, CFU_CONTENTS_SIZE);
+static BUFFER(new_contents, CFU_CONTENTS_SIZE);
+static BUFFER(third_host, CFU_HOST_SIZE);
 
 /* The bench device of document 01, as seven times id, version, base, length. */
 static const uint8_t BENCH[CFU_LIST_SIZE] = {1, 0, 2, 0, 1, 0, 0, 0, 0, 64, 0, 0, 0, 2, 0, 1, 0, 1, 64, 0, 0, 0, 64, 0, 0, 0};
@@ -300,19 +302,31 @@ static void packet_calls(void)
     CHECK(cfu_read_version_reply(AT(longer), components + EDGE, 50).number == CFU_C3);
 }
 
+/* Contents that a check leaves: these bytes, zeros up to the block in hand, which is none, and cursor 0. */
+static int new_check(const uint8_t *buffer, const uint8_t *bytes, size_t count)
+{
+    uint8_t wanted[CFU_CONTENTS_SIZE] = { 0 };
+    memcpy(wanted, bytes, count);
+    memset(wanted + 3 + 7 * 12, 0xFF, 8);
+    return memcmp(buffer + EDGE, wanted, sizeof wanted) == 0;
+}
+
 /* E13 by the step that checks the bundle each time and by the one that does not, side by side. */
 static void host_calls(const uint8_t *bundle, size_t length)
 {
     CLEAR(contents, 0x33);
     cfu_check k = cfu_bundle_check(bundle, length, AT(contents));
     CHECK(k.number == CFU_SERVED && k.entry == 0 && k.count == 2);
-    CHECK(SAME(contents, 2, 56, 0, 0, 0, 74, 0, 0, 0, 2, 0, 0, 0, 130, 0, 0, 0, 74, 0, 0, 0, 2));
+    static const uint8_t two[27] = { 0, 0, 2, 56, 0, 0, 0, 74, 0, 0, 0, 2, 0, 0, 0, 130, 0, 0, 0, 74, 0, 0, 0, 2 };
+    CHECK(new_check(contents, two, sizeof two));
     EDGES(contents);
+    memcpy(new_contents, contents, sizeof contents);
     bench();
     CLEAR(host, 0x33);
     CHECK(cfu_host_fresh(AT(host), 0xA5) == CFU_SERVED);
     CHECK(SAME(host, 0xA5));
     memcpy(other_host, host, sizeof host);
+    memcpy(third_host, host, sizeof host);
     CLEAR(replies, 0);
     size_t reply_len = 0;
     unsigned packets = 0;
@@ -325,6 +339,15 @@ static void host_calls(const uint8_t *bundle, size_t length)
         EDGES(host), EDGES(other_host), EDGES(contents), EDGES(longer), EDGES(other);
         CHECK(a.number == CFU_SERVED && b.number == CFU_SERVED && a.length == b.length && a.entry == 0 && b.entry == 0);
         CHECK(memcmp(host, other_host, sizeof host) == 0 && memcmp(longer + EDGE, other + EDGE, CFU_LONG_SIZE) == 0);
+        /* the same step over the contents of a new check: the place of the record in hand is found again */
+        BUFFER(third, CFU_LONG_SIZE);
+        BUFFER(third_contents, CFU_CONTENTS_SIZE);
+        memcpy(third_contents, new_contents, sizeof third_contents);
+        CLEAR(third, 0x44);
+        cfu_step c = cfu_host_step_checked(AT(third_host), AT(third_contents), bundle, length, replies + EDGE, reply_len, AT(third));
+        EDGES(third_host), EDGES(third_contents), EDGES(third);
+        CHECK(c.number == CFU_SERVED && c.length == a.length && memcmp(host, third_host, sizeof host) == 0);
+        CHECK(memcmp(longer + EDGE, third + EDGE, CFU_LONG_SIZE) == 0);
         if (a.length == 0 || packets == 100)
             break;
         packets++;
@@ -378,16 +401,25 @@ static void host_calls(const uint8_t *bundle, size_t length)
     cfu_step a = cfu_host_step(AT(host), bundle, length - 1, replies + EDGE, 0, AT(longer));
     CHECK(a.number == CFU_B7 && a.entry == 2 && a.length == 0 && FILLED(longer, 0) && SAME(host, 0xA5));
     k = cfu_bundle_check(bundle, length - 1, AT(contents));
-    CHECK(k.number == CFU_B7 && k.entry == 2 && k.count == 0 && FILLED(contents, 0));
+    CHECK(k.number == CFU_B7 && k.entry == 2 && k.count == 0 && new_check(contents, (const uint8_t[]){ 7, 2 }, 2));
+    CLEAR(longer, 0x33);
+    a = cfu_host_step_checked(AT(host), AT(contents), bundle, length - 1, replies + EDGE, 0, AT(longer));
+    CHECK(a.number == CFU_B7 && a.entry == 2 && a.length == 0 && FILLED(longer, 0) && SAME(host, 0xA5) && new_check(contents, (const uint8_t[]){ 7, 2 }, 2));
+
+    /* contents that no check leaves: a row over 8, and no row with a count that is not 1 to 7 */
+    contents[EDGE] = 9;
+    CHECK(cfu_host_step_checked(AT(host), AT(contents), bundle, length, replies + EDGE, 0, AT(longer)).number == CFU_C1);
+    contents[EDGE] = 0;
+    CHECK(cfu_host_step_checked(AT(host), AT(contents), bundle, length, replies + EDGE, 0, AT(longer)).number == CFU_C1);
 
     /* C1 and C3 */
-    CHECK(cfu_bundle_check(bundle, length, contents + EDGE, 92).number == CFU_C3);
+    CHECK(cfu_bundle_check(bundle, length, contents + EDGE, CFU_CONTENTS_SIZE - 1).number == CFU_C3);
     CHECK(cfu_host_fresh(host + EDGE, 23, 0xA5) == CFU_C1);
     CHECK(cfu_host_step(host + EDGE, 25, bundle, length, replies + EDGE, 0, AT(longer)).number == CFU_C1);
     CHECK(cfu_host_step(AT(host), bundle, length, replies + EDGE, 0, longer + EDGE, 16).number == CFU_C3);
     CHECK(cfu_host_step_checked(host + EDGE, 0, AT(contents), bundle, length, replies + EDGE, 0, AT(longer)).number == CFU_C1);
-    CHECK(cfu_host_step_checked(AT(host), contents + EDGE, 92, bundle, length, replies + EDGE, 0, AT(longer)).number == CFU_C1);
-    CHECK(cfu_host_step_checked(AT(host), AT(contents), bundle, length, replies + EDGE, 0, longer + EDGE, 59).number == CFU_C3);
+    CHECK(cfu_host_step_checked(AT(host), contents + EDGE, CFU_CONTENTS_SIZE - 1, bundle, length, replies + EDGE, 0, AT(longer)).number == CFU_C1);
+    CHECK(cfu_host_step_checked(AT(host), AT(new_contents), bundle, length, replies + EDGE, 0, longer + EDGE, 59).number == CFU_C3);
     CHECK(cfu_host_report(host + EDGE, 23).number == CFU_C1);
 }
 

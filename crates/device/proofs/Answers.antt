@@ -41,6 +41,12 @@ module _ (row : Row) (d : Device) (answer : Outcome) where
     go served e = refl
     go (D j) e = let z : _≡_ {A = ℕ} 0 1 = cc in absurd (omega arith)
 
+-- a served content packet is refused by no row
+pub content-served : (d : Device) (staging report : List ℕ) → contentEntry d staging report .row ≡ served → refusalOf 60 d (length staging) (length report) ≡ served
+unfolding contentEntry
+content-served d staging report e =
+    served-row (refusalOf 60 d (length staging) (length report)) d (received d (onContent (sessionPart d) (sessionOf d) (headIn report) (drop 8 report) staging)) e
+
 pub refused-changes-nothing : RefusedChangesNothing
 unfolding serveEntry serveStaging offerEntry contentEntry contentStaging
 refused-changes-nothing d Offer staging report k e =

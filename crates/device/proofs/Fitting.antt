@@ -36,6 +36,7 @@ use Rattle.device.specs.declared.record.Device.{Device}
 use Rattle.session.specs.declared.owed.Owed.{Owed}
 use Rattle.session.specs.declared.stage.Stage.{Stage}
 use Rattle.session.specs.declared.stage.Stage.the-variants.{Idle, Offered, Receiving}
+use Rattle.device.specs.declared.answer.Channel.{Channel}
 use Rattle.device.specs.Record.{FitsDevice, part, blankDevice}
 use Rattle.device.specs.Refusals.{breaksD1}
 use Rattle.device.specs.Promises.{SetUpFits, ResetKeepsFits, ServeKeepsFits}
@@ -79,12 +80,12 @@ block-bytes r c bytes s h b =
     write-bytes r _ (either Bytes (isFirst c) _ _ (erase-bytes r s b) b) _ _ (take-bytes (c .length) bytes h)
 
 -- each of the six moves keeps the values
-move-fits : {d d′ : Device} {staging report : List ℕ} → FitsDevice d → Bytes report → Bytes staging → Move d staging report d′ → FitsDevice d′
+move-fits : {d d′ : Device} {channel : Channel} {staging report : List ℕ} → FitsDevice d → Bytes report → Bytes staging → Move d channel staging report d′ → FitsDevice d′
 unfolding offers.fieldsIn
 move-fits f h b stays = f
 move-fits {d} f h b idles = fits-with d f (d .parts) (f .slots) (f .each) Idle tt _ tt
-move-fits {d} {report = report} f h b (opens k e q) =
-    let m = find-at _ (d .count) (d .parts) k e .0 in
+move-fits {d} {report = report} f h b (opens k a q) =
+    let m = find-at _ (d .count) (d .parts) k (a .component) .0 in
     fits-with d f (d .parts) (f .slots) (f .each) _ (omega (arith, f .count), h 3) _ (f .owed)
 move-fits {d} f h b (owes e) = fits-with d f (d .parts) (f .slots) (f .each) _ (f .stage) _ (h 3)
 move-fits {d} f h b (goes k e) =

@@ -16,7 +16,8 @@ use Rattle.component.specs.declared.record.Component.{Component}
 use Rattle.component.specs.declared.setup.SetupVerdict.{SetupVerdict}
 use Rattle.component.specs.declared.setup.SetupVerdict.the-variants.{Fine, S1, S2, S3, S4}
 use Rattle.device.specs.declared.record.Device.{Device}
-use Rattle.device.specs.Record.{part, idleWith}
+use Rattle.device.specs.declared.answer.Channel.{Channel}
+use Rattle.device.specs.Record.{part}
 use Rattle.device.specs.Refusals.{breaksD1}
 use Rattle.slots.specs.Slots.{resetParts}
 use Rattle.session.specs.Stage.{atSlot}
@@ -52,11 +53,11 @@ set-up-passes platform list count n l = go (setupVerdict n count (map listed lis
   go S4 e h = let z : _≡_ {A = ℕ} 0 1 = cc in absurd (omega arith)
 
 -- each of the six moves keeps D1
-move-passes : {d d′ : Device} {staging report : List ℕ} → Passes d → Move d staging report d′ → breaksD1 d′ ≡ false
+move-passes : {d d′ : Device} {channel : Channel} {staging report : List ℕ} → Passes d → Move d channel staging report d′ → breaksD1 d′ ≡ false
 move-passes {d} p stays = keeps p
 move-passes {d} p idles = keeps (record { setup = p .setup; slot = refl; owed = refl; staged = p .staged })
-move-passes {d} p (opens k f q) =
-    let b = lt-leb (d .count) k (find-at _ (d .count) (d .parts) k f .0) in
+move-passes {d} p (opens k a q) =
+    let b = lt-leb (d .count) k (find-at _ (d .count) (d .parts) k (a .component) .0) in
     keeps (record { setup = p .setup; slot = rw (b, q); owed = refl; staged = p .staged })
 move-passes {d} p (owes e) =
     let s = open-at (d .stage) e in

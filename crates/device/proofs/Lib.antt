@@ -8,6 +8,7 @@ pub mod Answers
 pub mod Bytes
 pub mod Fitting
 pub mod Staging
+pub mod Sessions
 pub mod Replies
 pub mod Calls
 pub mod Offering

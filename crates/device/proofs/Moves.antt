@@ -7,7 +7,7 @@ use lib.Dec.{eqb, leb}
 use lib.ListN.{length, getD, drop, set}
 use Rattle.wire.specs.Codes.{KIND-INFORMATION, KIND-EXTENDED, NOTIFY-ON-READY, INFO-START-ENTIRE-TRANSACTION, INFO-END-OFFER-LIST}
 use Rattle.wire.specs.declared.version.Version.{Version}
-use Rattle.offers.specs.Kind.{kindIn}
+use Rattle.offers.specs.Kind.{offer, kindIn}
 use Rattle.offers.specs.Offer as offers
 use Rattle.offers.specs.Signal.{signalIn}
 use Rattle.offers.specs.declared.signal.Signal.{Signal}
@@ -46,22 +46,23 @@ use Rattle.device.specs.Refusals.{Row, served, D, refusalOf, unlessRefus
 use Rattle.device.specs.Offer.{onKind, offerEntry}
 use Rattle.device.specs.Content.{sessionPart, contentVerdict, received, contentEntry}
 use Rattle.device.specs.Entries.{serveEntry}
+use Rattle.device.specs.Sessions.{Accepts}
 
--- what an entry can do to the record d, where the report is an offer or a signal, or content for this staging buffer
-pub data Move (d : Device) (staging report : List ℕ) : Device → Type 0 where
-  stays : Move d staging report d
-  idles : Move d staging report (toIdle d)
-  opens : (k : ℕ) → find d (offers.fieldsIn report .id) ≡ found.At k → isPending (part d k .staged) ≡ false
-      → Move d staging report (withSession d (d .parts) (inStage (sessionOf d) (Offered (record { slot = k; token = offers.fieldsIn report .token }))))
-  owes : isOpen (d .stage) ≡ true → Move d staging report (withSession d (d .parts) (owing (sessionOf d) (owed.Token (getD report 3 0))))
-  goes : (k : ℕ) → openSlot (d .stage) ≡ found.At k → Move d staging report (withSession d (d .parts) (goesOn (sessionOf d) k (headIn report)))
+-- what the entry of a channel can do to the record d, where the report is an offer or a signal, or content for this staging buffer
+pub data Move (d : Device) (channel : Channel) (staging report : List ℕ) : Device → Type 0 where
+  stays : Move d channel staging report d
+  idles : Move d channel staging report (toIdle d)
+  opens : (k : ℕ) → Accepts d channel staging report k → isPending (part d k .staged) ≡ false
+      → Move d channel staging report (withSession d (d .parts) (inStage (sessionOf d) (Offered (record { slot = k; token = offers.fieldsIn report .token }))))
+  owes : isOpen (d .stage) ≡ true → Move d channel staging report (withSession d (d .parts) (owing (sessionOf d) (owed.Token (getD report 3 0))))
+  goes : (k : ℕ) → openSlot (d .stage) ≡ found.At k → Move d channel staging report (withSession d (d .parts) (goesOn (sessionOf d) k (headIn report)))
   stages : (k : ℕ) → openSlot (d .stage) ≡ found.At k → (v : Version)
       → imageIn (regionBytes (part d k .region) (takeBlock (part d k .region) (headIn report) (drop 8 report) staging)) (part d k .id) ≡ Bears v
-      → imageVersionFits (part d k) v ≡ true → Move d staging report (idleWith d (set (d .parts) k (withStaged (part d k) v)))
+      → imageVersionFits (part d k) v ≡ true → Move d channel staging report (idleWith d (set (d .parts) k (withStaged (part d k) v)))
 
 -- where nothing refuses the call, the entry's own answer counts
-pub unless : (P : Device → Type 0) (row : Row) (d : Device) (answer : Outcome) → P d → P (answer .device) → P (unlessRefused row d answer .device)
-unless P served d answer h k = k
+unless : (P : Device → Type 0) (row : Row) (d : Device) (answer : Outcome) → P d → (row ≡ served → P (answer .device)) → P (unlessRefused row d answer .device)
+unless P served d answer h k = k refl
 unless P (D n) d answer h k = h
 
 module _ (d : Device) (staging report : List ℕ) where
@@ -69,40 +70,50 @@ module _ (d : Device) (staging report : List ℕ) where
   abbrev after : Effect → Device
   after effect = withSession d (d .parts) (effect .session)
 
-  after-offer : (v : OfferVerdict) → OfferSays (d .count) (d .parts) (offers.fieldsIn report) v
-      → Move d staging report (withSession d (d .parts) (afterOffer (sessionOf d) (offers.fieldsIn report .token) v))
-  after-offer Busy h = stays
-  after-offer (Reject r) h = stays
-  after-offer Skip h = stays
-  after-offer (Accept k) h = opens k (h .0) (h .1)
+  -- checks 1 to 9 over the offer that the report is
+  abbrev verdictOn : OfferVerdict
+  verdictOn = offerVerdict (d .platform) (d .count) (d .parts) (d .stage) (offers.fieldsIn report)
 
-  after-information : (s : Signal) → Move d staging report (after (onInformation (sessionOf d) s))
+  -- no row refuses the packet, and it is an offer
+  module _ (r : refusalOf 16 d (length staging) (length report) ≡ served) (x : kindIn report ≡ offer (offers.fieldsIn report)) where
+    accepts : (k : ℕ) → verdictOn ≡ Accept k → find d (offers.fieldsIn report .id) ≡ found.At k → Accepts d Offer staging report k
+    unfolding serveEntry offerEntry onOffer
+    accepts k e f = record { fields = offers.fieldsIn report; entry = refl; kind = x; component = f; verdict = e; reply = rw (r, x, e) }
+
+    after-offer : (v : OfferVerdict) → verdictOn ≡ v → OfferSays (d .count) (d .parts) (offers.fieldsIn report) v
+        → Move d Offer staging report (withSession d (d .parts) (afterOffer (sessionOf d) (offers.fieldsIn report .token) v))
+    after-offer Busy e h = stays
+    after-offer (Reject w) e h = stays
+    after-offer Skip e h = stays
+    after-offer (Accept k) e h = opens k (accepts k e (h .0)) (h .1)
+
+  after-information : (s : Signal) → Move d Offer staging report (after (onInformation (sessionOf d) s))
   unfolding onInformation
   after-information s = go (eqb (s .code) INFO-START-ENTIRE-TRANSACTION) (leb (s .code) INFO-END-OFFER-LIST) refl refl where
-    go : (a b : Bool) → eqb (s .code) INFO-START-ENTIRE-TRANSACTION ≡ a → leb (s .code) INFO-END-OFFER-LIST ≡ b → Move d staging report (after (onInformation (sessionOf d) s))
+    go : (a b : Bool) → eqb (s .code) INFO-START-ENTIRE-TRANSACTION ≡ a → leb (s .code) INFO-END-OFFER-LIST ≡ b → Move d Offer staging report (after (onInformation (sessionOf d) s))
     go true b e f = rw e idles
     go false true e f = rw (e, f) stays
     go false false e f = rw (e, f) stays
 
-  after-notify : (b : Bool) (o : Owed) → isOpen (d .stage) ≡ b → Move d staging report (after (onNotify (sessionOf d) (getD report 3 0) b o))
+  after-notify : (b : Bool) (o : Owed) → isOpen (d .stage) ≡ b → Move d Offer staging report (after (onNotify (sessionOf d) (getD report 3 0) b o))
   after-notify false o e = stays
   after-notify true owed.Nothing e = owes e
   after-notify true (owed.Token t) e = stays
 
-  after-extended : Move d staging report (after (onExtended (sessionOf d) (signalIn report)))
+  after-extended : Move d Offer staging report (after (onExtended (sessionOf d) (signalIn report)))
   unfolding onExtended
   after-extended = go (eqb (getD report 0 0) NOTIFY-ON-READY) refl where
-    go : (b : Bool) → eqb (getD report 0 0) NOTIFY-ON-READY ≡ b → Move d staging report (after (onExtended (sessionOf d) (signalIn report)))
+    go : (b : Bool) → eqb (getD report 0 0) NOTIFY-ON-READY ≡ b → Move d Offer staging report (after (onExtended (sessionOf d) (signalIn report)))
     go true e = rw e (after-notify (isOpen (d .stage)) (d .owed) refl)
     go false e = rw e stays
 
-  after-kind : Move d staging report (onKind d (kindIn report) .device)
+  after-kind : refusalOf 16 d (length staging) (length report) ≡ served → Move d Offer staging report (onKind d (kindIn report) .device)
   unfolding kindIn onOffer
-  after-kind = go (eqb (getD report 2 0) KIND-INFORMATION) (eqb (getD report 2 0) KIND-EXTENDED) refl refl where
-    go : (a b : Bool) → eqb (getD report 2 0) KIND-INFORMATION ≡ a → eqb (getD report 2 0) KIND-EXTENDED ≡ b → Move d staging report (onKind d (kindIn report) .device)
+  after-kind r = go (eqb (getD report 2 0) KIND-INFORMATION) (eqb (getD report 2 0) KIND-EXTENDED) refl refl where
+    go : (a b : Bool) → eqb (getD report 2 0) KIND-INFORMATION ≡ a → eqb (getD report 2 0) KIND-EXTENDED ≡ b → Move d Offer staging report (onKind d (kindIn report) .device)
     go true b e f = rw e (after-information (signalIn report))
     go false true e f = rw (e, f) after-extended
-    go false false e f = rw (e, f) (after-offer (offerVerdict (d .platform) (d .count) (d .parts) (d .stage) (offers.fieldsIn report)) (offer-says (d .platform) (d .count) (d .parts) (d .stage) (offers.fieldsIn report)))
+    go false false e f = rw (e, f) (after-offer r (rw (e, f)) verdictOn refl (offer-says (d .platform) (d .count) (d .parts) (d .stage) (offers.fieldsIn report)))
 
   -- the record after a content packet for the component in slot k
   abbrev taken : (k : ℕ) → Taken → Device
@@ -114,31 +125,31 @@ module _ (d : Device) (staging report : List ℕ) where
     written = takeBlock (part d k .region) (headIn report) (drop 8 report) staging
 
     after-judge : (m : Image) → imageIn (regionBytes (part d k .region) written) (part d k .id) ≡ m
-        → Move d staging report (idleWith d (set (d .parts) k (judge (part d k) m .part)))
+        → Move d Content staging report (idleWith d (set (d .parts) k (judge (part d k) m .part)))
     after-judge Damaged e = rw (kept (d .parts) k) idles
     after-judge Foreign e = rw (kept (d .parts) k) idles
     after-judge (Bears v) e = go (imageVersionFits (part d k) v) refl where
-      go : (b : Bool) → imageVersionFits (part d k) v ≡ b → Move d staging report (idleWith d (set (d .parts) k (judge (part d k) (Bears v) .part)))
+      go : (b : Bool) → imageVersionFits (part d k) v ≡ b → Move d Content staging report (idleWith d (set (d .parts) k (judge (part d k) (Bears v) .part)))
       go true f = rw f (stages k h v e f)
       go false f = rw (f, kept (d .parts) k) idles
 
-    after-block : Move d staging report (taken k (onBlock (part d k) (sessionOf d) k (headIn report) written))
+    after-block : Move d Content staging report (taken k (onBlock (part d k) (sessionOf d) k (headIn report) written))
     unfolding onBlock finish
     after-block = go (isLast (headIn report)) refl where
-      go : (b : Bool) → isLast (headIn report) ≡ b → Move d staging report (taken k (onBlock (part d k) (sessionOf d) k (headIn report) written))
+      go : (b : Bool) → isLast (headIn report) ≡ b → Move d Content staging report (taken k (onBlock (part d k) (sessionOf d) k (headIn report) written))
       go true e = rw e (after-judge _ refl)
       go false e = rw (e, kept (d .parts) k) (goes k h)
 
   after-content : (v : ContentVerdict) → ContentSays (sessionPart d .region) (d .stage) (headIn report) v
-      → Move d staging report (received d (onVerdict (sessionPart d) (sessionOf d) (headIn report) (drop 8 report) staging v) .device)
+      → Move d Content staging report (received d (onVerdict (sessionPart d) (sessionOf d) (headIn report) (drop 8 report) staging v) .device)
   after-content (Refuse s) h = rw (kept (d .parts) (atSlot (d .stage))) stays
   after-content (Take k) h = rw (h .0) (after-block k (h .0))
 
   -- each entry for packets does one of the six
-  pub serve-moves : (channel : Channel) → Move d staging report (serveEntry d channel staging report .device)
+  pub serve-moves : (channel : Channel) → Move d channel staging report (serveEntry d channel staging report .device)
   unfolding serveEntry offerEntry contentEntry
-  serve-moves Offer = unless (Move d staging report) (refusalOf 16 d (length staging) (length report)) d (onKind d (kindIn report)) stays after-kind
+  serve-moves Offer = unless (Move d Offer staging report) (refusalOf 16 d (length staging) (length report)) d (onKind d (kindIn report)) stays after-kind
   serve-moves Content =
-      unless (Move d staging report) (refusalOf 60 d (length staging) (length report)) d
+      unless (Move d Content staging report) (refusalOf 60 d (length staging) (length report)) d
       (received d (onContent (sessionPart d) (sessionOf d) (headIn report) (drop 8 report) staging)) stays
-      (after-content (contentVerdict d (headIn report)) (content-says (sessionPart d .region) (d .stage) (headIn report)))
+      (λ r. after-content (contentVerdict d (headIn report)) (content-says (sessionPart d .region) (d .stage) (headIn report)))

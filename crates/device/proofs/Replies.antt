@@ -32,7 +32,7 @@ use Rattle.device.specs.Refusals.{Outcome, servedWith, refusalOf, readyS
 use Rattle.device.specs.Offer.{onKind, offerEntry}
 use Rattle.device.specs.Content.{sessionPart, contentVerdict, received, contentEntry}
 use Rattle.device.specs.Promises.{awaits, becomesIdle, OfferReplies, ContentReplies}
-use Rattle.device.proofs.Answers.{served-row}
+use Rattle.device.proofs.Answers.{served-row, content-served}
 
 -- just its reply is sent
 abbrev One : Device → Effect → Type 0
@@ -89,5 +89,4 @@ pub content-replies : ContentReplies
 unfolding contentEntry
 content-replies d staging report e =
     let v = contentVerdict d (headIn report) in
-    let r = served-row (refusalOf 60 d (length staging) (length report)) d (received d (onVerdict (sessionPart d) (sessionOf d) (headIn report) (drop 8 report) staging v)) e in
-    rw r (verdict-sends d (headIn report) (drop 8 report) staging v (content-says (sessionPart d .region) (d .stage) (headIn report)))
+    rw (content-served d staging report e) (verdict-sends d (headIn report) (drop 8 report) staging v (content-says (sessionPart d .region) (d .stage) (headIn report)))

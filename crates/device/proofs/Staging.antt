@@ -16,6 +16,8 @@ use Rattle.image.specs.declared.region.Region.{Region}
 use Rattle.image.proofs.region.Within.{region-length, blank-length, within-same, inside, erase-inside, write-inside, put-place, erase-length, write-length}
 use Rattle.receiving.specs.declared.checks.ContentVerdict.{ContentVerdict}
 use Rattle.receiving.specs.declared.checks.ContentVerdict.the-variants.{Refuse, Take}
+use Rattle.device.specs.declared.record.Device.{Device}
+use Rattle.device.specs.Record.{FitsDevice}
 use Rattle.device.specs.Refusals.{Row, served, D, refusalOf}
 use Rattle.receiving.specs.Content.{isFirst, takeBlock}
 use Rattle.receiving.proofs.checks.Laws.{ContentSays, content-says}
@@ -148,16 +150,19 @@ module _ (r : Region) (c : ContentHead) (bytes s : List ℕ) where
         past (inl q) = inl (omega arith)
         past (inr q) = inr (omega arith)
 
-pub staging-changes : StagingChanges
+-- the buffer keeps its length, and changes only by a block
+abbrev ByBlock : Device → (staging report : List ℕ) → Type 0
+ByBlock d staging report =
+    (length (contentStaging d staging report) ≡ length staging) × ((contentStaging d staging report ≡ staging) ⊎ TakesBlock d staging report)
+
+-- .. whatever numbers stand in the report
+pub changes : (d : Device) (staging report : List ℕ) → FitsDevice d → ByBlock d staging report
 unfolding contentStaging contentEntry fieldsIn
-staging-changes d staging report f h = go (refusalOf 60 d (length staging) (length report)) refl where
+changes d staging report f = go (refusalOf 60 d (length staging) (length report)) refl where
   c : ContentHead
   c = headIn report
 
-  Result : Type 0
-  Result = (length (contentStaging d staging report) ≡ length staging) × ((contentStaging d staging report ≡ staging) ⊎ TakesBlock d staging report)
-
-  by-verdict : (v : ContentVerdict) → contentVerdict d c ≡ v → ContentSays (sessionPart d .region) (d .stage) c v → refusalOf 60 d (length staging) (length report) ≡ served → Result
+  by-verdict : (v : ContentVerdict) → contentVerdict d c ≡ v → ContentSays (sessionPart d .region) (d .stage) c v → refusalOf 60 d (length staging) (length report) ≡ served → ByBlock d staging report
   by-verdict (Refuse s) e says r = (rw (r, e), inl (rw (r, e)))
   by-verdict (Take k) e says r =
       let v = serves 60 d (length staging) (length report) r in
@@ -176,6 +181,9 @@ staging-changes d staging report f h = go (refusalOf 60 d (length staging) (leng
         }),
       )
 
-  go : (row : Row) → refusalOf 60 d (length staging) (length report) ≡ row → Result
+  go : (row : Row) → refusalOf 60 d (length staging) (length report) ≡ row → ByBlock d staging report
   go served r = by-verdict (contentVerdict d c) refl (content-says (sessionPart d .region) (d .stage) c) r
   go (D k) r = (rw r, inl (rw r))
+
+pub staging-changes : StagingChanges
+staging-changes d staging report f h = changes d staging report f

@@ -5,4 +5,5 @@ pub mod Content
 pub mod Entries
 pub mod Promises
 pub mod Images
+pub mod Sessions
 pub mod Bench

@@ -1,12 +1,14 @@
 -- The components of a version reply are bytes of the one length and read back, both ways. Assumes nothing.
 use mathlib.Core.Path.{_≡_, refl, sym, ap, ap₂, _∙_}
-use mathlib.Core.List.{List, [], _∷_, _++_}
-use Prim.Native.Nat.{ℕ, zero, suc, _*_, _≤_}
+use mathlib.Core.List.{List, [], _∷_, _++_, append-assoc}
+use Prim.Native.Nat.{ℕ, zero, suc, _+_, _*_, _≤_}
 use native.Mathlib.Omega.{arith}
-use lib.ListN.{length, getD, drop, length-append, length-drop, drop-of-length-le}
+use lib.ListN.{length, getD, take, drop, replicate, length-append, length-drop, drop-of-length-le, take-append-drop, replicate-append-replicate}
+use lib.Seq.{take-at, length-take-le}
 use Rattle.wire.specs.Bytes.{Bytes, bytesOf, bytesAt}
 use Rattle.wire.specs.Version.{versionBytes}
-use Rattle.wire.proofs.Bounds.{cons-bytes, join-bytes, no-bytes, word-bytes, version-bytes, rest-bytes}
+use Rattle.wire.proofs.Bounds.{cons-bytes, join-bytes, no-bytes, word-bytes, version-bytes, rest-bytes, word-fits, version-fits}
+use Rattle.wire.proofs.Pieces.{read-sized}
 use Rattle.wire.proofs.version.Laws.{parts, version-back}
 use Rattle.wire.proofs.words.Laws.{round, back, split}
 use Rattle.versions.specs.Reply.{none, FitsEntry}
@@ -62,3 +64,38 @@ read-written (suc n) q l h =
 -- 49 bytes that were read are written again
 pub components-write-back : ComponentsWriteBack
 components-write-back q k = read-written 7 q (k .size) (k .bytes)
+
+-- there are seven
+pub components-seven : (q : List ℕ) → length (componentsIn 7 q) ≡ 7
+unfolding componentsIn
+components-seven q = read-sized RUNNING-SIZE runningIn componentsIn (λ q. refl) (λ n q. refl) 7 q
+
+-- what is read of bytes fits
+pub components-fit : (n : ℕ) (q : List ℕ) → Bytes q → (i : ℕ) → FitsEntry (getD (componentsIn n q) i none)
+unfolding componentsIn
+components-fit zero q h i = record { version = omega arith; id = omega arith; platform = omega arith }
+components-fit (suc n) q h zero = record { version = version-fits 0 q h; id = h 4; platform = word-fits 2 5 q h }
+components-fit (suc n) q h (suc i) = components-fit n (drop RUNNING-SIZE q) (rest-bytes RUNNING-SIZE q h) i
+
+-- components after components
+components-join : (a b : List Running) → componentsBytes (a ++ b) ≡ componentsBytes a ++ componentsBytes b
+unfolding componentsBytes
+components-join [] b = refl
+components-join (e ∷ a) b = ap (λ (l : List ℕ). runningBytes e ++ l) (components-join a b) ∙ sym (append-assoc (runningBytes e) (componentsBytes a) (componentsBytes b))
+
+-- empty components are zeros
+none-zeros : (m : ℕ) → componentsBytes (replicate m none) ≡ replicate (m * RUNNING-SIZE) 0
+unfolding componentsBytes
+none-zeros zero = refl
+none-zeros (suc m) =
+    let e : RUNNING-SIZE + m * RUNNING-SIZE ≡ suc m * RUNNING-SIZE = omega arith in
+    ap (λ (l : List ℕ). runningBytes none ++ l) (none-zeros m) ∙ replicate-append-replicate RUNNING-SIZE (m * RUNNING-SIZE) 0 ∙ ap (λ (k : ℕ). replicate k 0) e
+
+-- the first n of components with m empty ones behind them are the first bytes with zeros behind them
+pub components-first : (n m : ℕ) (es : List Running) → n ≤ length es
+    → componentsBytes (take n es ++ replicate m none) ≡ take (n * RUNNING-SIZE) (componentsBytes es) ++ replicate (m * RUNNING-SIZE) 0
+components-first n m es h =
+    let l = components-length (take n es) ∙ ap (λ (k : ℕ). k * RUNNING-SIZE) (length-take-le n es h) in
+    let e = take-at (componentsBytes (take n es)) (componentsBytes (drop n es)) (n * RUNNING-SIZE) l in
+    components-join (take n es) (replicate m none)
+    ∙ ap₂ (λ (x y : List ℕ). x ++ y) (sym e ∙ ap (take (n * RUNNING-SIZE)) (sym (components-join (take n es) (drop n es)) ∙ ap componentsBytes (take-append-drop n es))) (none-zeros m)

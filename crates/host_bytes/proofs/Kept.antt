@@ -1,80 +1,65 @@
--- The inner step over contents that were kept as bytes is the step. It reads no offer of the contents. Assumes nothing.
-use mathlib.Core.Path.{_≡_, refl, sym, ap, ap₂, subst, fun-ext, _∙_}
-use mathlib.Core.Bool.{Bool, true, false, cond}
+-- Over contents that the check of a bundle and the steps over it leave, the inner step is the step, whatever the record, and leaves such contents again. It
+-- reads no offer of the contents. Assumes nothing.
+use mathlib.Core.Path.{_≡_, refl, sym, ap, ap₂, subst, _∙_}
+use mathlib.Core.Bool.{Bool, true, false, true≢false, not, cond, _||_, _&&_}
 use mathlib.Core.List.{List, [], _∷_, _++_, map}
-use Prim.Native.Nat.{ℕ, zero, suc, _+_, _-_}
+use Prim.Native.Nat.{ℕ, zero, suc, _+_, _-_, _^_, _<_, _≤_}
 use native.Mathlib.Omega.{arith}
-use borrow.Author.Tests.{ltb-true, ltb-false}
-use lib.Dec.{eqb, ltb}
-use lib.ListN.{length, getD, take, drop, replicate, length-append, length-map, length-replicate, List·getD-map, List·getD-eq-default}
+use borrow.Author.Tests.{leb-false, le-leb, ltb-true, ltb-false, eqb-true, eq-eqb, ne-eqb}
+use lib.Dec.{eqb, leb, ltb}
+use lib.ListN.{length, getD, take, replicate, length-append, length-map, length-replicate, List·getD-map, List·getD-eq-default}
 use Rattle.wire.specs.Bytes.{Bytes}
+use Rattle.wire.specs.Checks.{firstOf}
 use Rattle.wire.proofs.Bounds.{no-bytes, word-fits}
-use Rattle.records.specs.Walk.{nextOf}
-use Rattle.records.specs.declared.Next.{Next}
-use Rattle.records.specs.declared.Next.the-variants as next
-use Rattle.layout.specs.Layout.{OFFER-LIMIT, countIn, entriesIn}
-use Rattle.layout.specs.Rows.{bundleRow}
-use Rattle.layout.specs.Rows.{served}
-use Rattle.bundle.specs.Contents.{Contents, entryIn, checkOf}
-use Rattle.layout.specs.Layout.{blankEntry}
+use Rattle.wire.proofs.Tests.{both, neither}
+use Rattle.layout.specs.Layout.{OFFER-LIMIT, countIn, entriesIn, blankEntry}
+use Rattle.layout.specs.Rows as bundle
 use Rattle.layout.specs.declared.Entry.{Entry}
+use Rattle.bundle.specs.Contents.{Contents, entryIn, contentsBy, checkOf}
 use Rattle.bundle.proofs.Accepted.{Accepted, accepted}
-use Rattle.decide.specs.Decide.{decideOf, decisionOf}
-use Rattle.host_record.specs.Fits.{recordBreaks}
-use Rattle.host_record.specs.Fits.{lastOf}
-use Rattle.make.specs.Packet.{blockBytes}
-use Rattle.make.specs.Made.{bodyEnd, recordStart, madeBlock, madeOf}
-use Rattle.make.specs.Made.{sending}
-use Rattle.host.specs.Inner.{innerBy, innerOf}
+use Rattle.host_record.specs.Fits.{BUSY-LIMIT, bodyOf, recordsOn, inHand}
+use Rattle.host_record.specs.declared.fits.Body.{Body}
 use Rattle.host_record.specs.declared.record.Host.{Host}
 use Rattle.host_record.specs.declared.record.Place.{Place}
-use Rattle.decide.specs.declared.Action.{Action}
+use Rattle.host_record.specs.declared.record.HostStage.{HostStage}
+use Rattle.host_record.specs.declared.record.HostStage.the-variants.{Fresh, Opening, Listing, Offering, Waiting, Sending, Closing, Ended}
 use Rattle.decide.specs.declared.Decided.{Decided}
 use Rattle.decide.specs.declared.Decided.the-variants as decided
-use Rattle.decide.specs.declared.Action.the-variants as action
-use Rattle.host.proofs.inner.IsStep.{inner-is-step}
-use Rattle.host_bytes.specs.Layout.{contentsBytes, contentsIn, cursorIn}
-use Rattle.host_bytes.specs.Promises.{KeptContentsStep}
-use Rattle.host_bytes.proofs.Contents.{bareEntry, bare, FitsBody, contents-back, cursor-back}
+use Rattle.decide.specs.declared.Move.{Move}
+use Rattle.decide.specs.Decide.{entryOf, decideIn, decisionOf, offerFrom, noted, completes}
+use Rattle.decide.proofs.Moves.{opening-cases, listing-cases, offering-cases, waiting-cases, closing-cases, sending-cases, offer-cases}
+use Rattle.make.specs.Answer.{Row, served, B, N, Step}
+use Rattle.make.specs.Made.{madeOf}
+use Rattle.host.specs.Step.{entryAt, badStage, breaksN1, lastIn, stepOf, stepOn}
+use Rattle.host.specs.Inner.{innerOn, innerBy, innerOf, CursorIn, cursorAt}
+use Rattle.host.proofs.inner.IsStep.{place-inside, agrees}
+use Rattle.host.proofs.step.Laws.{cursor-found}
+use Rattle.host_bytes.specs.Layout.{HAND-START, CONTENTS-SIZE, rowBytes, bodiesBytes, handBytes, noPlace, contentsBytes, contentsIn, bodyRead, placeIn, cursorIn, areContents, isRow, isCount, isKept, cursorFor, keptWith, keptBy}
+use Rattle.host_bytes.specs.Promises.{Keeps, CheckKeeps, KeptContentsStep}
+use Rattle.host_bytes.proofs.Contents.{bareEntry, bare, FitsBody, FitsPlace, Written, contents-sized, hand-changed, place-back, cursor-back, contents-back, body-read}
 
--- an entry without its offer, by its place
+-- an entry without its offer, by its place, and its body
 listed : (l : List Entry) (i : ℕ) → getD (map bareEntry l) i blankEntry ≡ bareEntry (getD l i blankEntry)
 listed l i = List·getD-map bareEntry l i blankEntry
 
-module _ (b : List ℕ) (c : Contents) (cursor : ℕ) where
-  -- the block of a record needs no offer
-  block-bare : (before after : Host) (p : Place) (n : Next) → madeBlock b (bare c) cursor p before after n ≡ madeBlock b c cursor p before after n
-  block-bare before after p next.End = refl
-  block-bare before after p next.Bad = refl
-  block-bare before after p (next.Record address start size past) =
-      ap (λ (e : Entry). sending (blockBytes (p .block) (eqb (p .block + 1) (e .records)) (record { address = address; bytes = take size (drop start b) })) after past)
-      (listed (c .table) (p .entry))
+body-bare : (c : Contents) (i : ℕ) → bodyOf (bare c) i ≡ bodyOf c i
+body-bare c i = ap (λ (e : Entry). record { start = e .offset; end = e .offset + e .length; records = e .records }) (listed (c .table) i)
 
-  -- nor does what an action sends
-  made-bare : (before after : Host) (a : Action) → madeOf b (bare c) cursor before after a ≡ madeOf b c cursor before after a
-  unfolding madeOf
-  made-bare before after action.Nothing = refl
-  made-bare before after (action.Information code) = refl
-  made-bare before after action.Notify = refl
-  made-bare before after (action.Offer entry) = refl
-  made-bare before after (action.Block p) = simp (listed (c .table)) (block-bare before after p (nextOf b (recordStart c cursor p) (bodyEnd c p)))
+-- the inner step reads no offer of the contents
+module _ (b : List ℕ) (c : Contents) (cursor : ℕ) (h : Host) where
+  on-bare : (d : Decided) → innerOn b (bare c) cursor h d ≡ innerOn b c cursor h d
+  on-bare decided.N1 = refl
+  on-bare (decided.Moves m) = ap (λ (y : Body). madeOf b y cursor h (m .host) (m .action)) (body-bare c (entryOf (m .action)))
 
-  -- nor does a decision
-  decision-bare : (h : Host) (reply : List ℕ) → decisionOf (bare c) h reply ≡ decisionOf c h reply
-  unfolding decisionOf
-  decision-bare h reply =
-      ap
-      (λ (records : ℕ → ℕ). cond (recordBreaks (c .count) records h) decided.N1 (decided.Moves (decideOf (c .count) (lastOf records (h .stage)) h reply)))
-      (fun-ext (λ i. ap (λ (e : Entry). e .records) (listed (c .table) i)))
+  by-bare : (r : bundle.Row) (reply : List ℕ) → innerBy r b (bare c) cursor h reply ≡ innerBy r b c cursor h reply
+  by-bare bundle.served reply =
+      ap (λ (y : Body). innerOn b (bare c) cursor h (decisionOf (c .count) (y .records) h reply)) (body-bare c (inHand (h .stage)))
+      ∙ on-bare (decisionOf (c .count) (recordsOn c (inHand (h .stage))) h reply)
+  by-bare (bundle.B k entry) reply = refl
 
-  by-bare : (h : Host) (d : Decided) → innerBy b (bare c) cursor h d ≡ innerBy b c cursor h d
-  by-bare h decided.N1 = refl
-  by-bare h (decided.Moves m) = made-bare h (m .host) (m .action)
-
-  -- nor does the inner step
-  inner-bare : (h : Host) (reply : List ℕ) → innerOf b (bare c) cursor h reply ≡ innerOf b c cursor h reply
+  inner-bare : (reply : List ℕ) → innerOf b (bare c) cursor h reply ≡ innerOf b c cursor h reply
   unfolding innerOf
-  inner-bare h reply = ap (λ (d : Decided). innerBy b (bare c) cursor h d) (decision-bare h reply) ∙ by-bare h (decisionOf c h reply)
+  inner-bare reply = by-bare (c .row) reply
 
 -- no entry fits
 blank-fits : (m k : ℕ) → FitsBody (getD (replicate m blankEntry) k blankEntry)
@@ -97,24 +82,194 @@ module _ (b : List ℕ) (α : Accepted b) where
       go true e = α .packet k (ltb-true k (countIn b) e) .bytes
       go false e = subst Bytes (sym (List·getD-eq-default (entriesIn b) [] {n = k} (omega (arith, ltb-false k (countIn b) e, α .entries)))) no-bytes
 
--- the table of a bundle that was checked
-table-is : (b : List ℕ) → bundleRow b ≡ served → checkOf b .table ≡ map (entryIn b) (entriesIn b) ++ replicate (OFFER-LIMIT - countIn b) blankEntry
+-- a row of the check is one of eight
+abbrev IsRow : bundle.Row → Type 0
+IsRow bundle.served = Unit {0}
+IsRow (bundle.B k entry) = (1 ≤ k) × (k ≤ 8)
+
+either : (t : Bool) (x y : bundle.Row) → IsRow x → IsRow y → IsRow (cond t x y)
+either true x y f g = f
+either false x y f g = g
+
+is-row : (b : List ℕ) → IsRow (bundle.bundleRow b)
+unfolding bundle.bundleRow firstOf
+is-row b =
+    either (bundle.badLength b) _ _ (omega arith, omega arith)
+    (either (bundle.badHead b) _ _ (omega arith, omega arith)
+    (either (bundle.badCount b) _ _ (omega arith, omega arith)
+    (either (bundle.cutTable b) _ _ (omega arith, omega arith)
+    (either (bundle.named (bundle.rowB5 b)) _ _ (omega arith, omega arith)
+    (either (bundle.named (bundle.rowB6 b)) _ _ (omega arith, omega arith)
+    (either (bundle.named (bundle.rowB7 b)) _ _ (omega arith, omega arith)
+    (either (bundle.named (bundle.rowB8 b)) _ _ (omega arith, omega arith) tt)))))))
+
+-- what the check answers can be written
+check-written : (b : List ℕ) → Bytes b → Written (checkOf b)
 unfolding checkOf
-table-is b s = rw s
+check-written b bytes = go (bundle.bundleRow b) refl (is-row b)
+  where
+    go : (r : bundle.Row) → bundle.bundleRow b ≡ r → IsRow r → Written (contentsBy r b)
+    go bundle.served s i =
+        let α = accepted b bytes s in
+        record {
+          seven = simp (length-append, length-map, length-replicate) (omega (arith, α .entries, α .few));
+          fits = entries-fit b α (entriesIn b) (OFFER-LIMIT - countIn b) (entry-bytes b α);
+          row = refl;
+          place = refl;
+        }
+    go (bundle.B k entry) s i = record {
+      seven = length-replicate OFFER-LIMIT blankEntry;
+      fits = blank-fits OFFER-LIMIT;
+      row = rw (ne-eqb k 0 (λ z. omega arith));
+      place = refl;
+    }
 
-table-seven : (b : List ℕ) → Accepted b → bundleRow b ≡ served → length (checkOf b .table) ≡ 7
-table-seven b α s =
-    ap length (table-is b s)
-    ∙ simp (length-append, length-map, length-replicate) (omega (arith, α .entries, α .few))
+-- the block that a step sends fits its words
+abbrev Small : HostStage → Type 0
+Small Fresh = Unit {0}
+Small Opening = Unit {0}
+Small Listing = Unit {0}
+Small (Offering t) = Unit {0}
+Small (Waiting t) = Unit {0}
+Small (Sending p) = FitsPlace p
+Small Closing = Unit {0}
+Small (Ended e) = Unit {0}
 
--- over the bytes that the check left, the inner step is the step
+module _ (b : List ℕ) (α : Accepted b) (h : Host) (reply : List ℕ) where
+  abbrev SmallMove : Move → Type 0
+  SmallMove m = Small (m .host .stage)
+
+  offers : (e : ℕ) (g : Host) → SmallMove (offerFrom (countIn b) e g)
+  offers e g = offer-cases SmallMove (countIn b) e g (λ l. tt) tt
+
+  small-by : (g : HostStage) → h .stage ≡ g → badStage b g ≡ false → SmallMove (decideIn g (countIn b) (lastIn b g) h reply)
+  unfolding decideIn
+  small-by Fresh z w = tt
+  small-by Opening z w = opening-cases SmallMove (countIn b) h reply (λ e. tt) tt
+  small-by Listing z w = listing-cases SmallMove (countIn b) h reply (λ e. tt) (offers 0 h)
+  small-by (Offering t) z w =
+      let l = leb-false (countIn b) (t .entry) (neither (leb (countIn b) (t .entry)) (ltb BUSY-LIMIT (t .busy)) w .0) in
+      offering-cases SmallMove (countIn b) h reply (λ e. tt) t (record { entry = omega (arith, α .few); block = omega arith }) (λ s. offers (t .entry + 1) (noted h s)) (λ m. tt)
+  small-by (Waiting t) z w = waiting-cases SmallMove (countIn b) h reply (λ e. tt) t tt
+  small-by (Sending p) z w =
+      let i = place-inside b p w in
+      sending-cases SmallMove (countIn b) (lastIn b (Sending p)) p h reply (λ u e. tt) (λ u v. offers (p .entry + 1) (completes h (p .entry)))
+      (λ u v. record { entry = omega (arith, i .0, α .few); block = omega (arith, i .1, α .carries (entryAt b (p .entry)) .count) })
+  small-by Closing z w = closing-cases SmallMove (countIn b) h reply (λ e. tt) (λ u. tt)
+  small-by (Ended e) z w = subst Small (sym z) tt
+
+-- what a step leaves where it is served: a block that fits its words, and a right cursor
+abbrev Left : (b : List ℕ) → Row → HostStage → (cursor : ℕ) → Type 0
+Left b served g n = Small g × CursorIn b g n
+Left b (B k entry) g n = Unit {0}
+Left b (N k) g n = Unit {0}
+
+step-left : (b : List ℕ) (h : Host) (n : ℕ) (reply : List ℕ) → Bytes b
+    → (bundle.bundleRow b ≡ bundle.served → badStage b (h .stage) ≡ false → CursorIn b (stepOf b h reply .host .stage) n)
+    → Left b (stepOf b h reply .row) (stepOf b h reply .host .stage) n
+unfolding stepOf stepOn breaksN1
+step-left b h n reply bytes right = go (bundle.bundleRow b) refl
+  where
+    on : bundle.bundleRow b ≡ bundle.served → (t : Bool) → breaksN1 b h ≡ t → Left b (stepOf b h reply .row) (stepOf b h reply .host .stage) n
+    on s true w = rw (s, w) tt
+    on s false w =
+        let c = neither (badStage b (h .stage)) _ w .0 in
+        rw (s, w) (small-by b (accepted b bytes s) h reply (h .stage) refl c, (rw (s, w) at (right s c)))
+
+    go : (r : bundle.Row) → bundle.bundleRow b ≡ r → Left b (stepOf b h reply .row) (stepOf b h reply .host .stage) n
+    go bundle.served s = on s (breaksN1 b h) refl
+    go (bundle.B k entry) s = rw s tt
+
+-- the cursor is right for the block
+abbrev Right : (b : List ℕ) → Place → (cursor : ℕ) → Type 0
+Right b p n = badStage b (Sending p) ≡ false → CursorIn b (Sending p) n
+
+-- what is written with a block and its right cursor
+written-keeps : (b : List ℕ) → Bytes b → (p : Place) (n : ℕ) → FitsPlace p → n < 256 ^ 8 → Right b p n → Keeps b (contentsBytes (checkOf b) p n)
+written-keeps b bytes p n f g right =
+    let w = check-written b bytes in
+    let x = place-back (checkOf b) w p n f in
+    let y = cursor-back (checkOf b) w p n g in
+    record {
+      contents = sym (ap₂ (contentsBytes (checkOf b)) x y);
+      cursor = subst (λ (u : Place). Right b u (cursorIn (contentsBytes (checkOf b) p n))) (sym x) (subst (Right b p) (sym y) right);
+    }
+
+-- the check leaves contents that were left for its bundle
+pub check-keeps : CheckKeeps
+check-keeps b bytes = written-keeps b bytes noPlace 0 (record { entry = omega arith; block = omega arith }) (omega arith)
+    (λ z. absurd (true≢false (neither (leb (countIn b) (noPlace .entry)) _ z .1)))
+
+module _ (b q : List ℕ) (bytes : Bytes b) (k : Keeps b q) where
+  sized : length q ≡ CONTENTS-SIZE
+  sized = ap length (k .contents) ∙ contents-sized (checkOf b) (check-written b bytes) (placeIn q) (cursorIn q)
+
+  contents-are : contentsIn q ≡ bare (checkOf b)
+  contents-are = ap contentsIn (k .contents) ∙ contents-back (checkOf b) (check-written b bytes) (placeIn q) (cursorIn q)
+
+  body-are : (i : ℕ) → bodyRead q i ≡ bodyOf (checkOf b) i
+  body-are i = body-read q i sized ∙ ap (λ (c : Contents). bodyOf c i) contents-are ∙ body-bare (checkOf b) i
+
+  -- the kept cursor is right for its block, and a walk finds that of any other
+  cursor-right : bundle.bundleRow b ≡ bundle.served → (g : HostStage) → badStage b g ≡ false → CursorIn b g (cursorFor b q g)
+  cursor-right s Fresh w = tt
+  cursor-right s Opening w = tt
+  cursor-right s Listing w = tt
+  cursor-right s (Offering t) w = tt
+  cursor-right s (Waiting t) w = tt
+  cursor-right s (Sending p) w = go (isKept q (Sending p)) refl
+    where
+      go : (t : Bool) → isKept q (Sending p) ≡ t → CursorIn b (Sending p) (cond t (cursorIn q) (cursorAt b (bodyRead q (p .entry)) (Sending p)))
+      go true e =
+          let x = both (eqb (placeIn q .entry) (p .entry)) (eqb (placeIn q .block) (p .block)) e in
+          let y : placeIn q ≡ p = ap₂ (λ (u v : ℕ). record { entry = u; block = v }) (eqb-true _ _ (x .0)) (eqb-true _ _ (x .1)) in
+          subst (λ (u : Place). Right b u (cursorIn q)) y (k .cursor) w
+      go false e = rw (body-are (p .entry)) (cursor-found b bytes s (Sending p) w)
+  cursor-right s Closing w = tt
+  cursor-right s (Ended e) w = tt
+
+  -- the contents after a step
+  after : (row : Row) (g : HostStage) (n : ℕ) → Left b row g n → Keeps b (keptBy row q (keptWith q g n))
+  after served Fresh n l = k
+  after served Opening n l = k
+  after served Listing n l = k
+  after served (Offering t) n l = k
+  after served (Waiting t) n l = k
+  after served (Sending p) n l =
+      let w = check-written b bytes in
+      let f = w .fits (p .entry) in
+      let e = ap (λ (x : List ℕ). take HAND-START x ++ handBytes p n) (k .contents) ∙ hand-changed (checkOf b) w (placeIn q) (cursorIn q) p n in
+      subst (Keeps b) (sym e) (written-keeps b bytes p n (l .0) (omega (arith, l .1 .0, f .offset, f .length)) (λ z. l .1))
+  after served Closing n l = k
+  after served (Ended e) n l = k
+  after (B m entry) g n l = k
+  after (N m) g n l = k
+
+-- the inner step over kept contents is the step, and leaves such contents again
 pub kept-contents-step : KeptContentsStep
-kept-contents-step b h cursor reply bytes s w small k =
-    let α = accepted b bytes s in
-    let seven = table-seven b α s in
-    let fits : (i : ℕ) → FitsBody (getD (checkOf b .table) i blankEntry) =
-    λ i. subst (λ (l : List Entry). FitsBody (getD l i blankEntry)) (sym (table-is b s)) (entries-fit b α (entriesIn b) (OFFER-LIMIT - countIn b) (entry-bytes b α) i) in
-    let e : innerOf b (contentsIn (contentsBytes (checkOf b) cursor)) (cursorIn (contentsBytes (checkOf b) cursor)) h reply ≡ innerOf b (checkOf b) cursor h reply =
-    ap₂ (λ (c : Contents) (n : ℕ). innerOf b c n h reply) (contents-back (checkOf b) cursor seven fits) (cursor-back (checkOf b) cursor seven small)
-    ∙ inner-bare b (checkOf b) cursor h reply in
-    rw e (inner-is-step b h cursor reply bytes s w k)
+kept-contents-step b q h reply bytes k =
+    let n = cursorFor b q (h .stage) in
+    let e : innerOf b (contentsIn q) n h reply ≡ innerOf b (checkOf b) n h reply =
+    ap (λ (c : Contents). innerOf b c n h reply) (contents-are b q bytes k) ∙ inner-bare b (checkOf b) n h reply in
+    let r : bundle.bundleRow b ≡ bundle.served → badStage b (h .stage) ≡ false → CursorIn b (h .stage) n = λ s w. cursor-right b q bytes k s (h .stage) w in
+    let a = agrees b h n reply bytes r in
+    let m = innerOf b (checkOf b) n h reply .cursor in
+    rw e (
+      a .0,
+      subst (λ (x : Step). Keeps b (keptBy (x .row) q (keptWith q (x .host .stage) m))) (sym (a .0)) (after b q bytes k (stepOf b h reply .row) (stepOf b h reply .host .stage) m (step-left b h m reply bytes (λ s w. a .1 (r s w)))),
+    )
+
+-- the number of a row of the check, and 1 to 7 offers where none refuses
+abbrev areBegun : List ℕ → Bool
+areBegun q = isRow (getD q 0 0) && (not (eqb (getD q 0 0) 0) || isCount (getD q 2 0))
+
+are-begun : (b : List ℕ) → Bytes b → (r : bundle.Row) → bundle.bundleRow b ≡ r → IsRow r → (rest : List ℕ) → areBegun (rowBytes (contentsBy r b .row) ++ (contentsBy r b .count ∷ rest)) ≡ true
+are-begun b bytes bundle.served s i rest = let α = accepted b bytes s in rw (le-leb 1 (countIn b) (α .some), le-leb (countIn b) OFFER-LIMIT (α .few))
+are-begun b bytes (bundle.B k entry) s i rest = rw (le-leb k 8 (i .1), ne-eqb k 0 (λ z. omega arith))
+
+-- what was left for a bundle are contents that a check may have left
+pub kept-are-contents : (b q : List ℕ) → Bytes b → Keeps b q → areContents q ≡ true
+unfolding contentsBytes checkOf
+kept-are-contents b q bytes k =
+    rw (eq-eqb (length q) CONTENTS-SIZE (sized b q bytes k))
+    (ap areBegun (k .contents) ∙ are-begun b bytes (bundle.bundleRow b) refl (is-row b) (bodiesBytes (checkOf b .table) ++ handBytes (placeIn q) (cursorIn q)))

@@ -7,7 +7,7 @@ use Prim.Native.Nat.{ℕ, _+_, _%_, _^_, _<_, _≤_}
 use native.Mathlib.Omega.{arith}
 use borrow.Author.Tests.{eq-eqb}
 use lib.Dec.{eqb, leb, ltb}
-use lib.ListN.{length, getD, drop-of-length-le}
+use lib.ListN.{length, getD, take, drop, drop-of-length-le}
 use Rattle.wire.specs.Bytes.{Bytes, number, bytesOf, bytesAt, same}
 use Rattle.wire.proofs.Bounds.{cons-bytes, join-bytes, no-bytes, word-bytes, word-fits}
 use Rattle.wire.proofs.words.Laws.{round, back, split}
@@ -85,13 +85,13 @@ places b h =
 
 -- bytes are a record's where those of the stage and of the flags are
 pub tidy : (b s : List ℕ) (x y : ℕ) → Bytes b → length b ≡ HOST-SIZE → s ≡ stageBytes (hostIn b .stage) → x ≡ flagByte (hostIn b .skipped) → y ≡ flagByte (hostIn b .landed)
-    → ((((((((((eqb (getD s 0 0) (getD b 1 0) && eqb (getD s 1 0) (getD b 2 0)) && eqb (getD s 2 0) (getD b 3 0)) && eqb (getD s 3 0) (getD b 4 0))
-    && eqb (getD s 4 0) (getD b 5 0)) && eqb (getD s 5 0) (getD b 6 0)) && eqb (getD s 6 0) (getD b 7 0)) && eqb (getD s 7 0) (getD b 8 0))
-    && eqb (getD s 8 0) (getD b 9 0)) && eqb x (getD b 22 0)) && eqb y (getD b 23 0)) ≡ same (hostBytes (hostIn b)) b
+    → ((same s (take 9 (drop 1 b)) && eqb x (getD b 22 0)) && eqb y (getD b 23 0)) ≡ same (hostBytes (hostIn b)) b
 unfolding hostIn same
 tidy b s x y bytes h e f g =
     let w = record-of (hostIn b) s (bytesAt 4 10 b) (bytesAt 4 14 b) (bytesAt 4 18 b) x y e (sym (back 4 10 b bytes)) (sym (back 4 14 b bytes)) (sym (back 4 18 b bytes)) f g in
-    (simp (self, grouped, ending)) ∙ ap₂ same w (sym (places b h))
+    let n : s ≡ bytesAt 9 0 s = e ∙ sym (stage-nine (hostIn b .stage)) ∙ ap (bytesAt 9 0) (sym e) in
+    let p : take 9 (drop 1 b) ≡ bytesAt 9 1 b = ap (λ (q : List ℕ). take 9 (drop 1 q)) (places b h) in
+    ap (λ (t : Bool). (t && eqb x (getD b 22 0)) && eqb y (getD b 23 0)) (ap₂ same n p) ∙ (simp (self, grouped, ending)) ∙ ap₂ same w (sym (places b h))
 
 -- the parts of a record are bytes
 words-bytes : (n a b : ℕ) → n < 256 → Bytes (n ∷ bytesOf 4 a ++ bytesOf 4 b)

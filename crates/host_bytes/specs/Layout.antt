@@ -1,22 +1,27 @@
--- The host's record as bytes of a fixed length, little-endian, for whoever keeps it outside of Rattle; and the contents of a checked bundle with the cursor
--- of the inner step, as bytes.
+-- The host's record as bytes of a fixed length, little-endian, for whoever keeps it outside of Rattle; and what the check of a bundle answers, with the
+-- cursor of the inner step and the block that it is kept for, as bytes.
 use Prim.Native.Nat.{ℕ, zero, suc, _+_, _*_, _-_, _^_, _%_}
-use mathlib.Core.Bool.{Bool, true, false, cond, _&&_}
+use mathlib.Core.Bool.{Bool, true, false, not, cond, _&&_, _||_}
 use mathlib.Core.List.{List, [], _∷_, _++_}
-use lib.Dec.{eqb, ltb}
+use lib.Dec.{eqb, leb, ltb}
 use lib.ListN.{length, getD, take, drop}
 use Rattle.wire.specs.Bytes.{number, bytesOf, bytesAt, same}
 use Rattle.offers.specs.Offer.{blankOffer}
-use Rattle.layout.specs.Rows.{served}
-use Rattle.bundle.specs.Contents.{Contents}
+use Rattle.layout.specs.Layout.{OFFER-LIMIT}
+use Rattle.layout.specs.Rows as bundle
 use Rattle.layout.specs.declared.Entry.{Entry}
-use Rattle.host_record.specs.Fits.{bodyOf}
+use Rattle.bundle.specs.Contents.{Contents}
+use Rattle.host_record.specs.Fits.{bodyOf, inHand}
 use Rattle.host_record.specs.declared.fits.Body.{Body}
 use Rattle.host_record.specs.declared.record.Host.{Host}
+use Rattle.host_record.specs.declared.record.Place.{Place}
 use Rattle.host_record.specs.declared.record.HostStage.{HostStage}
 use Rattle.host_record.specs.declared.record.HostStage.the-variants.{Fresh, Opening, Listing, Offering, Waiting, Sending, Closing, Ended}
 use Rattle.host_record.specs.declared.record.End.{End}
 use Rattle.host_record.specs.declared.record.End.the-variants as end
+use Rattle.make.specs.Answer.{Row, served, B, N}
+use Rattle.make.specs.Made.{InnerStep}
+use Rattle.host.specs.Inner.{cursorAt}
 
 -- the length of a record
 abbrev pub HOST-SIZE : ℕ
@@ -89,15 +94,26 @@ lostHost = record { token = 0; stage = Fresh; mask = 0; packets = 2 ^ 32 - 1; pa
 unfoldable pub readHost : List ℕ → Host
 readHost b = cond (same (hostBytes (hostIn b)) b) (hostIn b) lostHost
 
--- the contents of a checked bundle: the count, seven times offset, length and records of a body, and the cursor
+-- the contents of a checked bundle: the number of the row that refuses it, 0 for none, and the entry that this names; the count; from BODIES-START on seven
+-- times offset, length and records of a body; from HAND-START on the block that the cursor is kept for, its entry and its number; and the cursor
 abbrev pub BODY-SIZE : ℕ
 BODY-SIZE = 12
 
+abbrev pub BODIES-START : ℕ
+BODIES-START = 3
+
+abbrev pub HAND-START : ℕ
+HAND-START = BODIES-START + 7 * BODY-SIZE
+
 abbrev pub CURSOR-START : ℕ
-CURSOR-START = 1 + 7 * BODY-SIZE
+CURSOR-START = HAND-START + 8
 
 abbrev pub CONTENTS-SIZE : ℕ
 CONTENTS-SIZE = CURSOR-START + 8
+
+abbrev pub rowBytes : bundle.Row → List ℕ
+rowBytes bundle.served = 0 ∷ 0 ∷ []
+rowBytes (bundle.B k entry) = k ∷ entry ∷ []
 
 abbrev pub bodyBytes : Entry → List ℕ
 bodyBytes e = bytesOf 4 (e .offset) ++ (bytesOf 4 (e .length) ++ bytesOf 4 (e .records))
@@ -106,10 +122,20 @@ unfoldable pub bodiesBytes : List Entry → List ℕ
 bodiesBytes [] = []
 bodiesBytes (e ∷ es) = bodyBytes e ++ bodiesBytes es
 
-unfoldable pub contentsBytes : Contents → (cursor : ℕ) → List ℕ
-contentsBytes c cursor = c .count ∷ bodiesBytes (c .table) ++ bytesOf 8 cursor
+abbrev pub handBytes : Place → (cursor : ℕ) → List ℕ
+handBytes p cursor = bytesOf 4 (p .entry) ++ (bytesOf 4 (p .block) ++ bytesOf 8 cursor)
 
--- the contents that stand in bytes, unjudged: the inner step judges what it takes of them. An offer is read from the bundle, never from here
+-- no block is in hand: an entry that no bundle has
+abbrev pub noPlace : Place
+noPlace = record { entry = 2 ^ 32 - 1; block = 2 ^ 32 - 1 }
+
+unfoldable pub contentsBytes : Contents → Place → (cursor : ℕ) → List ℕ
+contentsBytes c p cursor = rowBytes (c .row) ++ (c .count ∷ bodiesBytes (c .table) ++ handBytes p cursor)
+
+-- what stands in bytes, unjudged: the inner step judges what it takes of them. An offer is read from the bundle, never from here
+abbrev pub rowIn : List ℕ → bundle.Row
+rowIn q = cond (eqb (getD q 0 0) 0) bundle.served (bundle.B (getD q 0 0) (getD q 1 0))
+
 abbrev pub bodyIn : List ℕ → Entry
 bodyIn q = record { offer = blankOffer; offset = number (bytesAt 4 0 q); length = number (bytesAt 4 4 q); records = number (bytesAt 4 8 q) }
 
@@ -118,15 +144,64 @@ bodiesIn zero q = []
 bodiesIn (suc n) q = bodyIn q ∷ bodiesIn n (drop BODY-SIZE q)
 
 unfoldable pub contentsIn : List ℕ → Contents
-contentsIn q = record { row = served; place = 0; count = getD q 0 0; table = bodiesIn 7 (drop 1 q) }
+contentsIn q = record { row = rowIn q; place = getD q 1 0; count = getD q 2 0; table = bodiesIn 7 (drop BODIES-START q) }
 
 -- the body of an entry of these; past the seventh it is empty, and so in bytes that are no contents
 unfoldable pub bodyRead : List ℕ → ℕ → Body
 bodyRead q i = cond (eqb (length q) CONTENTS-SIZE && ltb i 7) (bodyOf (contentsIn q) i) (record { start = 0; end = 0; records = 0 })
 
+abbrev pub placeIn : List ℕ → Place
+placeIn q = record { entry = number (bytesAt 4 HAND-START q); block = number (bytesAt 4 (HAND-START + 4) q) }
+
 abbrev pub cursorIn : List ℕ → ℕ
 cursorIn q = number (bytesAt 8 CURSOR-START q)
 
--- the same contents with another cursor
-abbrev pub withCursor : List ℕ → (cursor : ℕ) → List ℕ
-withCursor q cursor = take CURSOR-START q ++ bytesOf 8 cursor
+-- the number of a row of the check, and 0 for none; and how many offers an accepted bundle may have
+abbrev pub isRow : ℕ → Bool
+isRow k = leb k 8
+
+abbrev pub isCount : ℕ → Bool
+isCount n = leb 1 n && leb n OFFER-LIMIT
+
+-- bytes that a check may have left: of the one length, with a row of the check, and 1 to 7 offers where none refuses
+abbrev pub areContents : List ℕ → Bool
+areContents q = eqb (length q) CONTENTS-SIZE && (isRow (getD q 0 0) && (not (eqb (getD q 0 0) 0) || isCount (getD q 2 0)))
+
+-- the kept cursor is that of the block in hand
+abbrev pub isKept : List ℕ → HostStage → Bool
+isKept q Fresh = false
+isKept q Opening = false
+isKept q Listing = false
+isKept q (Offering t) = false
+isKept q (Waiting t) = false
+isKept q (Sending p) = eqb (placeIn q .entry) (p .entry) && eqb (placeIn q .block) (p .block)
+isKept q Closing = false
+isKept q (Ended e) = false
+
+-- the cursor of a record over kept contents: the kept one where it is the record's own, and otherwise found by a walk over the body in hand
+abbrev pub cursorFor : (b q : List ℕ) → HostStage → ℕ
+cursorFor b q stage = cond (isKept q stage) (cursorIn q) (cursorAt b (bodyRead q (inHand stage)) stage)
+
+-- the contents after a step: where the next block's reply is awaited, with that block and the cursor behind it
+abbrev pub keptWith : (q : List ℕ) → HostStage → (cursor : ℕ) → List ℕ
+keptWith q Fresh cursor = q
+keptWith q Opening cursor = q
+keptWith q Listing cursor = q
+keptWith q (Offering t) cursor = q
+keptWith q (Waiting t) cursor = q
+keptWith q (Sending p) cursor = take HAND-START q ++ handBytes p cursor
+keptWith q Closing cursor = q
+keptWith q (Ended e) cursor = q
+
+-- the same in lent bytes; where these are not the one length, they stay as they are
+abbrev pub keptIn : (q : List ℕ) → HostStage → (cursor : ℕ) → List ℕ
+keptIn q stage cursor = cond (eqb (length q) CONTENTS-SIZE) (keptWith q stage cursor) q
+
+-- a refused step leaves the contents as they are
+abbrev pub keptBy : Row → (before after : List ℕ) → List ℕ
+keptBy served before after = after
+keptBy (B k entry) before after = before
+keptBy (N k) before after = before
+
+abbrev pub contentsAfter : (q : List ℕ) → InnerStep → List ℕ
+contentsAfter q s = keptBy (s .step .row) q (keptWith q (s .step .host .stage) (s .cursor))

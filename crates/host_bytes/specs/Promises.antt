@@ -1,16 +1,16 @@
 -- What the bytes of a host's record, and of a checked bundle's contents, promise.
-use Prim.Native.Nat.{ℕ, _<_, _^_}
+use Prim.Native.Nat.{ℕ}
 use mathlib.Core.Path.{_≡_}
 use mathlib.Core.Bool.{true, false}
 use mathlib.Core.List.{List}
 use Rattle.wire.specs.Bytes.{Bytes, Packet}
-use Rattle.layout.specs.Rows as bundle
 use Rattle.bundle.specs.Contents.{checkOf}
 use Rattle.host_record.specs.declared.record.Host.{Host}
+use Rattle.host_record.specs.declared.record.HostStage.the-variants.{Sending}
 use Rattle.host_record.specs.Record.{FitsHost}
-use Rattle.host.specs.Step.{breaksN1, stepOf}
+use Rattle.host.specs.Step.{badStage, breaksN1, stepOf}
 use Rattle.host.specs.Inner.{innerOf, CursorIn}
-use Rattle.host_bytes.specs.Layout.{HOST-SIZE, hostBytes, readHost, contentsBytes, contentsIn, cursorIn}
+use Rattle.host_bytes.specs.Layout.{HOST-SIZE, hostBytes, readHost, noPlace, contentsBytes, contentsIn, placeIn, cursorIn, cursorFor, contentsAfter}
 
 -- every record is bytes of the one length
 abbrev pub HostSized : Type 0
@@ -25,11 +25,18 @@ abbrev pub OthersBreakN1 : Type 0
 OthersBreakN1 =
     (b bundle : List ℕ) → Bytes b → ((h : Host) → FitsHost h → hostBytes h ≡ b → ⊥) → breaksN1 bundle (readHost b) ≡ true
 
--- over the bytes that the check left, the inner step is the step, as long as the cursor is the one that the step before left
+-- contents that the check of b, and the steps over it, leave: the check's answer, and a cursor that is right for the block that it is kept for
+pub record Keeps (b q : List ℕ) : Type 0 where
+  pub contents : q ≡ contentsBytes (checkOf b) (placeIn q) (cursorIn q)
+  pub cursor : badStage b (Sending (placeIn q)) ≡ false → CursorIn b (Sending (placeIn q)) (cursorIn q)
+
+-- the check leaves such contents
+abbrev pub CheckKeeps : Type 0
+CheckKeeps = (b : List ℕ) → Bytes b → Keeps b (contentsBytes (checkOf b) noPlace 0)
+
+-- over contents that were left for this bundle, at whatever call, the inner step is the step, whatever the record, and leaves such contents again
 abbrev pub KeptContentsStep : Type 0
 KeptContentsStep =
-    (b : List ℕ) (h : Host) (cursor : ℕ) (reply : List ℕ) → Bytes b → bundle.bundleRow b ≡ bundle.served → breaksN1 b h ≡ false
-    → cursor < 2 ^ 64 → CursorIn b (h .stage) cursor
-    → (innerOf b (contentsIn (contentsBytes (checkOf b) cursor)) (cursorIn (contentsBytes (checkOf b) cursor)) h reply .step ≡ stepOf b h reply)
-    × CursorIn b (stepOf b h reply .host .stage)
-    (innerOf b (contentsIn (contentsBytes (checkOf b) cursor)) (cursorIn (contentsBytes (checkOf b) cursor)) h reply .cursor)
+    (b q : List ℕ) (h : Host) (reply : List ℕ) → Bytes b → Keeps b q
+    → (innerOf b (contentsIn q) (cursorFor b q (h .stage)) h reply .step ≡ stepOf b h reply)
+    × Keeps b (contentsAfter q (innerOf b (contentsIn q) (cursorFor b q (h .stage)) h reply))

@@ -10,7 +10,7 @@ use host_record::record::Turn;
 use wire::words;
 
 // A number of a stage, and two words after it.
-fn numbered(number: u8, first: u32, second: u32) -> [u8; 9]
+pub(crate) fn numbered(number: u8, first: u32, second: u32) -> [u8; 9]
     ensures { λ r. ⌜ r ≡ number ∷ bytesOf 4 first ++ bytesOf 4 second ⌝ }
 {
     let a = words::bytes32(first);

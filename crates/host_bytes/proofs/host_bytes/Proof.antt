@@ -3,11 +3,6 @@ use Rattle.host_bytes.proofs.Record.{record-of}
 use borrow.Author.Needs.{needs}
 use Rattle.host_bytes.proofs.host_bytes.Statement.{statement}
 use Rattle.host_bytes.proofs.host_bytes.Tie as tie
-use Rattle.host_bytes.proofs.host_bytes.Reads as reads
-use Rattle.host_bytes.proofs.host_bytes.Lts as lts
-use Rattle.host_bytes.proofs.flag_byte.Reads as flag-byte-reads
-use Rattle.host_bytes.proofs.stage.stage_bytes.Reads as stage-bytes-reads
-use Rattle.wire.proofs.words.bytes32.Reads as bytes32-reads
 
 stage-bytes-requires : tie.Need-stage-bytes-requires
 stage-bytes-requires c κs = search needs

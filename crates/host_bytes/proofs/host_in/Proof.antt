@@ -3,11 +3,6 @@ use Rattle.host_bytes.specs.Layout.{hostIn}
 use borrow.Author.Needs.{needs}
 use Rattle.host_bytes.proofs.host_in.Statement.{statement}
 use Rattle.host_bytes.proofs.host_in.Tie as tie
-use Rattle.host_bytes.proofs.host_in.Reads as reads
-use Rattle.host_bytes.proofs.host_in.Lts as lts
-use Rattle.host_bytes.proofs.stage.stage_in.Reads as stage-in-reads
-use Rattle.wire.proofs.words.byte_at.Reads as byte-at-reads
-use Rattle.wire.proofs.words.word32_at.Reads as word32-at-reads
 
 byte-at-requires : tie.Need-byte-at-requires
 byte-at-requires c κs = search needs

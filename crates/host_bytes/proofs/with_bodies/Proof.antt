@@ -4,18 +4,14 @@ use mathlib.Core.List.{_++_, append-nil}
 use Prim.Native.Nat.{_+_, _*_, _-_, _≤_}
 use native.Mathlib.Omega.{arith}
 use lib.ListN.{length, take}
-use Rattle.host_bytes.specs.Layout.{BODY-SIZE, bodiesBytes}
+use Rattle.host_bytes.specs.Layout.{BODY-SIZE, BODIES-START, CONTENTS-SIZE, bodiesBytes}
 use Rattle.host_bytes.proofs.Contents.{body-written, written}
 use borrow.Author.Needs.{needs}
 use Rattle.host_bytes.proofs.with_bodies.Statement.{statement}
 use Rattle.host_bytes.proofs.with_bodies.Tie as tie
-use Rattle.host_bytes.proofs.with_bodies.Reads as reads
-use Rattle.host_bytes.proofs.with_bodies.Lts as lts
-use Rattle.host_bytes.proofs.body.body_bytes.Reads as body-bytes-reads
-use Rattle.wire.proofs.words.copy.Reads as copy-reads
 
 abbrev Inv-loop : tie.InvT-loop
-Inv-loop out₀ table i₀ out i = (i ≤ 7) × (length out ≡ 93) × (take (1 + i * BODY-SIZE) out ≡ take 1 out₀ ++ bodiesBytes (take i table))
+Inv-loop out₀ table i₀ out i = (i ≤ 7) × (length out ≡ CONTENTS-SIZE) × (take (BODIES-START + i * BODY-SIZE) out ≡ take BODIES-START out₀ ++ bodiesBytes (take i table))
 
 abbrev μ-loop : tie.MeasureT-loop
 μ-loop out₀ table i₀ out i = 7 - i
@@ -67,15 +63,15 @@ loop-again : tie.Need-loop-again Inv-loop μ-loop
 loop-again c =
     let l = c .before .before .before .before .before .before .before .loop in
     let a = c .before .before .before .before .before .before .before .before .args in
-    let at = 1 + l .i * BODY-SIZE in
+    let at = BODIES-START + l .i * BODY-SIZE in
     let p = c .before .before .before .before .body-bytes in
-    let w = body-written (l .out) (take 1 (a .t1)) (p .result) (c .before .copy .last .0) (a .t2) (l .i) (at + BODY-SIZE - at) (omega arith) (search needs) (l .inv .1) (omega arith) (p .ensures) (c .before .copy .ensures) (l .inv .2) in
+    let w = body-written (l .out) (take BODIES-START (a .t1)) (p .result) (c .before .copy .last .0) (a .t2) (l .i) (at + BODY-SIZE - at) (omega arith) (search needs) (l .inv .1) (omega arith) (p .ensures) (c .before .copy .ensures) (l .inv .2) in
     (omega arith, w .0, w .1)
 
 returns : tie.Need-returns Inv-loop μ-loop
 returns c =
     let l = c .before .loop in
-    let a = c .before .before .args in written (l .out) (take 1 (a .t1)) (a .t2) (l .i) (omega arith) (search needs) (l .inv .2)
+    let a = c .before .before .args in written (l .out) (take BODIES-START (a .t1)) (a .t2) (l .i) (omega arith) (search needs) (l .inv .2)
 
 pub with-bodies-spec : {M : Type 1} → statement M
 with-bodies-spec =

@@ -3,8 +3,6 @@ use borrow.Author.Tests.{eq-eqb, ne-eqb}
 use borrow.Author.Needs.{needs}
 use Rattle.host_bytes.proofs.stage.end_in.Statement.{statement}
 use Rattle.host_bytes.proofs.stage.end_in.Tie as tie
-use Rattle.host_bytes.proofs.stage.end_in.Reads as reads
-use Rattle.host_bytes.proofs.stage.end_in.Lts as lts
 
 cast-t5 : tie.Need-cast-t5
 cast-t5 c = search needs

@@ -2,9 +2,6 @@
 use borrow.Author.Needs.{needs}
 use Rattle.host_bytes.proofs.stage.ended_bytes.Statement.{statement}
 use Rattle.host_bytes.proofs.stage.ended_bytes.Tie as tie
-use Rattle.host_bytes.proofs.stage.ended_bytes.Reads as reads
-use Rattle.host_bytes.proofs.stage.ended_bytes.Lts as lts
-use Rattle.host_bytes.proofs.stage.numbered.Reads as numbered-reads
 
 enum-told : tie.Need-enum-told
 enum-told c = search needs

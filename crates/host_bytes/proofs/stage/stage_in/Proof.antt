@@ -3,9 +3,6 @@ use borrow.Author.Tests.{eq-eqb, ne-eqb}
 use borrow.Author.Needs.{needs}
 use Rattle.host_bytes.proofs.stage.stage_in.Statement.{statement}
 use Rattle.host_bytes.proofs.stage.stage_in.Tie as tie
-use Rattle.host_bytes.proofs.stage.stage_in.Reads as reads
-use Rattle.host_bytes.proofs.stage.stage_in.Lts as lts
-use Rattle.host_bytes.proofs.stage.end_in.Reads as end-in-reads
 
 returns : tie.Need-returns
 returns c = rw (eq-eqb _ _ (c .if1 .taken))

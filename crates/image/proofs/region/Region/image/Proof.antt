@@ -7,6 +7,9 @@ use borrow.Author.Needs.{needs}
 use Rattle.image.proofs.region.Region.image.Statement.{statement}
 use Rattle.image.proofs.region.Region.image.Tie as tie
 
+number-requires : tie.Need-number-requires
+number-requires c κs = search needs
+
 cast-least : tie.Need-cast-least
 cast-least c = search needs
 
@@ -41,13 +44,15 @@ returns : tie.Need-returns
 unfolding regionBytes
 returns c =
     let a = c .before .before .before .before .before .before .before .args in
+    let start = rw (c .before .before .before .before .before .number .ensures) at (c .before .before .before .before .least .ensures) in
     c .examine .ensures
-    ∙ ap (λ l. imageIn l (a .id)) (clamped (a .self .base .0) (a .self .len) (a .staging .now) _ _ (c .before .before .before .before .least .ensures) (c .before .before .least2 .ensures))
+    ∙ ap (λ l. imageIn l (a .id)) (clamped (a .self .base .0) (a .self .len) (a .staging .now) _ _ start (c .before .before .least2 .ensures))
 
 pub image-spec : {M : Type 1} → statement M
 image-spec =
     tie.close
     (tie.spec
+    number-requires
     cast-least
     least-requires
     cast-least-2

@@ -35,7 +35,7 @@ pub fn part_bytes(c: Component) -> [u8; 18]
 {
     let running = c.running;
     let v = running.bytes();
-    let b = words::bytes32(c.region.base.0);
+    let b = words::bytes32(c.region.base.number());
     let l = words::bytes32(c.region.len);
     let staged = c.staged;
     let s = staged_bytes(staged);
@@ -79,7 +79,7 @@ pub(crate) fn region_in(q: &[u8]) -> Region
     ensures { λ r. ⌜ r ≡ regionIn 5 (now (q .entry)) ⌝ }
 {
     Region {
-        base: StagingOffset(words::word32_at(q, 5)),
+        base: StagingOffset::new(words::word32_at(q, 5)),
         len: words::word32_at(q, 9),
     }
 }
@@ -107,7 +107,7 @@ fn part_from(b: &[u8], at: usize) -> Component
         id: b[at],
         running,
         region: Region {
-            base: StagingOffset(base),
+            base: StagingOffset::new(base),
             len,
         },
         staged,

@@ -99,17 +99,14 @@ fn part_from(b: &[u8], at: usize) -> Component
     ensures { λ r. ⌜ r ≡ partIn (drop at (now (b .entry))) ⌝ }
 {
     let running = Version::read(b[at + 1], b[at + 2], b[at + 3], b[at + 4]);
-    let base = words::word32(b[at + 5], b[at + 6], b[at + 7], b[at + 8]);
+    let base = StagingOffset::new(words::word32(b[at + 5], b[at + 6], b[at + 7], b[at + 8]));
     let len = words::word32(b[at + 9], b[at + 10], b[at + 11], b[at + 12]);
     let version = Version::read(b[at + 14], b[at + 15], b[at + 16], b[at + 17]);
     let staged = staged_in(b[at + 13], version);
     Component {
         id: b[at],
         running,
-        region: Region {
-            base: StagingOffset::new(base),
-            len,
-        },
+        region: Region { base, len },
         staged,
     }
 }

@@ -83,14 +83,15 @@ fn bad_id(id: u8) -> bool
 fn bad_region(n: usize, r: Region) -> bool
     ensures { λ x. ⌜ x ≡ badRegion n r ⌝ }
 {
-    (r.len < REGION_LEAST) | ((n as u64) < (r.base.0 as u64) + (r.len as u64))
+    (r.len < REGION_LEAST) | ((n as u64) < (r.base.number() as u64) + (r.len as u64))
 }
 
 fn overlaps(r: Region, other: Region) -> bool
     ensures { λ x. ⌜ x ≡ overlap r other ⌝ }
 {
-    ((r.base.0 as u64) < (other.base.0 as u64) + (other.len as u64))
-        & ((other.base.0 as u64) < (r.base.0 as u64) + (r.len as u64))
+    let base = r.base.number() as u64;
+    let next = other.base.number() as u64;
+    (base < next + (other.len as u64)) & (next < base + (r.len as u64))
 }
 
 // D1, of one component: S3, S4 for a buffer of so many bytes, or its staged version is below running.

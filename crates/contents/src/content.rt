@@ -41,7 +41,7 @@ pub fn head(flags: u8, length: u8, sequence: u16, address: RegionAddress) -> [u8
     ensures { λ r. ⌜ r ≡ headOf flags length sequence address ⌝ }
 {
     let s = words::bytes16(sequence);
-    let a = words::bytes32(address.0);
+    let a = words::bytes32(address.number());
     [flags, length, s[0], s[1], a[0], a[1], a[2], a[3]]
 }
 
@@ -94,7 +94,7 @@ fn fields(p: &[u8]) -> ContentFields
         flags: p[0],
         length: p[1],
         sequence: words::word16(p[2], p[3]),
-        address: RegionAddress(words::word32(p[4], p[5], p[6], p[7])),
+        address: RegionAddress::new(words::word32(p[4], p[5], p[6], p[7])),
         data: data,
     }
 }
@@ -116,7 +116,7 @@ pub fn read_content(p: &[u8]) -> ReadContent
                 flags: 0,
                 length: 0,
                 sequence: 0,
-                address: RegionAddress(0),
+                address: RegionAddress::new(0),
                 data: none,
             },
         }

@@ -23,6 +23,6 @@ pub fn read_head(p: &[u8]) -> ContentHead
         flags: words::byte_at(p, 0),
         length: words::byte_at(p, 1),
         sequence: words::word16_at(p, 2),
-        address: RegionAddress(words::word32_at(p, 4)),
+        address: RegionAddress::new(words::word32_at(p, 4)),
     }
 }

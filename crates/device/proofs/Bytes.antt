@@ -8,7 +8,7 @@ use lib.Seq.{getD-drop}
 use Rattle.wire.specs.Bytes.{Bytes}
 use Rattle.wire.specs.Version.{FitsVersion, versionAt}
 use Rattle.wire.specs.declared.address.RegionAddress.{RegionAddress}
-use Rattle.image.specs.Region.{isInside, holds, within, regionBytes, blank, put, eraseOf, writeOf}
+use Rattle.image.specs.Region.{placeOf, isInside, holds, within, regionBytes, blank, put, eraseOf, writeOf}
 use Rattle.image.specs.declared.region.Region.{Region}
 use Rattle.wire.proofs.Chain.{either}
 
@@ -51,9 +51,8 @@ module _ (r : Region) (s : List ℕ) (h : Bytes s) where
   unfolding writeOf put
   write-bytes a bytes k =
       either Bytes (isInside r (length s) && holds r a (length bytes)) _ _
-      (within-bytes (put (a .0) bytes)
-      (append-bytes (take (a .0) (regionBytes r s)) _ (take-bytes (a .0) _ region-bytes)
-      (append-bytes bytes _ k (drop-bytes (a .0 + length bytes) _ region-bytes))))
+      (append-bytes (take (placeOf r a .0) s) _ (take-bytes (placeOf r a .0) s h)
+      (append-bytes bytes _ k (drop-bytes (placeOf r a .0 + length bytes) s h)))
       h
 
 -- four bytes make a version

@@ -13,7 +13,7 @@ use Rattle.contents.specs.Head.{headIn}
 use Rattle.contents.specs.declared.head.ContentHead.{ContentHead}
 use Rattle.image.specs.Region.{isInside, regionBytes, blank, put, eraseOf}
 use Rattle.image.specs.declared.region.Region.{Region}
-use Rattle.image.proofs.region.Within.{region-length, blank-length, within-same, inside, erase-inside, write-inside, put-place, erase-length, write-length}
+use Rattle.image.proofs.region.Within.{region-length, blank-length, within-same, inside, erase-inside, put-place, erase-length, write-put, write-length}
 use Rattle.receiving.specs.declared.checks.ContentVerdict.{ContentVerdict}
 use Rattle.receiving.specs.declared.checks.ContentVerdict.the-variants.{Refuse, Take}
 use Rattle.device.specs.declared.record.Device.{Device}
@@ -113,12 +113,10 @@ module _ (r : Region) (c : ContentHead) (bytes s : List ℕ) where
     n : r .base .0 + r .len ≤ length s
     n = inside r (length s) i
 
-    -- a block puts its data at their address
+    -- a block puts its data at the offset of their address
     block-put : takeBlock r c bytes s ≡ put (r .base .0 + c .address .0) (take (c .length) bytes) before
     unfolding takeBlock
-    block-put =
-        write-inside r before (c .address) _ (rw before-length i) (rw u (le-leb _ _ f))
-        ∙ put-place r (c .address) _ before (rw before-length n) (rw u f)
+    block-put = write-put r before (c .address) _ (rw before-length i) (rw u (le-leb _ _ f))
 
     room : r .base .0 + c .address .0 + length (take (c .length) bytes) ≤ length before
     room = rw (u, before-length) (omega (arith, n))

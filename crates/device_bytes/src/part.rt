@@ -35,7 +35,7 @@ pub fn part_bytes(c: Component) -> [u8; 18]
 {
     let running = c.running;
     let v = running.bytes();
-    let b = words::bytes32(c.region.base.0);
+    let b = words::bytes32(c.region.base.number());
     let l = words::bytes32(c.region.len);
     let staged = c.staged;
     let s = staged_bytes(staged);
@@ -79,7 +79,7 @@ pub(crate) fn region_in(q: &[u8]) -> Region
     ensures { λ r. ⌜ r ≡ regionIn 5 (now (q .entry)) ⌝ }
 {
     Region {
-        base: StagingOffset(words::word32_at(q, 5)),
+        base: StagingOffset::new(words::word32_at(q, 5)),
         len: words::word32_at(q, 9),
     }
 }
@@ -99,17 +99,14 @@ fn part_from(b: &[u8], at: usize) -> Component
     ensures { λ r. ⌜ r ≡ partIn (drop at (now (b .entry))) ⌝ }
 {
     let running = Version::read(b[at + 1], b[at + 2], b[at + 3], b[at + 4]);
-    let base = words::word32(b[at + 5], b[at + 6], b[at + 7], b[at + 8]);
+    let base = StagingOffset::new(words::word32(b[at + 5], b[at + 6], b[at + 7], b[at + 8]));
     let len = words::word32(b[at + 9], b[at + 10], b[at + 11], b[at + 12]);
     let version = Version::read(b[at + 14], b[at + 15], b[at + 16], b[at + 17]);
     let staged = staged_in(b[at + 13], version);
     Component {
         id: b[at],
         running,
-        region: Region {
-            base: StagingOffset(base),
-            len,
-        },
+        region: Region { base, len },
         staged,
     }
 }

@@ -2,7 +2,7 @@
 use Prim.Native.Nat.{ℕ, _+_, _^_, _<_}
 use mathlib.Core.Bool.{Bool, cond, _&&_}
 use mathlib.Core.List.{List, _++_}
-use lib.Dec.{leb}
+use lib.Dec.{ltb, leb}
 use lib.ListN.{length, take, drop, replicate}
 use Rattle.wire.specs.declared.address.RegionAddress.{RegionAddress}
 use Rattle.image.specs.declared.region.Region.{Region}
@@ -17,9 +17,9 @@ pub record FitsRegion (r : Region) : Type 0 where
 abbrev pub placeOf : Region → RegionAddress → StagingOffset
 placeOf r a = record { 0 = r .base .0 + a .0 }
 
--- the region lies in a buffer of n bytes
+-- the region lies in a buffer of n bytes, and its end is a staging offset, which has 32 bits
 abbrev pub isInside : Region → ℕ → Bool
-isInside r n = leb (r .base .0 + r .len) n
+isInside r n = leb (r .base .0 + r .len) n && ltb (r .base .0 + r .len) (2 ^ 32)
 
 -- n bytes at an address lie in the region: a sum of numbers, which does not wrap
 abbrev pub holds : Region → RegionAddress → ℕ → Bool
@@ -45,7 +45,7 @@ put at bytes l = take at l ++ (bytes ++ drop (at + length bytes) l)
 unfoldable pub eraseOf : Region → List ℕ → List ℕ
 eraseOf r s = cond (isInside r (length s)) (within (r .base .0) (r .len) (λ old. blank (r .len)) s) s
 
--- the buffer after a write; bytes that the region does not hold change nothing, and so does a region that the buffer does not hold
+-- the buffer after a write: the bytes stand from the offset of the address on; bytes that the region does not hold change nothing, and so does a region
+-- that the buffer does not hold
 unfoldable pub writeOf : Region → RegionAddress → (bytes s : List ℕ) → List ℕ
-writeOf r a bytes s =
-    cond (isInside r (length s) && holds r a (length bytes)) (within (r .base .0) (r .len) (put (a .0) bytes) s) s
+writeOf r a bytes s = cond (isInside r (length s) && holds r a (length bytes)) (put (placeOf r a .0) bytes s) s

@@ -54,7 +54,7 @@ impl Region {
     pub fn image(self, staging: &[u8], id: u8) -> Image
         ensures { λ r. ⌜ r ≡ imageIn (regionBytes self (now (staging .entry))) id ⌝ }
     {
-        let start = least(self.base.0 as usize, staging.len());
+        let start = least(self.base.number() as usize, staging.len());
         let end = start + least(self.len as usize, staging.len() - start);
         examine(&staging[start..end], id)
     }

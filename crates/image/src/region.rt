@@ -1,14 +1,30 @@
-// A region of the staging buffer. An address inside a region and an offset into the buffer are two types. A region's base says where its own
-// bytes start, and an address counts in those: only so does the one become the other.
+// A region of the staging buffer. An address inside a region and an offset into the buffer are two types, and only the region's base turns an address
+// into an offset.
 use wire::address::RegionAddress;
 use wire::words::copy;
 ghost use mathlib.Core.Path.{_≡_};
-ghost use Prim.Native.Nat.{_+_, _≤_};
+ghost use Prim.Native.Nat.{_+_, _^_, _≤_, _<_};
 ghost use lib.ListN.{length};
-ghost use Rattle.image.specs.Region.{isInside, holds as holdsBytes, blank, put as putBytes, eraseOf, writeOf};
+ghost use Rattle.image.specs.Region.{placeOf, isInside, holds as holdsBytes, blank, put as putBytes, eraseOf, writeOf};
 
 // An offset into the staging buffer.
-pub struct StagingOffset(pub u32);
+pub struct StagingOffset(u32);
+
+impl StagingOffset {
+    // The offset with this number.
+    pub fn new(number: u32) -> Self
+        ensures { λ r. ⌜ r ≡ record { 0 = number } ⌝ }
+    {
+        StagingOffset(number)
+    }
+
+    // The 32-bit number.
+    pub fn number(self) -> u32
+        ensures { λ r. ⌜ r ≡ self .0 ⌝ }
+    {
+        self.0
+    }
+}
 
 pub struct Region {
     pub base: StagingOffset,
@@ -29,22 +45,23 @@ fn fill(d: &mut [u8])
     }
 }
 
-// The bytes go into a region's own bytes, from the address on.
-fn put(own: &mut [u8], a: RegionAddress, bytes: &[u8])
-    requires { ⌜ a .0 + length (now bytes) ≤ length (now own) ⌝ }
-    ensures { λ _. ⌜ now (own .exit) ≡ putBytes (a .0) (now (bytes .entry)) (now (own .entry)) ⌝ }
+// The bytes go into the buffer, from the offset on.
+fn put(staging: &mut [u8], place: StagingOffset, bytes: &[u8])
+    requires { ⌜ place .0 + length (now bytes) ≤ length (now staging) ⌝ }
+    ensures { λ _. ⌜ now (staging .exit) ≡ putBytes (place .0) (now (bytes .entry)) (now (staging .entry)) ⌝ }
 {
-    let at = a.0 as usize;
+    let at = place.0 as usize;
     let end = at + bytes.len();
-    copy(&mut own[at..end], bytes);
+    copy(&mut staging[at..end], bytes);
 }
 
 impl Region {
-    // It lies in a buffer of n bytes.
+    // It lies in a buffer of n bytes, and its end is a staging offset.
     pub fn is_inside(self, n: usize) -> bool
         ensures { λ r. ⌜ r ≡ isInside self n ⌝ }
     {
-        (self.base.0 as u64) + (self.len as u64) <= (n as u64)
+        let end = (self.base.0 as u64) + (self.len as u64);
+        (end <= (n as u64)) & (end < 0x100000000)
     }
 
     // It holds n bytes at an address. The sum of the two is not formed, so it does not wrap.
@@ -55,7 +72,15 @@ impl Region {
         if len < n {
             return false;
         }
-        (a.0 as usize) <= len - n
+        (a.number() as usize) <= len - n
+    }
+
+    // The offset of an address: the region's base turns one into the other.
+    fn place_of(self, a: RegionAddress) -> StagingOffset
+        requires { ⌜ self .base .0 + a .0 < 2 ^ 32 ⌝ }
+        ensures { λ r. ⌜ r ≡ placeOf self a ⌝ }
+    {
+        StagingOffset(self.base.0 + a.number())
     }
 
     // Each of its bytes becomes 0xFF; a region that the buffer does not hold is left alone.
@@ -69,14 +94,12 @@ impl Region {
         }
     }
 
-    // The bytes go in from the address on; what the region, or a region that the buffer, does not hold is not written.
+    // The bytes go in from the offset of the address on; what the region, or a region that the buffer, does not hold is not written.
     pub fn write(self, a: RegionAddress, staging: &mut [u8], bytes: &[u8])
         ensures { λ _. ⌜ now (staging .exit) ≡ writeOf self a (now (bytes .entry)) (now (staging .entry)) ⌝ }
     {
-        let base = self.base.0 as usize;
-        let end = ((self.base.0 as u64) + (self.len as u64)) as usize;
         if self.is_inside(staging.len()) & self.holds(a, bytes.len()) {
-            put(&mut staging[base..end], a, bytes);
+            put(staging, self.place_of(a), bytes);
         }
     }
 }

@@ -29,7 +29,7 @@ fn first(s: &[u8]) -> Head
     }
     let size = s[4];
     if is_sound(size, n - 5) {
-        let address = RegionAddress(words::word32(s[0], s[1], s[2], s[3]));
+        let address = RegionAddress::new(words::word32(s[0], s[1], s[2], s[3]));
         Head::Whole {
             address: address,
             size: size,

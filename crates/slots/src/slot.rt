@@ -20,7 +20,7 @@ pub fn blank_component() -> Component
         id: 0,
         running,
         region: Region {
-            base: StagingOffset(0),
+            base: StagingOffset::new(0),
             len: 0,
         },
         staged: Staged::Nothing,

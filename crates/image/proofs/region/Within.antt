@@ -3,9 +3,10 @@ use mathlib.Core.Path.{_≡_, refl, sym, ap, _∙_}
 use mathlib.Core.Bool.{Bool, true, false, _&&_, true≢false}
 use mathlib.Core.Logic.{_⊎_, inl, inr}
 use mathlib.Core.List.{List, _++_, append-assoc}
-use Prim.Native.Nat.{ℕ, _+_, _-_, _≤_, _<_}
+use Prim.Native.Nat.{ℕ, _+_, _-_, _^_, _≤_, _<_}
 use native.Mathlib.Omega.{arith}
-use borrow.Author.Tests.{leb-true}
+use borrow.Author.Tests.{leb-true, ltb-true, le-leb, lt-ltb}
+use lib.Dec.{leb, ltb}
 use lib.ListN.{length, getD, take, drop, length-append, length-take, length-drop, length-replicate, List·getD-append, take-append-drop}
 use lib.Seq.{take-at, drop-at, drop-append-le, getD-append-add, getD-take, getD-drop, ext-getD, take-take, take-add, drop-drop}
 use Rattle.wire.specs.declared.address.RegionAddress.{RegionAddress}
@@ -105,43 +106,18 @@ pub both : (a b : Bool) → (a && b) ≡ true → (a ≡ true) × (b ≡ true)
 both true b e = (refl, e)
 both false b e = absurd (true≢false (sym e))
 
--- a guard that lets pass says where the region, or the bytes, lie
-pub inside : (r : Region) (n : ℕ) → isInside r n ≡ true → r .base .0 + r .len ≤ n
-inside r n e = leb-true (r .base .0 + r .len) n e
+module _ (r : Region) (n : ℕ) where
+  -- a guard that lets pass says where the region lies
+  pub inside : isInside r n ≡ true → r .base .0 + r .len ≤ n
+  inside e = leb-true (r .base .0 + r .len) n (both (leb (r .base .0 + r .len) n) (ltb (r .base .0 + r .len) (2 ^ 32)) e .0)
 
-module _ (r : Region) (s : List ℕ) where
-  -- an erase is a change inside the region
-  pub erase-inside : isInside r (length s) ≡ true → eraseOf r s ≡ within (r .base .0) (r .len) (λ old. blank (r .len)) s
-  unfolding eraseOf
-  erase-inside e = rw e
+  -- and that its end is a number of 32 bits
+  pub inside-end : isInside r n ≡ true → r .base .0 + r .len < 2 ^ 32
+  inside-end e = ltb-true (r .base .0 + r .len) (2 ^ 32) (both (leb (r .base .0 + r .len) n) (ltb (r .base .0 + r .len) (2 ^ 32)) e .1)
 
-  -- an erase keeps the buffer's length
-  pub erase-length : length (eraseOf r s) ≡ length s
-  unfolding eraseOf
-  erase-length = go (isInside r (length s)) refl where
-    go : (b : Bool) → isInside r (length s) ≡ b → length (eraseOf r s) ≡ length s
-    go true e = rw e (within-length r _ s (inside r (length s) e) (blank-length (r .len)))
-    go false e = rw e
-
-  module _ (a : RegionAddress) (bytes : List ℕ) where
-    -- a write is a change inside the region
-    pub write-inside : isInside r (length s) ≡ true → holds r a (length bytes) ≡ true → writeOf r a bytes s ≡ within (r .base .0) (r .len) (put (a .0) bytes) s
-    unfolding writeOf
-    write-inside e e′ = rw (e, e′)
-
-    -- bytes that the region holds leave it as long as it was
-    pub put-fits : isInside r (length s) ≡ true → holds r a (length bytes) ≡ true → length (put (a .0) bytes (regionBytes r s)) ≡ r .len
-    put-fits e e′ =
-        let n = region-length r s (inside r (length s) e) in
-        put-length (a .0) bytes (regionBytes r s) (omega (arith, leb-true (a .0 + length bytes) (r .len) e′)) ∙ n
-
-    -- a write keeps the buffer's length
-    pub write-length : length (writeOf r a bytes s) ≡ length s
-    unfolding writeOf
-    write-length = go (isInside r (length s) && holds r a (length bytes)) refl where
-      go : (b : Bool) → (isInside r (length s) && holds r a (length bytes)) ≡ b → length (writeOf r a bytes s) ≡ length s
-      go true e = let g = both _ _ e in rw e (within-length r _ s (inside r (length s) (g .0)) (put-fits (g .0) (g .1)))
-      go false e = rw e
+  -- a region that ends in a buffer of less than 4 GiB lies in it
+  pub lies-inside : r .base .0 + r .len ≤ n → n < 2 ^ 32 → isInside r n ≡ true
+  lies-inside h k = rw (le-leb (r .base .0 + r .len) n h) (lt-ltb (r .base .0 + r .len) (2 ^ 32) (omega arith))
 
 -- bytes that are put at an address of a region stand at the offset of that address: the region's base turns the one into the other
 pub put-place : (r : Region) (a : RegionAddress) (bytes s : List ℕ) → r .base .0 + r .len ≤ length s → a .0 + length bytes ≤ r .len
@@ -158,3 +134,39 @@ put-place r a bytes s h k =
     = sym (drop-append-le m own (drop (b + r .len) s) fits) ∙ rw (whole, drop-drop, sum) in
     let front : take b s ++ take (a .0) own ≡ take (b + a .0) s = rw (take-take (a .0) (r .len) (drop b s) (omega arith)) (sym (take-add b (a .0) s)) in
     rw (append-assoc, append-assoc, tail, ← (append-assoc (take b s) (take (a .0) own) (bytes ++ drop (b + a .0 + length bytes) s)), front)
+
+module _ (r : Region) (s : List ℕ) where
+  -- an erase is a change inside the region
+  pub erase-inside : isInside r (length s) ≡ true → eraseOf r s ≡ within (r .base .0) (r .len) (λ old. blank (r .len)) s
+  unfolding eraseOf
+  erase-inside e = rw e
+
+  -- an erase keeps the buffer's length
+  pub erase-length : length (eraseOf r s) ≡ length s
+  unfolding eraseOf
+  erase-length = go (isInside r (length s)) refl where
+    go : (b : Bool) → isInside r (length s) ≡ b → length (eraseOf r s) ≡ length s
+    go true e = rw e (within-length r _ s (inside r (length s) e) (blank-length (r .len)))
+    go false e = rw e
+
+  module _ (a : RegionAddress) (bytes : List ℕ) where
+    -- a write puts the bytes at the offset of their address
+    pub write-put : isInside r (length s) ≡ true → holds r a (length bytes) ≡ true → writeOf r a bytes s ≡ put (placeOf r a .0) bytes s
+    unfolding writeOf
+    write-put e e′ = rw (e, e′)
+
+    -- so it is a change inside the region
+    pub write-inside : isInside r (length s) ≡ true → holds r a (length bytes) ≡ true → writeOf r a bytes s ≡ within (r .base .0) (r .len) (put (a .0) bytes) s
+    write-inside e e′ = write-put e e′ ∙ sym (put-place r a bytes s (inside r (length s) e) (leb-true (a .0 + length bytes) (r .len) e′))
+
+    -- the bytes lie in the buffer
+    pub write-fits : isInside r (length s) ≡ true → holds r a (length bytes) ≡ true → placeOf r a .0 + length bytes ≤ length s
+    write-fits e e′ = omega (arith, inside r (length s) e, leb-true (a .0 + length bytes) (r .len) e′)
+
+    -- and the buffer keeps its length
+    pub write-length : length (writeOf r a bytes s) ≡ length s
+    unfolding writeOf
+    write-length = go (isInside r (length s) && holds r a (length bytes)) refl where
+      go : (b : Bool) → (isInside r (length s) && holds r a (length bytes)) ≡ b → length (writeOf r a bytes s) ≡ length s
+      go true e = let g = both _ _ e in rw e (put-length (placeOf r a .0) bytes s (write-fits (g .0) (g .1)))
+      go false e = rw e

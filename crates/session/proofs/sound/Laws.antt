@@ -3,11 +3,13 @@ use mathlib.Core.Path.{_≡_, refl}
 use mathlib.Core.Bool.{true, false, true≢false}
 use mathlib.Core.List.{List}
 use Prim.Native.Nat.{ℕ, _≤_, _<_}
-use borrow.Author.Tests.{leb-false, le-leb}
+use native.Mathlib.Omega.{arith}
+use borrow.Author.Tests.{leb-false}
 use lib.Dec.{leb}
 use lib.ListN.{length}
 use Rattle.wire.proofs.Tests.{neither}
 use Rattle.image.specs.Region.{isInside}
+use Rattle.image.proofs.region.Within.{lies-inside}
 use Rattle.component.specs.Record.{isPending}
 use Rattle.component.specs.Lists.{partAt}
 use Rattle.component.specs.Setup.{setupVerdict}
@@ -15,7 +17,7 @@ use Rattle.component.specs.declared.record.Component.{Component}
 use Rattle.component.specs.declared.list.Found.the-variants.{At}
 use Rattle.component.specs.declared.setup.SetupVerdict.{SetupVerdict}
 use Rattle.component.specs.declared.setup.SetupVerdict.the-variants.{Fine, S1, S2, S3, S4}
-use Rattle.component.proofs.setup.Laws.{fine-count, fine-region}
+use Rattle.component.proofs.setup.Laws.{fine-staging, fine-count, fine-region}
 use Rattle.session.specs.declared.effect.Session.{Session}
 use Rattle.session.specs.Stage.{openSlot}
 use Rattle.session.specs.Sound.{refusesSetup, breaksSetup, wrongSlot, opensWrong, owesIdle, stagedBelow, breaksD1}
@@ -62,4 +64,5 @@ module _ {n count : ℕ} {parts : List Component} {session : Session} where
 
   -- the region of a component in use lies in the staging buffer
   pub region-inside : (k : ℕ) → Passes n count parts session → length parts ≡ 7 → k < count → isInside (partAt parts k .region) n ≡ true
-  region-inside k p l h = le-leb _ _ (fine-region n count parts (setup-fine p) l k h .1)
+  region-inside k p l h =
+      lies-inside (partAt parts k .region) n (fine-region n count parts (setup-fine p) l k h .1) (omega (arith, fine-staging n count parts (setup-fine p)))

@@ -5,16 +5,13 @@ use borrow.Author.Needs.{needs}
 use Rattle.contents.proofs.content.read_content.Statement.{statement}
 use Rattle.contents.proofs.content.read_content.Tie as tie
 
-fields-requires : tie.Need-fields-requires
-fields-requires c κs = search needs
-
 returns : tie.Need-returns
 unfolding readOf
 returns c = rw (eq-eqb _ _ (c .before .if1 .taken)) (cc)
 
 returns-2 : tie.Need-returns-2
 unfolding readOf
-returns-2 c = simp (ne-eqb _ _ (c .if1 .left))
+returns-2 c = simp (ne-eqb _ _ (c .before .if1 .left), c .new .ensures)
 
 pub read-content-spec : {M : Type 1} → statement M
-read-content-spec = tie.close (tie.spec fields-requires returns returns-2)
+read-content-spec = tie.close (tie.spec (λ c κs. search needs) (λ c κs. search needs) returns returns-2)

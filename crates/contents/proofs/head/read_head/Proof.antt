@@ -3,22 +3,10 @@ use borrow.Author.Needs.{needs}
 use Rattle.contents.proofs.head.read_head.Statement.{statement}
 use Rattle.contents.proofs.head.read_head.Tie as tie
 
-byte-at-requires : tie.Need-byte-at-requires
-byte-at-requires c κs = search needs
-
-byte-at-requires-2 : tie.Need-byte-at-requires-2
-byte-at-requires-2 c κs = search needs
-
-word16-at-requires : tie.Need-word16-at-requires
-word16-at-requires c κs = search needs
-
-word32-at-requires : tie.Need-word32-at-requires
-word32-at-requires c κs = search needs
-
 returns : tie.Need-returns
-returns c = simp (c .word32-at .ensures, c .before .word16-at .ensures, c .before .before .byte-at2 .ensures, c .before .before .before .byte-at .ensures)
+returns c = simp (c .new .ensures, c .before .word32-at .ensures, c .before .before .word16-at .ensures, c .before .before .before .byte-at2 .ensures, c .before .before .before .before .byte-at .ensures)
 
 pub read-head-spec : {M : Type 1} → statement M
 read-head-spec =
     tie.close
-    (tie.spec byte-at-requires byte-at-requires-2 word16-at-requires word32-at-requires returns)
+    (tie.spec (λ c κs. search needs) (λ c κs. search needs) (λ c κs. search needs) (λ c κs. search needs) (λ c κs. search needs) returns)

@@ -3,14 +3,8 @@ use borrow.Author.Needs.{needs}
 use Rattle.device_bytes.proofs.part.region_in.Statement.{statement}
 use Rattle.device_bytes.proofs.part.region_in.Tie as tie
 
-word32-at-requires : tie.Need-word32-at-requires
-word32-at-requires c κs = search needs
-
-word32-at-requires-2 : tie.Need-word32-at-requires-2
-word32-at-requires-2 c κs = search needs
-
 returns : tie.Need-returns
-returns c = rw (c .before .word32-at .ensures, c .word32-at2 .ensures)
+returns c = rw (c .before .new .ensures, c .before .before .word32-at .ensures, c .word32-at2 .ensures)
 
 pub region-in-spec : {M : Type 1} → statement M
-region-in-spec = tie.close (tie.spec word32-at-requires word32-at-requires-2 returns)
+region-in-spec = tie.close (tie.spec (λ c κs. search needs) (λ c κs. search needs) (λ c κs. search needs) returns)

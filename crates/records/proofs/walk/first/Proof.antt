@@ -14,33 +14,12 @@ returns-2 : tie.Need-returns-2
 unfolding headIn
 returns-2 c = simp (ne-eqb _ _ (c .before .if1 .left), lt-ltb _ _ (c .if2 .taken))
 
-shared-slice-read-size : tie.Need-shared-slice-read-size
-shared-slice-read-size c = search needs
-
-is-sound-requires : tie.Need-is-sound-requires
-is-sound-requires c κs = search needs
-
-shared-slice-read-word32 : tie.Need-shared-slice-read-word32
-shared-slice-read-word32 c = search needs
-
-shared-slice-read-word32-2 : tie.Need-shared-slice-read-word32-2
-shared-slice-read-word32-2 c = search needs
-
-shared-slice-read-word32-3 : tie.Need-shared-slice-read-word32-3
-shared-slice-read-word32-3 c = search needs
-
-shared-slice-read-word32-4 : tie.Need-shared-slice-read-word32-4
-shared-slice-read-word32-4 c = search needs
-
-word32-requires : tie.Need-word32-requires
-word32-requires c κs = search needs
-
 returns-3 : tie.Need-returns-3
 unfolding headIn
 returns-3 c =
-    let s = c .before .before .before .before .before in
+    let s = c .before .before .before .before .before .before in
     let e = s .before .before in
-    rw (ne-eqb _ _ (e .before .before .if1 .left), le-ltb _ _ (e .before .if2 .left), sym (s .before .is-sound .ensures), s .if3 .taken, c .word32 .ensures)
+    rw (ne-eqb _ _ (e .before .before .if1 .left), le-ltb _ _ (e .before .if2 .left), sym (s .before .is-sound .ensures), s .if3 .taken, c .new .ensures, c .before .word32 .ensures)
 
 returns-4 : tie.Need-returns-4
 unfolding headIn
@@ -54,12 +33,13 @@ first-spec =
     (tie.spec
     returns
     returns-2
-    shared-slice-read-size
-    is-sound-requires
-    shared-slice-read-word32
-    shared-slice-read-word32-2
-    shared-slice-read-word32-3
-    shared-slice-read-word32-4
-    word32-requires
+    (λ c. search needs)
+    (λ c κs. search needs)
+    (λ c. search needs)
+    (λ c. search needs)
+    (λ c. search needs)
+    (λ c. search needs)
+    (λ c κs. search needs)
+    (λ c κs. search needs)
     returns-3
     returns-4)

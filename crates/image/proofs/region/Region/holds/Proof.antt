@@ -7,19 +7,13 @@ use borrow.Author.Needs.{needs}
 use Rattle.image.proofs.region.Region.holds.Statement.{statement}
 use Rattle.image.proofs.region.Region.holds.Tie as tie
 
-cast-len : tie.Need-cast-len
-cast-len c = search needs
-
 returns : tie.Need-returns
 returns c = rw (lt-leb (c .before .before .args .a .0 + c .before .before .args .n) (c .before .before .args .self .len) (omega arith))
-
-cast-result : tie.Need-cast-result
-cast-result c = search needs
 
 returns-2 : tie.Need-returns-2
 returns-2 c =
     let a = c .before .before .before .args in
-    rest (a .a .0) (a .n) (a .self .len) (omega arith)
+    rw (c .number .ensures) (rest (a .a .0) (a .n) (a .self .len) (omega arith))
 
 pub holds-spec : {M : Type 1} → statement M
-holds-spec = tie.close (tie.spec cast-len returns cast-result returns-2)
+holds-spec = tie.close (tie.spec (λ c. search needs) returns (λ c κs. search needs) (λ c. search needs) returns-2)

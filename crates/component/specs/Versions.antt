@@ -1,4 +1,4 @@
--- The three rules on a component's versions: of an offer, of an image, of what is staged. Each reads the whole record, and none reads `staged`.
+-- The three rules on a component's versions: of an offer, of an image, of what is staged. Each is given the whole record, and none looks at its `staged`.
 use Prim.Native.Nat.{ℕ}
 use mathlib.Core.Bool.{Bool, true, cond}
 use lib.Dec.{leb}

@@ -140,7 +140,7 @@ pub fn build_content_call(
         flags,
         length,
         sequence,
-        address: RegionAddress(address),
+        address: RegionAddress::new(address),
         data,
     });
     let p = built.packet;

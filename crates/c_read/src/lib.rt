@@ -204,7 +204,7 @@ pub fn read_content_call(packet: &[u8], bytes: &mut [u8]) -> CContent
         flags: content.flags,
         length: content.length,
         sequence: content.sequence,
-        address: address.0,
+        address: address.number(),
     }
 }
 

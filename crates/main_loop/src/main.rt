@@ -21,7 +21,7 @@ fn listed(id: u8, running: Version, base: u32) -> Listed {
         id,
         running,
         region: Region {
-            base: StagingOffset(base),
+            base: StagingOffset::new(base),
             len: 64,
         },
     }

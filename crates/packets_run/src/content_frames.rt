@@ -15,7 +15,7 @@ fn fields(c: ContentFields) {
     line::hex8(names::FLAGS, c.flags);
     line::decimal8(names::LENGTH, c.length);
     line::hex16(names::SEQUENCE, c.sequence);
-    line::hex32(names::ADDRESS, address.0, 8);
+    line::hex32(names::ADDRESS, address.number(), 8);
     line::word(names::DATA);
     line::bytes(&data);
 }
@@ -27,7 +27,7 @@ pub fn build(p: &[u8]) {
         flags: byte(p, 0, 0),
         length: byte(p, 0, 1),
         sequence: word16(p, 0, 2),
-        address: RegionAddress(word32(p, 0, 4)),
+        address: RegionAddress::new(word32(p, 0, 4)),
         data: data,
     };
     fields(c);

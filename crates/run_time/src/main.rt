@@ -41,7 +41,7 @@ fn listed() -> Listed {
         id: 1,
         running,
         region: Region {
-            base: StagingOffset(0),
+            base: StagingOffset::new(0),
             len: 64,
         },
     }

@@ -19,7 +19,7 @@ fn region(p: &[u8], at: u8, k: u8) -> Region {
     let base = word32(p, at, k);
     let len = word32(p, at, plus(k, 4));
     Region {
-        base: StagingOffset(base),
+        base: StagingOffset::new(base),
         len,
     }
 }

@@ -113,7 +113,7 @@ fn component(c: Component) {
     text(b" at ");
     show::version(running);
     text(b" in ");
-    decimal(base.0 as u64);
+    decimal(base.number() as u64);
     text(b"+");
     decimal(region.len as u64);
     match staged {

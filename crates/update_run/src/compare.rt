@@ -53,7 +53,7 @@ fn components(a: Component, b: Component) -> bool {
     let t = b.staged;
     (a.id == b.id)
         & (running.number() == other.number())
-        & (base.0 == start.0)
+        & (base.number() == start.number())
         & (region.len == place.len)
         & (staged_number(s) == staged_number(t))
 }

@@ -13,34 +13,13 @@ returns : tie.Need-returns
 unfolding buildContentCall
 returns c = rw (ne-eqb _ _ (c .if1 .taken))
 
-slice-aggregate-copy : tie.Need-slice-aggregate-copy
-slice-aggregate-copy c = search needs
-
-copy-requires : tie.Need-copy-requires
-copy-requires c κs = search needs
-
-build-content-requires : tie.Need-build-content-requires
-build-content-requires c κs = search needs
-
-packet-number-requires : tie.Need-packet-number-requires
-packet-number-requires c κs = search needs
-
-slice-aggregate-leave : tie.Need-slice-aggregate-leave
-slice-aggregate-leave c = search needs
-
-leave-requires : tie.Need-leave-requires
-leave-requires c κs = search needs
-
-same-length : tie.Need-same-length
-same-length c = search needs
-
 returns-2 : tie.Need-returns-2
 unfolding buildContentCall
 returns-2 c =
-    let a = c .before .before .before .before .before .before .before .before .before .before .before .before .before .before .args in
-    let l : length (a .bytes .now) ≡ 52 = c .before .before .before .before .before .before .before .before .before .before .before .if1 .left in
-    let d = c .before .before .before .before .before .before .before .before .before .copy .ensures ∙ copy-same (replicate 52 0) (a .bytes .now) (sym l) in
-    let b = rw d at (c .before .before .before .before .before .before .before .build-content .ensures) in
+    let a = c .before .before .before .before .before .before .before .before .before .before .before .before .before .before .before .args in
+    let l : length (a .bytes .now) ≡ 52 = c .before .before .before .before .before .before .before .before .before .before .before .before .if1 .left in
+    let d = c .before .before .before .before .before .before .before .before .before .before .copy .ensures ∙ copy-same (replicate 52 0) (a .bytes .now) (sym l) in
+    let b = rw (d, c .before .before .before .before .before .before .before .before .new .ensures) at (c .before .before .before .before .before .before .before .build-content .ensures) in
     rw (eq-eqb _ _ l) (built-left (a .packet .now) 60 (c .before .before .leave .ensures) (c .before .before .before .before .packet-number .ensures) b (search needs))
 
 pub build-content-call-spec : {M : Type 1} → statement M
@@ -48,11 +27,12 @@ build-content-call-spec =
     tie.close
     (tie.spec
     returns
-    slice-aggregate-copy
-    copy-requires
-    build-content-requires
-    packet-number-requires
-    slice-aggregate-leave
-    leave-requires
-    same-length
+    (λ c. search needs)
+    (λ c κs. search needs)
+    (λ c κs. search needs)
+    (λ c κs. search needs)
+    (λ c κs. search needs)
+    (λ c. search needs)
+    (λ c κs. search needs)
+    (λ c. search needs)
     returns-2)

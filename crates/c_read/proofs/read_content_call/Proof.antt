@@ -12,39 +12,25 @@ returns : tie.Need-returns
 unfolding readContentCall
 returns c = rw (ne-eqb _ _ (c .if1 .taken))
 
-read-content-requires : tie.Need-read-content-requires
-read-content-requires c κs = search needs
-
-slice-aggregate-copy : tie.Need-slice-aggregate-copy
-slice-aggregate-copy c = search needs
-
-copy-requires : tie.Need-copy-requires
-copy-requires c κs = search needs
-
-packet-number-requires : tie.Need-packet-number-requires
-packet-number-requires c κs = search needs
-
-same-length : tie.Need-same-length
-same-length c = search needs
-
 returns-2 : tie.Need-returns-2
 unfolding readContentCall
 returns-2 c =
-    let a = c .before .before .before .before .before .before .before .before .before .before .before .before .before .args in
-    let s = c .before .before .before .before .before .before .before .before .before .read-content .result .content .«data» in
-    let l : length (a .bytes .now) ≡ 52 = c .before .before .before .before .before .before .before .before .before .before .if1 .left in
+    let a = c .before .before .before .before .before .before .before .before .before .before .before .before .before .before .args in
+    let s = c .before .before .before .before .before .before .before .before .before .before .read-content .result .content .«data» in
+    let l : length (a .bytes .now) ≡ 52 = c .before .before .before .before .before .before .before .before .before .before .before .if1 .left in
     let m : length s ≡ 52 = search needs in
-    let d = c .before .before .before .copy .ensures ∙ copy-same (a .bytes .now) s (l ∙ sym m) in
-    rw (eq-eqb _ _ l, ← c .before .before .before .before .before .before .before .before .before .read-content .ensures, c .packet-number .ensures, d)
+    let d = c .before .before .before .before .copy .ensures ∙ copy-same (a .bytes .now) s (l ∙ sym m) in
+    rw (eq-eqb _ _ l, ← c .before .before .before .before .before .before .before .before .before .before .read-content .ensures, c .before .packet-number .ensures, c .number .ensures, d)
 
 pub read-content-call-spec : {M : Type 1} → statement M
 read-content-call-spec =
     tie.close
     (tie.spec
     returns
-    read-content-requires
-    slice-aggregate-copy
-    copy-requires
-    packet-number-requires
-    same-length
+    (λ c κs. search needs)
+    (λ c. search needs)
+    (λ c κs. search needs)
+    (λ c κs. search needs)
+    (λ c κs. search needs)
+    (λ c. search needs)
     returns-2)

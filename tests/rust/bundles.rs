@@ -199,13 +199,13 @@ fn a_body_is_walked_record_by_record() {
     // The second body of E12, inside the file.
     let b = e12();
     let first = Next::Record {
-        address: RegionAddress(0),
+        address: RegionAddress::new(0),
         start: 135,
         size: 52,
         next: 187,
     };
     let second = Next::Record {
-        address: RegionAddress(52),
+        address: RegionAddress::new(52),
         start: 192,
         size: 12,
         next: 204,
@@ -216,7 +216,7 @@ fn a_body_is_walked_record_by_record() {
     assert_eq!(tally(&b, 130, 204), Tally::Records(2));
     let far = record(0xFFFFFFFF, &[1, 2, 3]);
     let whole = Next::Record {
-        address: RegionAddress(0xFFFFFFFF),
+        address: RegionAddress::new(0xFFFFFFFF),
         start: 5,
         size: 3,
         next: 8,

@@ -11,7 +11,7 @@ use cfu_updater::wire::version::Version;
 
 fn region(base: u32, len: u32) -> Region {
     Region {
-        base: StagingOffset(base),
+        base: StagingOffset::new(base),
         len,
     }
 }
@@ -40,11 +40,11 @@ fn the_crc_gives_its_check_value() {
 #[test]
 fn e8_and_e9_addresses_in_a_region_of_64() {
     for r in [region(0, 64), region(64, 64)] {
-        assert!(r.holds(RegionAddress(12), 52));
-        assert!(!r.holds(RegionAddress(13), 52));
-        assert!(!r.holds(RegionAddress(0xFFFFFFFF), 1));
-        assert!(r.holds(RegionAddress(63), 1));
-        assert!(!r.holds(RegionAddress(64), 1));
+        assert!(r.holds(RegionAddress::new(12), 52));
+        assert!(!r.holds(RegionAddress::new(13), 52));
+        assert!(!r.holds(RegionAddress::new(0xFFFFFFFF), 1));
+        assert!(r.holds(RegionAddress::new(63), 1));
+        assert!(!r.holds(RegionAddress::new(64), 1));
     }
 }
 
@@ -54,13 +54,13 @@ fn erase_and_write_change_their_own_bytes_only() {
     region(64, 64).erase(&mut staging);
     assert!(staging[..64].iter().all(|b| *b == 0x11));
     assert!(staging[64..].iter().all(|b| *b == 0xFF));
-    region(64, 64).write(RegionAddress(12), &mut staging, &[0x22; 52]);
+    region(64, 64).write(RegionAddress::new(12), &mut staging, &[0x22; 52]);
     assert!(staging[64..76].iter().all(|b| *b == 0xFF));
     assert!(staging[76..].iter().all(|b| *b == 0x22));
     assert!(staging[..64].iter().all(|b| *b == 0x11));
     let before = staging;
-    region(64, 64).write(RegionAddress(13), &mut staging, &[0x33; 52]);
-    region(0, 64).write(RegionAddress(0xFFFFFFFF), &mut staging, &[0x33]);
+    region(64, 64).write(RegionAddress::new(13), &mut staging, &[0x33; 52]);
+    region(0, 64).write(RegionAddress::new(0xFFFFFFFF), &mut staging, &[0x33]);
     assert_eq!(staging, before);
 }
 

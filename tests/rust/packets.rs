@@ -67,7 +67,7 @@ fn e8() -> ContentFields {
         flags: 0x80,
         length: 52,
         sequence: 0x1234,
-        address: RegionAddress(12),
+        address: RegionAddress::new(12),
         data: core::array::from_fn(|i| i as u8 + 1),
     }
 }
@@ -339,7 +339,7 @@ fn p1_every_reader_at_every_other_length() {
                 flags: 0,
                 length: 0,
                 sequence: 0,
-                address: RegionAddress(0),
+                address: RegionAddress::new(0),
                 data: [0; 52],
             };
             assert_eq!((content.verdict, content.content), (Verdict::P1, zero), "{n} bytes");

@@ -67,7 +67,7 @@ fn one_first() -> Vec<u8> {
 
 fn region(base: u32, len: u32) -> Region {
     Region {
-        base: StagingOffset(base),
+        base: StagingOffset::new(base),
         len,
     }
 }
@@ -132,7 +132,7 @@ fn regions_past_32_bits() {
         let mut staging = [0x11; 128];
         assert!(!r.is_inside(128), "{base} {len}");
         r.erase(&mut staging);
-        r.write(RegionAddress(0), &mut staging, &[0x22; 8]);
+        r.write(RegionAddress::new(0), &mut staging, &[0x22; 8]);
         assert_eq!(staging, [0x11; 128], "{base} {len}");
         for list in [listed(region(0, 64), r), listed(r, region(0, 64))] {
             assert_eq!(set_up(0x42, list, 2, &staging).verdict, SetupVerdict::S4, "{base} {len}");

@@ -40,7 +40,7 @@ fn version(number: u32) -> MadeVersion {
 }
 
 fn region(base: u32, length: u32) -> Region {
-    Region { base: StagingOffset(base), len: length }
+    Region { base: StagingOffset::new(base), len: length }
 }
 
 /// The crate's device of a record.
@@ -70,7 +70,7 @@ pub fn record_of(device: &Device) -> DeviceRecord {
     let part = |part: &Component| Part {
         id: part.id,
         running: part.running.number(),
-        base: part.region.base.0,
+        base: part.region.base.number(),
         length: part.region.len,
         staged: match part.staged {
             Staged::Nothing => None,
@@ -470,7 +470,7 @@ impl Calls for Made {
         }
         let mut data = [0; DATA_SIZE];
         data.copy_from_slice(bytes);
-        let built = build_content(ContentFields { flags, length, sequence, address: RegionAddress(address), data });
+        let built = build_content(ContentFields { flags, length, sequence, address: RegionAddress::new(address), data });
         packet.copy_from_slice(&built.packet);
         packet_number(built.verdict)
     }
@@ -534,7 +534,7 @@ impl Calls for Made {
             flags: read.content.flags,
             length: read.content.length,
             sequence: read.content.sequence,
-            address: read.content.address.0,
+            address: read.content.address.number(),
         }
     }
 

@@ -6,7 +6,7 @@ use mathlib.Core.Bool.{Bool, true, false}
 use mathlib.Core.List.{List, [], _∷_, _++_, append-assoc}
 use native.Mathlib.Numerals.{add-one}
 use native.Mathlib.Omega.{arith}
-use borrow.Author.Tests.{eq-eqb, ne-eqb, le-leb}
+use borrow.Author.Tests.{eq-eqb, ne-eqb}
 use lib.Dec.{eqb, eqb·suc-zero}
 use lib.ListN.{length, getD, set, drop}
 use Rattle.wire.specs.Codes.{SUCCESS}
@@ -17,7 +17,7 @@ use Rattle.records.specs.Record.{Block}
 use Rattle.image.specs.Region.{within, regionBytes, blank, put}
 use Rattle.image.specs.Judge.{isRight, imageId, imageVersion}
 use Rattle.image.specs.declared.region.Region.{Region}
-use Rattle.image.proofs.region.Within.{region-length, blank-length, put-length, within-same, within-length, within-own, within-twice}
+use Rattle.image.proofs.region.Within.{region-length, blank-length, put-length, within-same, within-length, within-own, within-twice, lies-inside}
 use Rattle.component.specs.Lists.{partAt}
 use Rattle.component.specs.Record.{withStaged}
 use Rattle.component.specs.Versions.{imageVersionFits}
@@ -29,6 +29,7 @@ use Rattle.device.specs.Entries.{serveStaging}
 use Rattle.device.specs.Record.{idleWith}
 use Rattle.device.specs.Refusals.{breaksD1}
 use Rattle.device.specs.declared.record.Device.{Device}
+use Rattle.session.proofs.sound.Laws.{passes, staging-most}
 use Rattle.session.specs.declared.owed.Owed.the-variants as owed
 use Rattle.device.proofs.Calls.{Sound, Answered, answers-block}
 use Rattle.device.proofs.Blocks.{held, awaits, groundOf, Fitting, puts, block-staging, block-next, block-last}
@@ -142,7 +143,7 @@ module _ (b : List ℕ) (α : Accepted b) (t : ℕ) (small : t < 256) (d : Devic
         puts-it : takeBlock r (headAt b (spot k)) (drop 8 (blockPacket b (spot k))) s ≡ s′
         puts-it =
             puts r (headAt b (spot k)) k s (drop 8 (blockPacket b (spot k))) (blockAt b (spot k) .bytes) fits
-            (le-leb (r .base .0 + r .len) (length s) (omega (arith, o .room))) (block-data b (spot k)) refl
+            (lies-inside r (length s) (omega (arith, o .room)) (omega (arith, staging-most (passes (o .d1 k))))) (block-data b (spot k)) refl
             ∙ becomes
 
         -- so the buffer is s′ afterwards

@@ -52,6 +52,10 @@ module _ {n count : ℕ} {parts : List Component} {session : Session} where
   setup-fine : Passes n count parts session → setupVerdict n count parts ≡ Fine
   setup-fine p = fine _ (p .setup)
 
+  -- the staging buffer is at most 65,536 bytes long
+  pub staging-most : Passes n count parts session → n ≤ 65536
+  staging-most p = fine-staging n count parts (setup-fine p)
+
   -- there are at most seven components
   pub count-most : Passes n count parts session → count ≤ 7
   count-most p = fine-count n count parts (setup-fine p) .1
@@ -65,4 +69,4 @@ module _ {n count : ℕ} {parts : List Component} {session : Session} where
   -- the region of a component in use lies in the staging buffer
   pub region-inside : (k : ℕ) → Passes n count parts session → length parts ≡ 7 → k < count → isInside (partAt parts k .region) n ≡ true
   region-inside k p l h =
-      lies-inside (partAt parts k .region) n (fine-region n count parts (setup-fine p) l k h .1) (omega (arith, fine-staging n count parts (setup-fine p)))
+      lies-inside (partAt parts k .region) n (fine-region n count parts (setup-fine p) l k h .1) (omega (arith, staging-most p))

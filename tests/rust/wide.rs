@@ -8,7 +8,7 @@ use cfu_updater::decide::{Action, Move};
 use cfu_updater::device::setup::set_up;
 use cfu_updater::host::inner::inner_step;
 use cfu_updater::host::step::step;
-use cfu_updater::host_bytes::{contents_bytes, read_body, read_cursor};
+use cfu_updater::host_bytes::{are_contents, contents_bytes, is_kept, keep, read_body, read_cursor};
 use cfu_updater::host_record::fits::{body_at, is_last};
 use cfu_updater::host_record::record::{End, Host, HostStage, Place};
 use cfu_updater::host_record::report::Progress;
@@ -221,7 +221,11 @@ fn ends_past_32_bits() {
 fn numbers_in_bytes() {
     let c = moved(0xFFFFFFFF, 0xFFFFFFFF, 0xFFFFFFFF);
     for cursor in [0, 130, 65536, 0xFFFFFFFF] {
-        let q = contents_bytes(c, cursor);
+        let mut q = contents_bytes(c);
+        let stage = sending(0, 0xFFFFFFFE).stage;
+        assert!(are_contents(&q) && !is_kept(&q, stage) && read_cursor(&q) == 0);
+        keep(&mut q, stage, cursor);
+        assert!(is_kept(&q, stage) && !is_kept(&q, sending(0, 0xFFFFFFFF).stage));
         assert_eq!(read_cursor(&q), cursor);
         let body = read_body(&q, 0);
         assert_eq!((body.start, body.end, body.records), (0xFFFFFFFF, 0x1_FFFF_FFFE, 0xFFFFFFFF));

@@ -1,25 +1,40 @@
--- What is sent of a packet, the record that a step leaves, the cursor that is kept, and what a move leaves. Assumes nothing.
-use mathlib.Core.Path.{_≡_, refl, sym, ap, _∙_}
-use mathlib.Core.Bool.{true, false, cond}
-use mathlib.Core.List.{List, [], _∷_, _++_, flatten, append-nil}
+-- What is sent of a packet, the record that a step leaves, and what the inner step over contents is. Assumes nothing.
+use mathlib.Core.Path.{_≡_, refl, sym, ap, ap₂, _∙_}
+use mathlib.Core.Bool.{Bool, true, false, true≢false, cond}
+use mathlib.Core.List.{List, [], _∷_, flatten, append-nil}
 use Prim.Native.Nat.{ℕ, _+_}
 use native.Mathlib.Omega.{arith}
-use borrow.Author.Tests.{ne-eqb}
-use lib.Dec.{eqb}
-use lib.ListN.{length, take, drop}
-use lib.Seq.{take-all, length-take-le}
-use Rattle.wire.specs.Bytes.{bytesOf, copyOf}
-use Rattle.wire.proofs.Pieces.{put-more}
-use Rattle.make.specs.Answer.{N, rowOf, sentBy}
-use Rattle.make.specs.Made.{InnerStep, writtenStep}
+use borrow.Author.Tests.{eq-eqb, ne-eqb}
+use lib.Dec.{eqb, leb}
+use lib.ListN.{length, getD, take, replicate}
+use lib.Seq.{length-take-le}
+use Rattle.wire.specs.Bytes.{copyOf}
+use Rattle.records.specs.Walk.{nextOf}
+use Rattle.records.specs.declared.Next.{Next}
+use Rattle.records.specs.declared.Next.the-variants as next
+use Rattle.layout.specs.Layout.{tableEnd}
+use Rattle.layout.specs.Rows as bundle
+use Rattle.host_record.specs.declared.record.Host.{Host}
+use Rattle.host_record.specs.declared.record.Place.{Place}
+use Rattle.host_record.specs.declared.fits.Body.{Body}
+use Rattle.host_record.specs.Fits.{inHand}
+use Rattle.decide.specs.declared.Action.{Action}
+use Rattle.decide.specs.declared.Action.the-variants as action
+use Rattle.decide.specs.declared.Decided.{Decided}
+use Rattle.decide.specs.declared.Decided.the-variants as decided
+use Rattle.decide.specs.declared.Move.{Move}
+use Rattle.decide.specs.Decide.{entryOf, decisionOf}
+use Rattle.make.specs.Answer.{B, N, rowOf, sentBy, refusedBy}
+use Rattle.make.specs.Made.{Laid, laidRecord, laidOf, laidBy, recordStart, writtenOf, stepOfLaid, madeOf}
 use Rattle.make.specs.declared.answer.Written.{Written}
 use Rattle.make.specs.declared.answer.StepRefusal.{StepRefusal}
 use Rattle.make.specs.declared.answer.StepRefusal.the-variants.{Served, Bundle, N1}
-use Rattle.host_record.specs.declared.record.Host.{Host}
-use Rattle.host_bytes.specs.Layout.{CURSOR-START, CONTENTS-SIZE, hostBytes, withCursor}
+use Rattle.host.specs.Inner.{innerOn, innerBy, innerOf}
+use Rattle.host_bytes.specs.Layout.{CONTENTS-SIZE, hostBytes, readHost, contentsIn, bodyRead, cursorFor, keptWith, keptBy, contentsAfter}
+use Rattle.host_bytes.proofs.Contents.{body-read}
 use Rattle.c_numbers.specs.Numbers.{SERVED, stepNumber}
 use Rattle.c_numbers.specs.Lent.{Left, leaves}
-use Rattle.c_host.specs.Host.{keptBy, toldStep, refusedStep, stepBy}
+use Rattle.c_host.specs.Host.{toldStep, refusedStep, stepBy, innerOver}
 use Rattle.c_numbers.proofs.lent.Laws.{stored}
 
 -- how many bytes are sent: none, the first 16, all 60
@@ -48,20 +63,75 @@ stored-step r lent b h n e k f g =
     stored lent b n e k ∙ ap (λ (t : List ℕ). leaves n (cond (eqb n 0) t lent)) g ∙ ap (leaves n) (kept-step r lent (hostBytes h) n f)
     ∙ ap (λ (m : ℕ). leaves m (keptBy (rowOf r) lent (hostBytes h))) f
 
--- the cursor is copied to the end of the contents
-pub cursor-kept : (q s last : List ℕ) (cursor k : ℕ) → k ≡ 8 → length q ≡ CONTENTS-SIZE → s ≡ bytesOf 8 cursor → last ≡ copyOf (take k (drop CURSOR-START q)) s
-    → take CURSOR-START q ++ (last ++ drop k (drop CURSOR-START q)) ≡ withCursor q cursor
-cursor-kept q s last cursor k e whole f g =
-    let p = put-more q s last CURSOR-START 8 k e (ap length f) (omega arith) g in
-    let n : length (take CURSOR-START q ++ (last ++ drop k (drop CURSOR-START q))) ≡ CONTENTS-SIZE = p .0 ∙ whole in
-    sym (take-all CONTENTS-SIZE (take CURSOR-START q ++ (last ++ drop k (drop CURSOR-START q))) (omega arith)) ∙ p .1 ∙ ap (λ (t : List ℕ). take CURSOR-START q ++ t) f
+-- where nothing can be laid, the packet is zeros
+abbrev Zeroed : Laid → Type 0
+Zeroed l = l .served ≡ false → l .packet ≡ replicate 60 0
+
+by-test : (t : Bool) (x y : Laid) → Zeroed x → Zeroed y → Zeroed (cond t x y)
+by-test true x y f g = f
+by-test false x y f g = g
+
+record-zeroed : (b : List ℕ) (body : Body) (cursor : ℕ) (p : Place) (n : Next) → Zeroed (laidRecord b body cursor p n)
+record-zeroed b body cursor p next.End = λ z. refl
+record-zeroed b body cursor p next.Bad = λ z. refl
+record-zeroed b body cursor p (next.Record address start size past) = λ z. absurd (true≢false z)
+
+laid-zeroed : (b : List ℕ) (body : Body) (cursor token : ℕ) (a : Action) → Zeroed (laidOf b body cursor token a)
+unfolding laidOf
+laid-zeroed b body cursor token action.Nothing = λ z. refl
+laid-zeroed b body cursor token (action.Information code) = λ z. absurd (true≢false z)
+laid-zeroed b body cursor token action.Notify = λ z. absurd (true≢false z)
+laid-zeroed b body cursor token (action.Offer entry) = by-test (leb (tableEnd (entry + 1)) (length b)) _ _ (λ z. absurd (true≢false z)) (λ z. refl)
+laid-zeroed b body cursor token (action.Block p) = record-zeroed b body cursor p (nextOf b (recordStart body cursor (p .block)) (body .end))
 
 -- what a move leaves where it is served, and where it is N1
-module _ {made : InnerStep} (w : Written) (host packet : List ℕ) (before after : Host) (e : writtenStep w packet before after ≡ made) where
-  pub move-served : (b : List ℕ) (n : ℕ) → w .served ≡ true → n ≡ length (flatten (sentBy (w .sent) packet)) → b ≡ hostBytes after
-      → toldStep (record { number = SERVED; entry = 0; length = n }) b packet ≡ stepBy host (made .step)
-  move-served b n t f g = (rw (t, f, g)) ∙ ap (λ (s : InnerStep). stepBy host (s .step)) e
+module _ (b : List ℕ) (body : Body) (cursor : ℕ) (m : Move) (w : Written) (packet left : List ℕ) (whole : length packet ≡ 60)
+    (e : laidBy w left ≡ writtenOf packet b body cursor (m .host .token) (m .action)) where
+  laid : laidBy w left ≡ laidOf b body cursor (m .host .token) (m .action)
+  unfolding writtenOf
+  laid = e ∙ rw (eq-eqb (length packet) 60 whole)
 
-  pub move-refused : w .served ≡ false → refusedStep (stepNumber (N 1)) host packet ≡ stepBy host (made .step)
+  pub move-served : (host next : List ℕ) (n : ℕ) (before : Host) → w .served ≡ true → n ≡ length (flatten (sentBy (w .sent) left)) → next ≡ hostBytes (m .host)
+      → toldStep (record { number = SERVED; entry = 0; length = n }) next left ≡ stepBy host (madeOf b body cursor before (m .host) (m .action) .step)
+  move-served host next n before t f g = (rw (t, f, g)) ∙ ap (λ (l : Laid). stepBy host (stepOfLaid l before (m .host) .step)) laid
+
+  pub move-keeps : (q : List ℕ) (before : Host) → w .served ≡ true → keptWith q (m .host .stage) (w .cursor) ≡ contentsAfter q (madeOf b body cursor before (m .host) (m .action))
+  move-keeps q before t = (rw t) ∙ ap (λ (l : Laid). contentsAfter q (stepOfLaid l before (m .host))) laid
+
+  pub move-refused : (host : List ℕ) (before : Host) → w .served ≡ false → refusedStep (stepNumber (N 1)) host left ≡ stepBy host (madeOf b body cursor before (m .host) (m .action) .step)
   unfolding flatten
-  move-refused t = (rw t) ∙ ap (λ (s : InnerStep). stepBy host (s .step)) e
+  move-refused host before t =
+      let f : laidOf b body cursor (m .host .token) (m .action) .served ≡ false = sym (ap (λ (l : Laid). l .served) laid) ∙ t in
+      rw f (ap (refusedStep (stepNumber (N 1)) host) (ap (λ (l : Laid). l .packet) laid ∙ laid-zeroed b body cursor (m .host .token) (m .action) f))
+
+  pub move-leaves : (q : List ℕ) (before : Host) → w .served ≡ false → q ≡ contentsAfter q (madeOf b body cursor before (m .host) (m .action))
+  move-leaves q before t = (rw t) ∙ ap (λ (l : Laid). contentsAfter q (stepOfLaid l before (m .host))) laid
+
+-- the inner step over contents: by the row's number, and then by what is decided over the body in hand
+module _ (host q b reply : List ℕ) where
+  abbrev h : Host
+  h = readHost host
+
+  abbrev cursor : ℕ
+  cursor = cursorFor b q (h .stage)
+
+  pub inner-row : (getD q 0 0 ≡ 0 → ⊥) → innerOver host q b reply ≡ record { step = refusedBy (B (getD q 0 0) (getD q 1 0)) h; cursor = cursor }
+  unfolding innerOf contentsIn
+  inner-row z = rw (ne-eqb (getD q 0 0) 0 z)
+
+  module _ (whole : length q ≡ CONTENTS-SIZE) (z : getD q 0 0 ≡ 0) where
+    inner-on : (d : Decided) → decisionOf (getD q 2 0) (bodyRead q (inHand (h .stage)) .records) h reply ≡ d → innerOver host q b reply ≡ innerOn b (contentsIn q) cursor h d
+    unfolding innerOf contentsIn
+    inner-on d e =
+        let r : contentsIn q .row ≡ bundle.served = rw (eq-eqb (getD q 0 0) 0 z) in
+        ap (λ (x : bundle.Row). innerBy x b (contentsIn q) cursor h reply) r
+        ∙ ap (innerOn b (contentsIn q) cursor h) (ap (λ (y : Body). decisionOf (getD q 2 0) (y .records) h reply) (sym (body-read q (inHand (h .stage)) whole)) ∙ e)
+
+    pub inner-breaks : decisionOf (getD q 2 0) (bodyRead q (inHand (h .stage)) .records) h reply ≡ decided.N1
+        → innerOver host q b reply ≡ record { step = refusedBy (N 1) h; cursor = cursor }
+    inner-breaks e = inner-on decided.N1 e
+
+    pub inner-moves : (n : ℕ) (m : Move) → decisionOf (getD q 2 0) (bodyRead q (inHand (h .stage)) .records) h reply ≡ decided.Moves m → n ≡ cursor
+        → innerOver host q b reply ≡ madeOf b (bodyRead q (entryOf (m .action))) n h (m .host) (m .action)
+    inner-moves n m e f =
+        inner-on (decided.Moves m) e ∙ ap₂ (λ (y : Body) (x : ℕ). madeOf b y x h (m .host) (m .action)) (sym (body-read q (entryOf (m .action)) whole)) (sym f)

@@ -1,26 +1,24 @@
 -- The bundle's and the host's calls from C: what each answers and leaves in each lent buffer. A refused call leaves the record as it is.
 use Prim.Native.Nat.{ℕ}
-use mathlib.Core.Bool.{cond, _&&_}
+use mathlib.Core.Bool.{cond}
 use mathlib.Core.List.{List, flatten}
 use lib.Dec.{leb}
 use lib.ListN.{length}
-use Rattle.layout.specs.Layout.{OFFER-LIMIT}
 use Rattle.bundle.specs.Contents.{Contents, checkOf}
-use Rattle.host_record.specs.declared.record.Host.{Host}
 use Rattle.host_record.specs.Record.{Reported, reportOf, freshHost}
-use Rattle.make.specs.Answer.{Row, served, B}
-use Rattle.host.specs.Step.{stepOf}
-use Rattle.make.specs.Answer.{N, Step}
 use Rattle.host_record.specs.Fits.{PACKET-LIMIT}
+use Rattle.make.specs.Answer.{N, Step}
+use Rattle.make.specs.Made.{InnerStep}
+use Rattle.host.specs.Step.{stepOf}
 use Rattle.host.specs.Inner.{innerOf}
-use Rattle.host_bytes.specs.Layout.{HOST-SIZE, CONTENTS-SIZE, hostBytes, readHost, lostHost, contentsBytes, contentsIn, cursorIn, withCursor}
+use Rattle.host_bytes.specs.Layout.{HOST-SIZE, CONTENTS-SIZE, hostBytes, readHost, noPlace, contentsBytes, contentsIn, areContents, cursorFor, keptBy, contentsAfter}
 use Rattle.c_numbers.specs.declared.types.CCheck.{CCheck}
 use Rattle.c_numbers.specs.declared.types.CStep.{CStep}
 use Rattle.c_numbers.specs.declared.types.CReport.{CReport}
 use Rattle.c_numbers.specs.Numbers.{SERVED, WRONG-RECORD, WRONG-OUTPUT, bundleNumber, stepNumber, stepEntry, endingNumber, endingStatus, sized}
 use Rattle.c_numbers.specs.Lent.{LONG-SIZE, Left, leaves}
 
--- what the check leaves: the contents, with the cursor at 0
+-- what the check leaves: the contents, with no block in hand and the cursor at 0
 pub record CheckLeft : Type 0 where
   pub check : CCheck
   pub contents : List ℕ
@@ -31,7 +29,7 @@ toldCheck check contents = record { check = check; contents = contents }
 abbrev pub checkBy : Contents → CheckLeft
 checkBy c = record {
   check = record { number = bundleNumber (c .row); entry = c .place; count = c .count };
-  contents = contentsBytes c 0;
+  contents = contentsBytes c noPlace 0;
 }
 
 unfoldable pub checkCall : (bundle contents : List ℕ) → CheckLeft
@@ -43,13 +41,7 @@ checkCall bundle contents =
 unfoldable pub freshCall : (host : List ℕ) → (token : ℕ) → Left
 freshCall host token = sized host HOST-SIZE (leaves WRONG-RECORD host) (leaves SERVED (hostBytes (freshHost token)))
 
--- the record after a step: the next where it is served, and as it was where a row refuses
-abbrev pub keptBy : Row → (before after : List ℕ) → List ℕ
-keptBy served before after = after
-keptBy (B k entry) before after = before
-keptBy (N k) before after = before
-
--- what a step leaves: the record, and the packet, zeros behind what is sent
+-- what a step leaves: the record, which a refused step leaves as it was, and the packet, zeros behind what is sent
 pub record StepLeft : Type 0 where
   pub step : CStep
   pub host : List ℕ
@@ -74,26 +66,29 @@ stepCall host bundle reply packet =
     (sized packet LONG-SIZE (refusedStep WRONG-OUTPUT host packet)
     (stepBy host (stepOf bundle (readHost host) reply)))
 
--- the host whose step it is: contents whose count is not 1 to 7 are no accepted bundle's, and every step over them is N1
-abbrev pub hostOver : (contents host : List ℕ) → Host
-hostOver contents host =
-    cond (leb 1 (contentsIn contents .count) && leb (contentsIn contents .count) OFFER-LIMIT) (readHost host) lostHost
+-- the inner step over contents: with the cursor that is kept for the record, or that a walk finds
+abbrev pub innerOver : (host contents bundle reply : List ℕ) → InnerStep
+innerOver host contents bundle reply = innerOf bundle (contentsIn contents) (cursorFor bundle contents (readHost host .stage)) (readHost host) reply
+
+-- an answer that stands only where a check may have left the contents
+abbrev pub checked : {A : Type 0} → (contents : List ℕ) → (wrong right : A) → A
+checked contents wrong right = cond (areContents contents) right wrong
 
 -- the step over contents that the check left
 unfoldable pub stepCheckedCall : (host contents bundle reply packet : List ℕ) → StepLeft
 stepCheckedCall host contents bundle reply packet =
     sized host HOST-SIZE (refusedStep WRONG-RECORD host packet)
-    (sized contents CONTENTS-SIZE (refusedStep WRONG-RECORD host packet)
+    (checked contents (refusedStep WRONG-RECORD host packet)
     (sized packet LONG-SIZE (refusedStep WRONG-OUTPUT host packet)
-    (stepBy host (innerOf bundle (contentsIn contents) (cursorIn contents) (hostOver contents host) reply .step))))
+    (stepBy host (innerOver host contents bundle reply .step))))
 
--- the contents after it: the same, with the cursor that the inner step leaves
+-- the contents after it: with the block that is sent, if one is, and the cursor behind it
 unfoldable pub stepCheckedContents : (host contents bundle reply packet : List ℕ) → List ℕ
 stepCheckedContents host contents bundle reply packet =
     sized host HOST-SIZE contents
-    (sized contents CONTENTS-SIZE contents
+    (checked contents contents
     (sized packet LONG-SIZE contents
-    (withCursor contents (innerOf bundle (contentsIn contents) (cursorIn contents) (hostOver contents host) reply .cursor))))
+    (contentsAfter contents (innerOver host contents bundle reply))))
 
 -- the report; a record that counts 2^31 packets or more is N1 over every bundle, and so here
 abbrev pub reportBy : Reported → CReport

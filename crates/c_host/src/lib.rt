@@ -1,23 +1,24 @@
 // The bundle's and the host's calls from C (document 01, "The bundle" and "The host", rows B, N and C). The record is lent bytes; where a row refuses, it
 // stays as it is.
 ghost use mathlib.Core.Path.{_≡_};
-ghost use mathlib.Core.Bool.{cond, _&&_};
+ghost use mathlib.Core.Bool.{cond};
 ghost use mathlib.Core.List.{List, flatten};
 ghost use Prim.Native.Nat.{ℕ};
 ghost use lib.Dec.{leb};
 ghost use lib.ListN.{length, replicate};
-ghost use Rattle.layout.specs.Layout.{OFFER-LIMIT};
-ghost use Rattle.make.specs.Answer.{N, sentBy};
 ghost use Rattle.host_record.specs.Fits.{PACKET-LIMIT};
-ghost use Rattle.make.specs.Answer.{told};
+ghost use Rattle.decide.specs.Decide.{entryOf};
+ghost use Rattle.make.specs.Answer.{N, sentBy, told};
 ghost use Rattle.make.specs.Made.{madeOf};
-ghost use Rattle.host_bytes.specs.Layout.{HOST-SIZE, CONTENTS-SIZE, readHost, lostHost, contentsIn, cursorIn, withCursor};
+ghost use Rattle.host.specs.Inner.{cursorAt};
+ghost use Rattle.host_bytes.specs.Layout.{HOST-SIZE, CONTENTS-SIZE, bodyRead, cursorIn, isKept, contentsAfter};
 ghost use Rattle.c_numbers.specs.Numbers.{SERVED, stepNumber};
 ghost use Rattle.c_numbers.specs.Lent.{LONG-SIZE, leaves};
-ghost use Rattle.c_host.specs.Host.{toldCheck, checkCall, freshCall, toldStep, refusedStep, stepBy, stepCall, stepCheckedCall, stepCheckedContents, reportCall};
+ghost use Rattle.c_host.specs.Host.{toldCheck, checkCall, freshCall, toldStep, refusedStep, stepBy, stepCall, innerOver, stepCheckedCall, stepCheckedContents, reportCall};
 use bundle::check;
 use c_numbers::lent::store;
 use c_numbers::numbers::LONG_SIZE;
+use c_numbers::numbers::ROW_B;
 use c_numbers::numbers::ROW_N;
 use c_numbers::numbers::SERVED;
 use c_numbers::numbers::WRONG_OUTPUT;
@@ -34,20 +35,26 @@ use decide::Decided;
 use decide::Move;
 use decide::decision;
 use decide::entry_of;
+use host::step::cursor_for;
 use host::step::step;
 use host_bytes::CONTENTS_SIZE;
-use host_bytes::CURSOR_START;
+use host_bytes::COUNT_AT;
+use host_bytes::ENTRY_AT;
 use host_bytes::HOST_SIZE;
+use host_bytes::ROW_AT;
+use host_bytes::are_contents;
 use host_bytes::contents_bytes;
 use host_bytes::host_bytes;
-use host_bytes::lost_host;
+use host_bytes::is_kept;
+use host_bytes::keep;
 use host_bytes::read_body;
 use host_bytes::read_cursor;
 use host_bytes::read_host;
+use host_record::fits::Body;
 use host_record::fits::in_hand;
 use host_record::record::Host;
+use host_record::record::HostStage;
 use host_record::record::PACKET_LIMIT;
-use layout::limits::OFFER_LIMIT;
 use make::action::written;
 use make::answer::Sent;
 use make::answer::StepAnswer;
@@ -65,7 +72,7 @@ pub fn check_call(bundle: &[u8], contents: &mut [u8]) -> CCheck
         };
     }
     let c = check(bundle);
-    let b = contents_bytes(c, 0);
+    let b = contents_bytes(c);
     words::copy(contents, &b);
     let verdict = c.verdict;
     CCheck {
@@ -140,54 +147,50 @@ pub fn step_call(host: &mut [u8], bundle: &[u8], reply: &[u8], packet: &mut [u8]
     stepped(s, host, packet)
 }
 
-// The host whose step it is, over contents of so many offers: where these are not 1 to 7, one whose every step is N1.
-fn host_over(count: u8, host: &[u8]) -> Host
-    ensures { λ r. ⌜ r ≡ cond (leb 1 count && leb count OFFER-LIMIT) (readHost (now (host .entry))) lostHost ⌝ }
+// A row refuses the step: the packet becomes zero.
+fn cleared(number: u32, entry: u32, packet: &mut [u8]) -> CStep
+    requires { ⌜ length (now packet) ≡ LONG-SIZE ⌝ }
+    ensures { λ r. ⌜ ((host : List ℕ) → toldStep r host (now (packet .exit)) ≡ record { step = record { number = number; entry = entry; length = 0 }; host = host; packet = replicate LONG-SIZE 0 }) ⌝ }
 {
-    if (1 <= count) & (count <= OFFER_LIMIT) {
-        read_host(host)
-    } else {
-        lost_host()
+    words::copy(packet, &[0u8; 60]);
+    CStep {
+        number,
+        entry,
+        length: 0,
     }
 }
 
-// The cursor is kept behind the bodies.
-fn keep_cursor(contents: &mut [u8], cursor: usize)
-    requires { ⌜ length (now contents) ≡ CONTENTS-SIZE ⌝ }
-    ensures { λ _. ⌜ now (contents .exit) ≡ withCursor (now (contents .entry)) cursor ⌝ }
+// The cursor of a record: the one that is kept for it, or the one that a walk over the body in hand finds.
+fn cursor_over(contents: &[u8], bundle: &[u8], hand: Body, stage: HostStage) -> usize
+    ensures { λ r. ⌜ r ≡ cond (isKept (now (contents .entry)) stage) (cursorIn (now (contents .entry))) (cursorAt (now (bundle .entry)) hand stage) ⌝ }
 {
-    let b = words::bytes64(cursor);
-    words::copy(&mut contents[CURSOR_START..CONTENTS_SIZE], &b);
+    if is_kept(contents, stage) {
+        read_cursor(contents)
+    } else {
+        cursor_for(bundle, hand, stage)
+    }
 }
 
-// N1: the packet becomes zero.
-fn cleared(packet: &mut [u8]) -> CStep
-    requires { ⌜ length (now packet) ≡ LONG-SIZE ⌝ }
-    ensures { λ r. ⌜ ((host : List ℕ) → toldStep r host (now (packet .exit)) ≡ refusedStep (stepNumber (N 1)) host (replicate LONG-SIZE 0)) ⌝ }
-{
-    words::copy(packet, &[0u8; 60]);
-    refused(ROW_N + 1)
-}
-
-// What a move leaves: the packet and the cursor, and the next record where the step is served.
-fn moved(m: Move, host: &mut [u8], contents: &mut [u8], bundle: &[u8], packet: &mut [u8]) -> CStep
+// What a move leaves: the packet, and where the step is served the next record, and the contents with the block that is sent.
+fn moved(
+    m: Move,
+    cursor: usize,
+    host: &mut [u8],
+    contents: &mut [u8],
+    bundle: &[u8],
+    packet: &mut [u8],
+) -> CStep
     requires { ⌜ (length (now host) ≡ HOST-SIZE) × (length (now contents) ≡ CONTENTS-SIZE) × (length (now packet) ≡ LONG-SIZE) ⌝ }
-    ensures { λ r. ⌜ ((before : Host) → toldStep r (now (host .exit)) (now (packet .exit)) ≡ stepBy (now (host .entry)) (madeOf (now (bundle .entry)) (contentsIn (now (contents .entry))) (cursorIn (now (contents .entry))) before (m .host) (m .action) .step)) ⌝ }
-    ensures { λ _. ⌜ ((before : Host) → now (contents .exit) ≡ withCursor (now (contents .entry)) (madeOf (now (bundle .entry)) (contentsIn (now (contents .entry))) (cursorIn (now (contents .entry))) before (m .host) (m .action) .cursor)) ⌝ }
+    ensures { λ r. ⌜ ((before : Host) → toldStep r (now (host .exit)) (now (packet .exit)) ≡ stepBy (now (host .entry)) (madeOf (now (bundle .entry)) (bodyRead (now (contents .entry)) (entryOf (m .action))) cursor before (m .host) (m .action) .step)) ⌝ }
+    ensures { λ _. ⌜ ((before : Host) → now (contents .exit) ≡ contentsAfter (now (contents .entry)) (madeOf (now (bundle .entry)) (bodyRead (now (contents .entry)) (entryOf (m .action))) cursor before (m .host) (m .action))) ⌝ }
 {
     let action = m.action;
     let next = m.host;
     let body = read_body(contents, entry_of(action));
-    let w = written(
-        packet,
-        bundle,
-        body,
-        read_cursor(contents),
-        action,
-        next.token,
-    );
-    keep_cursor(contents, w.cursor);
+    let w = written(packet, bundle, body, cursor, action, next.token);
     if w.served {
+        let stage = next.stage;
+        keep(contents, stage, w.cursor);
         let b = host_bytes(next);
         words::copy(host, &b);
         let sent = w.sent;
@@ -198,6 +201,35 @@ fn moved(m: Move, host: &mut [u8], contents: &mut [u8], bundle: &[u8], packet: &
         }
     } else {
         refused(ROW_N + 1)
+    }
+}
+
+// The row that the check left, N1, or the move.
+fn checked_step(
+    host: &mut [u8],
+    contents: &mut [u8],
+    bundle: &[u8],
+    reply: &[u8],
+    packet: &mut [u8],
+) -> CStep
+    requires { ⌜ (length (now host) ≡ HOST-SIZE) × (length (now contents) ≡ CONTENTS-SIZE) × (length (now packet) ≡ LONG-SIZE) ⌝ }
+    ensures { λ r. ⌜ (toldStep r (now (host .exit)) (now (packet .exit)) ≡ stepBy (now (host .entry)) (innerOver (now (host .entry)) (now (contents .entry)) (now (bundle .entry)) (now (reply .entry)) .step))
+        × (now (contents .exit) ≡ contentsAfter (now (contents .entry)) (innerOver (now (host .entry)) (now (contents .entry)) (now (bundle .entry)) (now (reply .entry)))) ⌝ }
+{
+    let row = contents[ROW_AT];
+    if row != 0 {
+        return cleared(ROW_B + row as u32, contents[ENTRY_AT] as u32, packet);
+    }
+    let h = read_host(host);
+    let stage = h.stage;
+    let hand = read_body(contents, in_hand(stage));
+    let d = decision(contents[COUNT_AT], hand.records, h, reply);
+    match d {
+        Decided::N1 => cleared(ROW_N + 1, 0, packet),
+        Decided::Moves(m) => {
+            let cursor = cursor_over(contents, bundle, hand, stage);
+            moved(m, cursor, host, contents, bundle, packet)
+        }
     }
 }
 
@@ -215,21 +247,13 @@ pub fn step_checked_call(
     if host.len() != HOST_SIZE {
         return refused(WRONG_RECORD);
     }
-    if contents.len() != CONTENTS_SIZE {
+    if !are_contents(contents) {
         return refused(WRONG_RECORD);
     }
     if packet.len() != LONG_SIZE {
         return refused(WRONG_OUTPUT);
     }
-    let count = contents[0];
-    let h = host_over(count, host);
-    let stage = h.stage;
-    let hand = read_body(contents, in_hand(stage));
-    let d = decision(count, hand.records, h, reply);
-    match d {
-        Decided::N1 => cleared(packet),
-        Decided::Moves(m) => moved(m, host, contents, bundle, packet),
-    }
+    checked_step(host, contents, bundle, reply, packet)
 }
 
 // N1 for a record that counts more packets than any host may.

@@ -2,6 +2,7 @@
 use Rattle.wire.proofs.words.Copies.{copy-same}
 use lib.ListN.{length}
 use mathlib.Core.Path.{_≡_, sym, _∙_}
+use Rattle.host_bytes.specs.Layout.{CONTENTS-SIZE}
 use Rattle.c_host.specs.Host.{checkCall}
 use borrow.Author.Tests.{eq-eqb, ne-eqb}
 use borrow.Author.Needs.{needs}
@@ -41,8 +42,8 @@ unfolding checkCall
 returns-2 c =
     let q = c .before .before .before .before .before .before .before .before .before .before .before .before .before .args .contents .now in
     let s = c .before .before .before .before .before .before .before .before .contents-bytes .result in
-    let l : length q ≡ 93 = c .before .before .before .before .before .before .before .before .before .before .if1 .left in
-    let m : length s ≡ 93 = search needs in
+    let l : length q ≡ CONTENTS-SIZE = c .before .before .before .before .before .before .before .before .before .before .if1 .left in
+    let m : length s ≡ CONTENTS-SIZE = search needs in
     let d = c .before .before .before .before .before .copy .ensures ∙ copy-same q s (l ∙ sym m) ∙ c .before .before .before .before .before .before .before .before .contents-bytes .ensures in
     rw (eq-eqb _ _ l, ← c .before .before .before .before .before .before .before .before .before .check .ensures, c .before .before .bundle-number .ensures, d)
 

@@ -8,7 +8,7 @@ ghost use lib.Dec.{leb};
 ghost use lib.ListN.{length, replicate};
 ghost use Rattle.host_record.specs.Fits.{PACKET-LIMIT};
 ghost use Rattle.decide.specs.Decide.{entryOf};
-ghost use Rattle.make.specs.Answer.{N, sentBy, told};
+ghost use Rattle.make.specs.Answer.{B, N, sentBy, told};
 ghost use Rattle.make.specs.Made.{madeOf};
 ghost use Rattle.host.specs.Inner.{cursorAt};
 ghost use Rattle.host_bytes.specs.Layout.{HOST-SIZE, CONTENTS-SIZE, bodyRead, cursorIn, isKept, contentsAfter};
@@ -160,6 +160,14 @@ fn cleared(number: u32, entry: u32, packet: &mut [u8]) -> CStep
     }
 }
 
+// The row that the check left, by its number.
+fn row_refused(row: u8, entry: u8, packet: &mut [u8]) -> CStep
+    requires { ⌜ length (now packet) ≡ LONG-SIZE ⌝ }
+    ensures { λ r. ⌜ ((host : List ℕ) → toldStep r host (now (packet .exit)) ≡ record { step = record { number = stepNumber (B row entry); entry = entry; length = 0 }; host = host; packet = replicate LONG-SIZE 0 }) ⌝ }
+{
+    cleared(ROW_B + row as u32, entry as u32, packet)
+}
+
 // The cursor of a record: the one that is kept for it, or the one that a walk over the body in hand finds.
 fn cursor_over(contents: &[u8], bundle: &[u8], hand: Body, stage: HostStage) -> usize
     ensures { λ r. ⌜ r ≡ cond (isKept (now (contents .entry)) stage) (cursorIn (now (contents .entry))) (cursorAt (now (bundle .entry)) hand stage) ⌝ }
@@ -218,7 +226,7 @@ fn checked_step(
 {
     let row = contents[ROW_AT];
     if row != 0 {
-        return cleared(ROW_B + row as u32, contents[ENTRY_AT] as u32, packet);
+        return row_refused(row, contents[ENTRY_AT], packet);
     }
     let h = read_host(host);
     let stage = h.stage;

@@ -3,7 +3,6 @@ use mathlib.Core.Path.{_≡_, sym, ap, _∙_}
 use mathlib.Core.Bool.{cond}
 use mathlib.Core.List.{List, flatten}
 use Prim.Native.Nat.{ℕ}
-use native.Mathlib.Omega.{arith}
 use lib.ListN.{getD}
 use Rattle.host_record.specs.declared.record.Host.{Host}
 use Rattle.host_record.specs.declared.record.HostStage.{HostStage}
@@ -34,22 +33,13 @@ decided c =
     sym (c .decision .ensures ∙ ap (λ (y : Body). decisionOf (getD q 2 0) (y .records) h (a .reply .now)) e
     ∙ ap (λ (x : Host). decisionOf (getD q 2 0) (bodyRead q (inHand (x .stage)) .records) x (a .reply .now)) (r .read-host .ensures))
 
-cast-cleared : tie.Need-cast-cleared
-cast-cleared c = omega (arith, c .before .slice-known4 .given 0 .fits)
-
-add-cleared : tie.Need-add-cleared
-add-cleared c = omega (arith, c .before .slice-known4 .given 0 .fits)
-
-cast-cleared-2 : tie.Need-cast-cleared-2
-cast-cleared-2 c = omega (arith, c .slice-known5 .given 1 .fits)
-
 returns : tie.Need-returns
 unfolding flatten
 returns c =
     let s = c .before .before .before .before .before in
     let a = s .before .before .before .before .before .before .before .args in
     let e = inner-row (a .host .now) (a .contents .now) (a .bundle .now) (a .reply .now) (s .if1 .taken) in
-    (rw e (c .before .before .cleared .ensures _), rw e)
+    (rw e (c .before .before .row-refused .ensures _), rw e)
 
 moved-requires : tie.Need-moved-requires
 moved-requires c κs = c .before .before .before .before .before .before .before .before .before .before .before .before .before .before .before .before .before .before .before .before .before .before .pre
@@ -61,7 +51,7 @@ returns-2 c =
     let s = d .before .before .before .before .before .before .before .before .before .before .before .before .before .before in
     let a = s .args in
     let e = inner-breaks (a .host .now) (a .contents .now) (a .bundle .now) (a .reply .now) (s .pre .1) (d .before .before .before .before .before .before .before .if1 .left) (decided d ∙ c .before .before .before .before .enum-told .given .1) in
-    (rw e (c .before .before .cleared2 .ensures _), rw e)
+    (rw e (c .before .before .cleared .ensures _), rw e)
 
 returns-3 : tie.Need-returns-3
 returns-3 c =
@@ -82,10 +72,7 @@ checked-step-spec =
     tie.close
     (tie.spec
     (λ c. search needs)
-    cast-cleared
-    add-cleared
     (λ c. search needs)
-    cast-cleared-2
     (λ c κs. search needs)
     (λ c. search needs)
     returns

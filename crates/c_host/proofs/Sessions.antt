@@ -13,7 +13,7 @@ use Rattle.host_bytes.specs.Promises.{Keeps}
 use Rattle.host_bytes.proofs.Kept.{check-keeps, kept-contents-step, kept-are-contents}
 use Rattle.c_numbers.specs.Lent.{LONG-SIZE}
 use Rattle.c_host.specs.Host.{checkCall, StepLeft, stepCall, innerOver, stepCheckedCall, stepCheckedContents}
-use Rattle.c_host.specs.Sessions.{session, checkedSession, CheckedSessions}
+use Rattle.c_host.specs.Sessions.{session, checkedSession, CheckedSessions, KeptSessions}
 
 -- one call over contents that were left for the bundle: it is the plain step, and leaves such contents again
 module _ (host contents bundle reply packet : List ℕ) (bytes : Bytes bundle) (k : Keeps bundle contents) where
@@ -46,6 +46,9 @@ check-leaves : (bundle contents : List ℕ) → length contents ≡ CONTENTS-SIZ
 unfolding checkCall
 check-leaves bundle contents h = rw (eq-eqb (length contents) CONTENTS-SIZE h)
 
+pub kept-sessions : KeptSessions
+kept-sessions host packet contents bundle replies bytes k = sessions bundle bytes replies host packet contents k
+
 pub checked-sessions : CheckedSessions
 checked-sessions host packet contents bundle replies bytes h =
-    sessions bundle bytes replies host packet _ (subst (Keeps bundle) (sym (check-leaves bundle contents h)) (check-keeps bundle bytes))
+    kept-sessions host packet _ bundle replies bytes (subst (Keeps bundle) (sym (check-leaves bundle contents h)) (check-keeps bundle bytes))

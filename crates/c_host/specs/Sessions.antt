@@ -5,6 +5,7 @@ use mathlib.Core.List.{List, [], _∷_}
 use lib.ListN.{length}
 use Rattle.wire.specs.Bytes.{Bytes}
 use Rattle.host_bytes.specs.Layout.{CONTENTS-SIZE}
+use Rattle.host_bytes.specs.Promises.{Keeps}
 use Rattle.c_host.specs.Host.{checkCall, StepLeft, stepCall, stepCheckedCall, stepCheckedContents}
 
 -- a session by the plain step: what each call answers and leaves; each is lent the record and the packet that the last one left
@@ -27,3 +28,9 @@ abbrev pub CheckedSessions : Type 0
 CheckedSessions =
     (host packet contents bundle : List ℕ) (replies : List (List ℕ)) → Bytes bundle → length contents ≡ CONTENTS-SIZE
     → checkedSession host packet (checkCall bundle contents .contents) bundle replies ≡ session host packet bundle replies
+
+-- .. and over any contents that the check of the bundle, or a step over it, left at whatever call, also where they are older than the record
+abbrev pub KeptSessions : Type 0
+KeptSessions =
+    (host packet contents bundle : List ℕ) (replies : List (List ℕ)) → Bytes bundle → Keeps bundle contents
+    → checkedSession host packet contents bundle replies ≡ session host packet bundle replies

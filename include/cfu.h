@@ -12,7 +12,8 @@
  *   - a buffer that is read holds initialised bytes, and nobody else writes a lent buffer during the call;
  *   - buffers that are lent to one call do not overlap, save that two buffers which are only read may: a report and the replies to it, a reply and the next
  *     packet are two buffers each;
- *   - a record, the staging buffer and the bundle are those that the call before left. An older copy of a record is a record too.
+ *   - a record, the staging buffer and the bundle are those that the call before left. An older copy of a record is a record too. The contents of a checked
+ *     bundle are lent with that very bundle, as the check or any later step over them left them.
  *
  * Everything else is judged. Each call ends, writes only inside the buffers that it may write (those without const), and returns a number:
  *   - CFU_SERVED, or
@@ -50,7 +51,7 @@ extern "C" {
 #define CFU_DEVICE_SIZE 140     /* a device's record */
 #define CFU_LIST_SIZE 91        /* the list that set-up takes: seven times 13 */
 #define CFU_HOST_SIZE 24        /* a host's record */
-#define CFU_CONTENTS_SIZE 93    /* the contents of a checked bundle, with the host's cursor */
+#define CFU_CONTENTS_SIZE 103   /* what the check of a bundle answers, with the host's cursor */
 #define CFU_REPLIES_SIZE 32     /* up to two replies of the device */
 #define CFU_SHORT_SIZE 16       /* offer, information, extended, and both replies */
 #define CFU_LONG_SIZE 60        /* content, version reply */
@@ -68,7 +69,8 @@ extern "C" {
 
 #define CFU_SERVED 0
 
-/* A lent buffer is not of its size: a record; a list or data that is read; a buffer for what comes out. */
+/* A lent buffer is not of its size. C1: a record; or contents that no check leaves, for their size or for their bytes. C2: a list or data that is read. C3: a
+ * buffer for what comes out. */
 #define CFU_C1 0x4301
 #define CFU_C2 0x4302
 #define CFU_C3 0x4303
@@ -93,7 +95,7 @@ extern "C" {
 #define CFU_P2 0x5002
 
 /* Host. N1: bytes that are no record; a record that points at an entry or a body's record that the bundle lacks, counts over 8 BUSY, more passes than offers
- * or 2^31 packets or more, or has a mask bit past its offers; contents that no check wrote. */
+ * or 2^31 packets or more, or has a mask bit past its offers. */
 #define CFU_N1 0x4E01
 
 /* Bundle. B1: under 8 or over 65,536 bytes. B2: byte 1 not 1, or bytes 2 to 7 not zero. B3: a count not 1 to 7. B4: a table past the end. B5: an offer whose
@@ -302,13 +304,19 @@ uint32_t cfu_device_reset(uint8_t *device, size_t device_len);
 /*
  * ---- The bundle ----
  *
- * The contents of a checked bundle, CFU_CONTENTS_SIZE bytes: count (1), from 1 on seven times body offset (4), body length (4), records (4), and from 85 on
- * the host's cursor (8), the offset in the bundle of the record after the one in hand.
+ * The contents of a checked bundle, CFU_CONTENTS_SIZE bytes:
+ *     0  row (1): 1 to 8 for B1 to B8, 0 where none refuses the bundle; 1 the entry that it names (1)
+ *     2  count of offers (1), 0 where a row refuses
+ *     3  seven times 12 bytes: body offset (4), body length (4), records (4); zero past the count
+ *    87  the block that the cursor is kept for: its entry (4), and 91 its number in the body (4), both counted from 0; all ones where there is none
+ *    95  the host's cursor (8): the offset in the bundle of the record behind that block's
+ * Only these calls need to write them. Contents of another size, of another row, or of no or more than 7 offers where no row refuses, are refused by C1: all
+ * zeros are such.
  */
 
 /*
- * Checks a bundle, and writes its contents with the cursor at 0. Returns CFU_SERVED with the count of offers, C3 (contents), or B1 to B8 with the entry and the
- * contents zeroed. The offer of entry i, counted from 0, is the 16 bytes of the bundle at 8 + 24 i, for cfu_read_offer.
+ * Checks a bundle, and writes what it found, with no block and the cursor at 0. Returns CFU_SERVED with the count of offers, C3 (contents), or B1 to B8 with
+ * the entry, which the contents keep. The offer of entry i, counted from 0, is the 16 bytes of the bundle at 8 + 24 i, for cfu_read_offer.
  */
 cfu_check cfu_bundle_check(const uint8_t *bundle, size_t bundle_len, uint8_t *contents, size_t contents_len);
 
@@ -342,11 +350,12 @@ cfu_step cfu_host_step(uint8_t *host, size_t host_len, const uint8_t *bundle, si
                        size_t packet_len);
 
 /*
- * The same step over the contents that cfu_bundle_check wrote for this very bundle, which is not checked again: the time of a step does not grow with the
- * bundle. contents is a record that each step hands to the next (it keeps the cursor). For a host that began fresh with these contents and takes every step
- * of its session by this call it returns what cfu_host_step does. Contents whose count is not 1 to 7, as a refused check leaves them, are refused by N1. Of
- * other contents that the check did not write for this bundle only this is sure: nothing outside of the bundle is read; the packets may then be wrong, so
- * check each bundle once and lend what the check wrote. Returns as cfu_host_step does, but for the B rows; C1 is for host and contents.
+ * The same step over the contents that cfu_bundle_check wrote for this very bundle, which is not checked again. What is asked of the caller: the bundle is the
+ * one that was checked, unchanged, and the contents are as that check, or any later step over them, left them. Then the call returns what cfu_host_step does,
+ * and leaves the same record and packet, from any record and for any reply, also where the check refused the bundle. The contents keep the cursor of the block
+ * that was sent last: a step on from that block takes a time that does not grow with the bundle, and one from another block walks over the records before it.
+ * Returns as cfu_host_step does; C1 is for host and contents. Of contents that were not left for this bundle only this is sure: nothing outside of the bundle
+ * is read, and the packets may be wrong.
  */
 cfu_step cfu_host_step_checked(uint8_t *host, size_t host_len, uint8_t *contents, size_t contents_len, const uint8_t *bundle, size_t bundle_len,
                                const uint8_t *reply, size_t reply_len, uint8_t *packet, size_t packet_len);

@@ -150,6 +150,9 @@ LAYOUTS = (
     (r"the components of a version reply: seven times (\d+) ", ["RUNNING_SIZE"]),
     (r"\n \* +(\d+)  seven times (\d+) bytes: id \(1\), running version", ["PARTS_START", "PART_SIZE"]),
     (r"the 16 bytes of the bundle at (\d+) \+ (\d+) i", ["HEAD", "ENTRY"]),
+    (r"\n \* +(\d+)  seven times (\d+) bytes: body offset \(4\)", ["BODIES_START", "BODY_SIZE"]),
+    (r"\n \* +(\d+)  the block that the cursor is kept for: ", ["HAND_START"]),
+    (r"\n \* +(\d+)  the host's cursor \(8\)", ["CURSOR_START"]),
 )
 
 

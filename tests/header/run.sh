@@ -43,6 +43,7 @@ slip "a code of CFU" 's/^#define CFU_OFFER_BUSY 3/#define CFU_OFFER_BUSY 4/' CFU
 slip "a limit" 's/^#define CFU_STAGING_LIMIT 65536/#define CFU_STAGING_LIMIT 65535/' CFU_STAGING_LIMIT
 slip "a kind" 's/^#define CFU_KIND_EXTENDED 3/#define CFU_KIND_EXTENDED 2/' CFU_KIND_EXTENDED
 slip "a place in a record" 's/^ \*    14  seven times 18 bytes/ *    14  seven times 19 bytes/' PART_SIZE
+slip "a place in the contents" 's/^ \*    87  the block that/ *    86  the block that/' HAND_START
 slip "a number left out" '/^#define CFU_ERROR_CRC /d' CFU_ERROR_CRC
 slip "a number that nothing has" 's/^#define CFU_SERVED 0/&\n#define CFU_B9 0x4209/' CFU_B9
 slip "a declaration that nothing has" 's/^uint32_t cfu_host_fresh(/int spare;\n&/' "int spare"

@@ -18,14 +18,19 @@ use Rattle.device.specs.Offer.{offerEntry}
 use Rattle.device.specs.Content.{contentEntry}
 use Rattle.device.specs.Entries.{setUpOf, versionEntry}
 use Rattle.device_bytes.specs.Layout.{partsBytes, deviceBytes, partsIn, deviceIn, readDevice, listIn}
-use Rattle.host_bytes.specs.Layout.{hostBytes, bodiesBytes, contentsBytes}
+use Rattle.layout.specs.Rows.{bundleRow}
+use Rattle.bundle.specs.Contents.{checkOf}
+use Rattle.host.specs.Inner.{innerOf}
+use Rattle.host_bytes.specs.Layout.{hostBytes, hostIn, readHost, bodiesBytes, contentsBytes, contentsIn}
 use Rattle.c_device.specs.Device.{setUpCall, versionsCall, offerCall, contentCall}
+use Rattle.c_host.specs.Host.{checkCall, stepCheckedCall, stepCheckedContents}
 use Rattle.c_build.specs.Build.{buildOfferCall}
 use Rattle.c_read.specs.Read.{readOfferCall}
 use Rattle.capi.specs.Bench.{CallsHold}
+use Rattle.capi.proofs.Packets.{packets-hold}
 
 pub calls-hold : CallsHold
-unfolding flatten same firstOf any pairs offerBytes fieldsIn buildOf kindIn readOf flat replyBytes within blank put eraseOf writeOf firstFrom find badIds badRegions setupVerdict breaksD1 refusalOf rejections needUnmet offerVerdict onOffer offerEntry contentVerdict takeBlock onBlock contentEntry setUpOf versionEntry partsBytes deviceBytes partsIn deviceIn readDevice listIn hostBytes bodiesBytes contentsBytes setUpCall versionsCall offerCall contentCall buildOfferCall readOfferCall
+unfolding flatten same firstOf any pairs offerBytes fieldsIn buildOf kindIn readOf flat replyBytes within blank put eraseOf writeOf firstFrom find badIds badRegions setupVerdict breaksD1 refusalOf rejections needUnmet offerVerdict onOffer offerEntry contentVerdict takeBlock onBlock contentEntry setUpOf versionEntry partsBytes deviceBytes partsIn deviceIn readDevice listIn bundleRow checkOf innerOf hostBytes hostIn readHost bodiesBytes contentsBytes contentsIn setUpCall versionsCall offerCall contentCall checkCall stepCheckedCall stepCheckedContents buildOfferCall readOfferCall
 calls-hold = record {
   sets-up = refl;
   versions = refl;
@@ -35,6 +40,12 @@ calls-hold = record {
   sending = refl;
   failed = refl;
   kept = refl;
+  named = refl;
+  rejects = refl;
+  steps = refl;
+  leaves-contents = refl;
+  unchecked = refl;
   builds = refl;
   reads = refl;
+  packets = packets-hold;
 }

@@ -1,10 +1,10 @@
--- The bench device of document 01 as C sees it: the layouts of include/cfu.h in literal bytes, so that no other layout that reads back can take their place.
+-- The bench device of document 01 as C sees it: what calls leave in the layouts of include/cfu.h, in literal bytes.
 use Prim.Native.Nat.{ℕ}
 use mathlib.Core.Path.{_≡_}
 use mathlib.Core.Bool.{true, false}
 use mathlib.Core.List.{List, [], _∷_, _++_}
 use lib.ListN.{replicate}
-use Rattle.layout.specs.Rows.{served}
+use Rattle.layout.specs.Rows.{served, B}
 use Rattle.bundle.specs.Contents.{Contents}
 use Rattle.layout.specs.Layout.{blankEntry}
 use Rattle.layout.specs.declared.Entry.{Entry}
@@ -12,13 +12,15 @@ use Rattle.offers.specs.Offer.{blankOffer}
 use Rattle.host_record.specs.declared.record.Host.{Host}
 use Rattle.host_record.specs.declared.record.HostStage.the-variants.{Sending, Ended}
 use Rattle.host_record.specs.declared.record.End.the-variants as end
-use Rattle.host_bytes.specs.Layout.{hostBytes, contentsBytes}
+use Rattle.host_bytes.specs.Layout.{hostBytes, noPlace, contentsBytes}
 use Rattle.c_numbers.specs.declared.types.COffer.{COffer}
 use Rattle.c_numbers.specs.Numbers.{SERVED}
 use Rattle.c_numbers.specs.Lent.{leaves}
 use Rattle.c_device.specs.Device.{setUpCall, offerCall, contentCall, versionsCall}
+use Rattle.c_host.specs.Host.{checkCall, refusedStep, stepCheckedCall, stepCheckedContents}
 use Rattle.c_build.specs.Build.{buildOfferCall}
 use Rattle.c_read.specs.Read.{readOfferCall}
+use Rattle.capi.specs.Packets.{PacketsHold}
 
 -- id, running version, region base, region length; five slots are not in use
 abbrev pub list : List ℕ
@@ -104,6 +106,18 @@ body offset length records = record { offer = blankOffer; offset = offset; lengt
 abbrev pub contents : Contents
 contents = record { row = served; place = 0; count = 2; table = body 56 74 2 ∷ body 130 74 2 ∷ replicate 5 blankEntry }
 
+-- a bundle that B5 refuses at its second entry
+abbrev pub refusedContents : Contents
+refusedContents = record { row = B 5 2; place = 2; count = 0; table = replicate 7 blankEntry }
+
+-- what stands behind the bodies where no block is in hand
+abbrev pub noHand : List ℕ
+noHand = replicate 8 0xFF ++ replicate 8 0
+
+-- what the check leaves of seven bytes: B1, no entry and no offers
+abbrev pub shortContents : List ℕ
+shortContents = 1 ∷ 0 ∷ 0 ∷ replicate 84 0 ++ noHand
+
 -- what the calls leave, byte for byte
 pub record CallsHold : Type 0 where
   pub sets-up : setUpCall (replicate 140 0) 0x0042 list 2 128 ≡ leaves SERVED device
@@ -118,7 +132,15 @@ pub record CallsHold : Type 0 where
       ≡ 0xA5 ∷ 5 ∷ 2 ∷ 0 ∷ 0 ∷ 0 ∷ 4 ∷ 0 ∷ 0 ∷ 0 ∷ 3 ∷ 0 ∷ 0 ∷ 0 ∷ 0x2C ∷ 0x01 ∷ 0 ∷ 0 ∷ 2 ∷ 0 ∷ 0 ∷ 0 ∷ 0 ∷ 1 ∷ []
   pub failed : hostBytes failedHost
       ≡ 0xA5 ∷ 7 ∷ 1 ∷ 0 ∷ 0 ∷ 0 ∷ 5 ∷ 0 ∷ 0 ∷ 0 ∷ 0 ∷ 0 ∷ 0 ∷ 0 ∷ 5 ∷ 0 ∷ 0 ∷ 0 ∷ 1 ∷ 0 ∷ 0 ∷ 0 ∷ 1 ∷ 0 ∷ []
-  pub kept : contentsBytes contents 187
-      ≡ 2 ∷ 56 ∷ 0 ∷ 0 ∷ 0 ∷ 74 ∷ 0 ∷ 0 ∷ 0 ∷ 2 ∷ 0 ∷ 0 ∷ 0 ∷ 130 ∷ 0 ∷ 0 ∷ 0 ∷ 74 ∷ 0 ∷ 0 ∷ 0 ∷ 2 ∷ 0 ∷ 0 ∷ 0 ∷ replicate 60 0 ++ 187 ∷ replicate 7 0
+  pub kept : contentsBytes contents (record { entry = 1; block = 0 }) 187
+      ≡ 0 ∷ 0 ∷ 2 ∷ 56 ∷ 0 ∷ 0 ∷ 0 ∷ 74 ∷ 0 ∷ 0 ∷ 0 ∷ 2 ∷ 0 ∷ 0 ∷ 0 ∷ 130 ∷ 0 ∷ 0 ∷ 0 ∷ 74 ∷ 0 ∷ 0 ∷ 0 ∷ 2 ∷ 0 ∷ 0 ∷ 0
+      ∷ replicate 60 0 ++ 1 ∷ 0 ∷ 0 ∷ 0 ∷ 0 ∷ 0 ∷ 0 ∷ 0 ∷ 187 ∷ replicate 7 0
+  pub named : contentsBytes refusedContents noPlace 0 ≡ 5 ∷ 2 ∷ 0 ∷ replicate 84 0 ++ noHand
+  pub rejects : checkCall (replicate 7 0) (replicate 103 9)
+      ≡ record { check = record { number = 0x4201; entry = 0; count = 0 }; contents = shortContents }
+  pub steps : stepCheckedCall (replicate 24 0) shortContents (replicate 7 0) [] (replicate 60 9) ≡ refusedStep 0x4201 (replicate 24 0) (replicate 60 0)
+  pub leaves-contents : stepCheckedContents (replicate 24 0) shortContents (replicate 7 0) [] (replicate 60 9) ≡ shortContents
+  pub unchecked : stepCheckedCall (replicate 24 0) (replicate 103 0) (replicate 7 0) [] (replicate 60 9) ≡ refusedStep 0x4301 (replicate 24 0) (replicate 60 9)
   pub builds : buildOfferCall fields (replicate 16 9) ≡ leaves SERVED fieldsPacket
   pub reads : readOfferCall fieldsPacket ≡ record { number = SERVED; kind = 1; offer = fields; signal = record { code = 0; token = 0 } }
+  pub packets : PacketsHold

@@ -3,7 +3,7 @@ use component::record::Listed;
 use device::answer::Channel;
 use device::record::Device;
 use device::setup::set_up;
-use firmware::serve_lent;
+use firmware::serve_in_place;
 use image::region::Region;
 use image::region::StagingOffset;
 use libc::STDIN_FILENO;
@@ -11,8 +11,11 @@ use script::buffer::read_first;
 use script::tell;
 use show::text;
 use wire::version::Version;
+ghost use mathlib.Core.Path.{_≡_};
+ghost use mathlib.Core.Bool.{true};
+ghost use Rattle.device.specs.Entries.{serveEntry, serveStaging};
 
-// A turn of the loop serves one frame; there are more turns than a device lives to take.
+// The loop ends after 2^64 - 1 turns at the latest. A turn takes one frame.
 const TURNS: u64 = 0xFFFF_FFFF_FFFF_FFFF;
 
 // A component of the bench device, with 64 bytes of the staging buffer.
@@ -44,12 +47,60 @@ fn bench(staging: &[u8]) -> Device {
     device
 }
 
-// A packet for the device: what is due goes out, and the next record stays.
-fn served(device: Device, channel: Channel, staging: &mut [u8], packet: &[u8]) -> Device {
-    let answer = serve_lent(device, channel, staging, packet);
-    tell::answer(answer);
-    let next = answer.device;
-    next
+// A frame of the bus.
+struct Frame {
+    whole: bool, // false where the input has ended or breaks off: no frame follows
+    served: bool, // the packet is for the device, on this channel:
+    channel: Channel,
+    letter: u8, // the channel as the frame has it
+    len: usize, // of the packet
+}
+
+// The end of the input.
+fn ended() -> Frame {
+    Frame {
+        whole: false,
+        served: false,
+        channel: Channel::Offer,
+        letter: 0,
+        len: 0,
+    }
+}
+
+// A whole frame, by its channel's letter.
+fn by_letter(letter: u8, len: usize) -> Frame {
+    let channel = if letter == b'O' {
+        Channel::Offer
+    } else {
+        Channel::Content
+    };
+    Frame {
+        whole: true,
+        served: (letter == b'O') | (letter == b'C'),
+        channel,
+        letter,
+        len,
+    }
+}
+
+// A byte as a length.
+fn wide(n: u8) -> usize {
+    n as usize
+}
+
+// The next frame. Its packet comes into the buffer.
+fn next_frame(packet: &mut [u8]) -> Frame {
+    let mut head = [0u8; 2];
+    let got = io::read_full(STDIN_FILENO, &mut head);
+    if got == 0 {
+        return ended();
+    }
+    let n = wide(head[1]);
+    if (got < 2) | !read_first(packet, n) {
+        text(b"cut frame\n");
+        return ended();
+    }
+    by_letter(head[0], n)
 }
 
 // The host asks which versions run.
@@ -69,11 +120,12 @@ fn restarted(device: Device) -> Device {
     next
 }
 
-// One frame, by its channel.
-fn turn(device: Device, staging: &mut [u8], channel: u8, packet: &[u8]) -> Device {
-    match channel {
-        b'O' => served(device, Channel::Offer, staging, packet),
-        b'C' => served(device, Channel::Content, staging, packet),
+// A frame whose packet is not served.
+fn unserved(device: Device, whole: bool, letter: u8) -> Device {
+    if !whole {
+        return device;
+    }
+    match letter {
         b'V' => {
             tell_versions(device);
             device
@@ -86,27 +138,29 @@ fn turn(device: Device, staging: &mut [u8], channel: u8, packet: &[u8]) -> Devic
     }
 }
 
-// A byte as a length.
-fn wide(n: u8) -> usize {
-    n as usize
+// One frame. A packet for the device changes the lent record in place, and what is due goes out.
+fn turn(device: &mut Device, staging: &mut [u8], frame: Frame, packet: &[u8])
+    ensures { λ _. ⌜ (frame .served ≡ true
+        → (now (device .exit) ≡ serveEntry (now (device .entry)) (frame .channel) (now (staging .entry)) (now (packet .entry)) .device)
+        × (now (staging .exit) ≡ serveStaging (now (device .entry)) (frame .channel) (now (staging .entry)) (now (packet .entry)))) ⌝ }
+{
+    if frame.served {
+        let answer = serve_in_place(device, frame.channel, staging, packet);
+        tell::answer(answer);
+    } else {
+        *device = unserved(*device, frame.whole, frame.letter);
+    }
 }
 
-// The loop: a frame comes into the buffer, what is due goes out, and the next record is kept. It ends where the input ends.
+// The loop: it owns the record and lends it to each turn, which leaves in it what the next turn begins with. It ends where the input ends.
 fn serve(start: Device, staging: &mut [u8], packet: &mut [u8]) {
     let mut device = start;
+    let mut more = true;
     let mut turns: u64 = 0;
-    while turns < TURNS {
-        let mut head = [0u8; 2];
-        let got = io::read_full(STDIN_FILENO, &mut head);
-        if got == 0 {
-            return;
-        }
-        let n = wide(head[1]);
-        if (got < 2) | !read_first(packet, n) {
-            text(b"cut frame\n");
-            return;
-        }
-        device = turn(device, staging, head[0], show::first(packet, n));
+    while more & (turns < TURNS) {
+        let frame = next_frame(packet);
+        turn(&mut device, staging, frame, show::first(packet, frame.len));
+        more = frame.whole;
         turns += 1;
     }
 }

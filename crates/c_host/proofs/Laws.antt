@@ -30,7 +30,7 @@ use Rattle.make.specs.declared.answer.Written.{Written}
 use Rattle.make.specs.declared.answer.StepRefusal.{StepRefusal}
 use Rattle.make.specs.declared.answer.StepRefusal.the-variants.{Served, Bundle, N1}
 use Rattle.host.specs.Inner.{innerOn, innerBy, innerOf}
-use Rattle.host_bytes.specs.Layout.{CONTENTS-SIZE, hostBytes, readHost, contentsIn, bodyRead, cursorFor, keptWith, keptBy, contentsAfter}
+use Rattle.host_bytes.specs.Layout.{ROW-AT, ENTRY-AT, COUNT-AT, CONTENTS-SIZE, hostBytes, readHost, contentsIn, bodyRead, cursorFor, keptWith, keptBy, contentsAfter}
 use Rattle.host_bytes.proofs.Contents.{body-read}
 use Rattle.c_numbers.specs.Numbers.{SERVED, stepNumber}
 use Rattle.c_numbers.specs.Lent.{Left, leaves}
@@ -115,23 +115,23 @@ module _ (host q b reply : List ℕ) where
   abbrev cursor : ℕ
   cursor = cursorFor b q (h .stage)
 
-  pub inner-row : (getD q 0 0 ≡ 0 → ⊥) → innerOver host q b reply ≡ record { step = refusedBy (B (getD q 0 0) (getD q 1 0)) h; cursor = cursor }
+  pub inner-row : (getD q ROW-AT 0 ≡ 0 → ⊥) → innerOver host q b reply ≡ record { step = refusedBy (B (getD q ROW-AT 0) (getD q ENTRY-AT 0)) h; cursor = cursor }
   unfolding innerOf contentsIn
-  inner-row z = rw (ne-eqb (getD q 0 0) 0 z)
+  inner-row z = rw (ne-eqb (getD q ROW-AT 0) 0 z)
 
-  module _ (whole : length q ≡ CONTENTS-SIZE) (z : getD q 0 0 ≡ 0) where
-    inner-on : (d : Decided) → decisionOf (getD q 2 0) (bodyRead q (inHand (h .stage)) .records) h reply ≡ d → innerOver host q b reply ≡ innerOn b (contentsIn q) cursor h d
+  module _ (whole : length q ≡ CONTENTS-SIZE) (z : getD q ROW-AT 0 ≡ 0) where
+    inner-on : (d : Decided) → decisionOf (getD q COUNT-AT 0) (bodyRead q (inHand (h .stage)) .records) h reply ≡ d → innerOver host q b reply ≡ innerOn b (contentsIn q) cursor h d
     unfolding innerOf contentsIn
     inner-on d e =
-        let r : contentsIn q .row ≡ bundle.served = rw (eq-eqb (getD q 0 0) 0 z) in
+        let r : contentsIn q .row ≡ bundle.served = rw (eq-eqb (getD q ROW-AT 0) 0 z) in
         ap (λ (x : bundle.Row). innerBy x b (contentsIn q) cursor h reply) r
-        ∙ ap (innerOn b (contentsIn q) cursor h) (ap (λ (y : Body). decisionOf (getD q 2 0) (y .records) h reply) (sym (body-read q (inHand (h .stage)) whole)) ∙ e)
+        ∙ ap (innerOn b (contentsIn q) cursor h) (ap (λ (y : Body). decisionOf (getD q COUNT-AT 0) (y .records) h reply) (sym (body-read q (inHand (h .stage)) whole)) ∙ e)
 
-    pub inner-breaks : decisionOf (getD q 2 0) (bodyRead q (inHand (h .stage)) .records) h reply ≡ decided.N1
+    pub inner-breaks : decisionOf (getD q COUNT-AT 0) (bodyRead q (inHand (h .stage)) .records) h reply ≡ decided.N1
         → innerOver host q b reply ≡ record { step = refusedBy (N 1) h; cursor = cursor }
     inner-breaks e = inner-on decided.N1 e
 
-    pub inner-moves : (n : ℕ) (m : Move) → decisionOf (getD q 2 0) (bodyRead q (inHand (h .stage)) .records) h reply ≡ decided.Moves m → n ≡ cursor
+    pub inner-moves : (n : ℕ) (m : Move) → decisionOf (getD q COUNT-AT 0) (bodyRead q (inHand (h .stage)) .records) h reply ≡ decided.Moves m → n ≡ cursor
         → innerOver host q b reply ≡ madeOf b (bodyRead q (entryOf (m .action))) n h (m .host) (m .action)
     inner-moves n m e f =
         inner-on (decided.Moves m) e ∙ ap₂ (λ (y : Body) (x : ℕ). madeOf b y x h (m .host) (m .action)) (sym (body-read q (entryOf (m .action)) whole)) (sym f)

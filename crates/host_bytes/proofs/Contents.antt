@@ -22,7 +22,7 @@ use Rattle.bundle.specs.Contents.{Contents}
 use Rattle.host_record.specs.Fits.{listedAt, bodyOf}
 use Rattle.host_record.specs.declared.fits.Body.{Body}
 use Rattle.host_record.specs.declared.record.Place.{Place}
-use Rattle.host_bytes.specs.Layout.{BODY-SIZE, BODIES-START, HAND-START, CURSOR-START, CONTENTS-SIZE, rowBytes, bodyBytes, bodiesBytes, handBytes, noPlace, contentsBytes, rowIn, bodyIn, bodiesIn, contentsIn, bodyRead, placeIn, cursorIn}
+use Rattle.host_bytes.specs.Layout.{ENTRY-AT, BODIES-START, BODY-SIZE, HAND-START, CURSOR-START, CONTENTS-SIZE, rowBytes, bodyBytes, bodiesBytes, handBytes, noPlace, contentsBytes, rowIn, bodyIn, bodiesIn, contentsIn, bodyRead, placeIn, cursorIn}
 
 -- one body more is written
 pub body-written : (out front s last : List ℕ) (table : List Entry) (i k : ℕ) → i < 7 → length table ≡ 7 → length out ≡ CONTENTS-SIZE → k ≡ BODY-SIZE
@@ -178,7 +178,7 @@ row-sized (bundle.B k entry) = refl
 
 -- what stands in bytes that begin with a row and a count
 begun : (r : bundle.Row) (n : ℕ) (rest : List ℕ)
-    → contentsIn (rowBytes r ++ (n ∷ rest)) ≡ record { row = rowIn (rowBytes r); place = getD (rowBytes r) 1 0; count = n; table = bodiesIn 7 rest }
+    → contentsIn (rowBytes r ++ (n ∷ rest)) ≡ record { row = rowIn (rowBytes r); place = getD (rowBytes r) ENTRY-AT 0; count = n; table = bodiesIn 7 rest }
 unfolding contentsIn
 begun bundle.served n rest = refl
 begun (bundle.B k entry) n rest = refl
@@ -193,7 +193,7 @@ pub record Written (c : Contents) : Type 0 where
   pub seven : length (c .table) ≡ 7
   pub fits : (k : ℕ) → FitsBody (getD (c .table) k blankEntry)
   pub row : rowIn (rowBytes (c .row)) ≡ c .row
-  pub place : getD (rowBytes (c .row)) 1 0 ≡ c .place
+  pub place : getD (rowBytes (c .row)) ENTRY-AT 0 ≡ c .place
 
 module _ (c : Contents) (w : Written c) (p : Place) (cursor : ℕ) where
   front-sized : length (front c) ≡ HAND-START

@@ -34,7 +34,7 @@ use Rattle.host.specs.Step.{entryAt, badStage, breaksN1, lastIn, stepOf, stepOn
 use Rattle.host.specs.Inner.{innerOn, innerBy, innerOf, CursorIn, cursorAt}
 use Rattle.host.proofs.inner.IsStep.{place-inside, agrees}
 use Rattle.host.proofs.step.Laws.{cursor-found}
-use Rattle.host_bytes.specs.Layout.{HAND-START, CONTENTS-SIZE, rowBytes, bodiesBytes, handBytes, noPlace, contentsBytes, contentsIn, bodyRead, placeIn, cursorIn, areContents, isRow, isCount, isKept, cursorFor, keptWith, keptBy}
+use Rattle.host_bytes.specs.Layout.{ROW-AT, COUNT-AT, HAND-START, CONTENTS-SIZE, rowBytes, bodiesBytes, handBytes, noPlace, contentsBytes, contentsIn, bodyRead, placeIn, cursorIn, areContents, isRow, isCount, isKept, cursorFor, keptWith, keptBy}
 use Rattle.host_bytes.specs.Promises.{Keeps, CheckKeeps, KeptContentsStep}
 use Rattle.host_bytes.proofs.Contents.{bareEntry, bare, FitsBody, FitsPlace, Written, contents-sized, hand-changed, place-back, cursor-back, contents-back, body-read}
 
@@ -261,7 +261,7 @@ kept-contents-step b q h reply bytes k =
 
 -- the number of a row of the check, and 1 to 7 offers where none refuses
 abbrev areBegun : List ℕ → Bool
-areBegun q = isRow (getD q 0 0) && (not (eqb (getD q 0 0) 0) || isCount (getD q 2 0))
+areBegun q = isRow (getD q ROW-AT 0) && (not (eqb (getD q ROW-AT 0) 0) || isCount (getD q COUNT-AT 0))
 
 are-begun : (b : List ℕ) → Bytes b → (r : bundle.Row) → bundle.bundleRow b ≡ r → IsRow r → (rest : List ℕ) → areBegun (rowBytes (contentsBy r b .row) ++ (contentsBy r b .count ∷ rest)) ≡ true
 are-begun b bytes bundle.served s i rest = let α = accepted b bytes s in rw (le-leb 1 (countIn b) (α .some), le-leb (countIn b) OFFER-LIMIT (α .few))

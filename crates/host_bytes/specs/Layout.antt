@@ -96,11 +96,20 @@ readHost b = cond (same (hostBytes (hostIn b)) b) (hostIn b) lostHost
 
 -- the contents of a checked bundle: the number of the row that refuses it, 0 for none, and the entry that this names; the count; from BODIES-START on seven
 -- times offset, length and records of a body; from HAND-START on the block that the cursor is kept for, its entry and its number; and the cursor
-abbrev pub BODY-SIZE : ℕ
-BODY-SIZE = 12
+abbrev pub ROW-AT : ℕ
+ROW-AT = 0
+
+abbrev pub ENTRY-AT : ℕ
+ENTRY-AT = ROW-AT + 1
+
+abbrev pub COUNT-AT : ℕ
+COUNT-AT = ENTRY-AT + 1
 
 abbrev pub BODIES-START : ℕ
-BODIES-START = 3
+BODIES-START = COUNT-AT + 1
+
+abbrev pub BODY-SIZE : ℕ
+BODY-SIZE = 12
 
 abbrev pub HAND-START : ℕ
 HAND-START = BODIES-START + 7 * BODY-SIZE
@@ -134,7 +143,7 @@ contentsBytes c p cursor = rowBytes (c .row) ++ (c .count ∷ bodiesBytes (c .ta
 
 -- what stands in bytes, unjudged: the inner step judges what it takes of them. An offer is read from the bundle, never from here
 abbrev pub rowIn : List ℕ → bundle.Row
-rowIn q = cond (eqb (getD q 0 0) 0) bundle.served (bundle.B (getD q 0 0) (getD q 1 0))
+rowIn q = cond (eqb (getD q ROW-AT 0) 0) bundle.served (bundle.B (getD q ROW-AT 0) (getD q ENTRY-AT 0))
 
 abbrev pub bodyIn : List ℕ → Entry
 bodyIn q = record { offer = blankOffer; offset = number (bytesAt 4 0 q); length = number (bytesAt 4 4 q); records = number (bytesAt 4 8 q) }
@@ -144,7 +153,7 @@ bodiesIn zero q = []
 bodiesIn (suc n) q = bodyIn q ∷ bodiesIn n (drop BODY-SIZE q)
 
 unfoldable pub contentsIn : List ℕ → Contents
-contentsIn q = record { row = rowIn q; place = getD q 1 0; count = getD q 2 0; table = bodiesIn 7 (drop BODIES-START q) }
+contentsIn q = record { row = rowIn q; place = getD q ENTRY-AT 0; count = getD q COUNT-AT 0; table = bodiesIn 7 (drop BODIES-START q) }
 
 -- the body of an entry of these; past the seventh it is empty, and so in bytes that are no contents
 unfoldable pub bodyRead : List ℕ → ℕ → Body
@@ -165,7 +174,8 @@ isCount n = leb 1 n && leb n OFFER-LIMIT
 
 -- bytes that a check may have left: of the one length, with a row of the check, and 1 to 7 offers where none refuses
 abbrev pub areContents : List ℕ → Bool
-areContents q = eqb (length q) CONTENTS-SIZE && (isRow (getD q 0 0) && (not (eqb (getD q 0 0) 0) || isCount (getD q 2 0)))
+areContents q =
+    eqb (length q) CONTENTS-SIZE && (isRow (getD q ROW-AT 0) && (not (eqb (getD q ROW-AT 0) 0) || isCount (getD q COUNT-AT 0)))
 
 -- the kept cursor is that of the block in hand
 abbrev pub isKept : List ℕ → HostStage → Bool

@@ -32,11 +32,11 @@ pub const HOST_SIZE: usize = 24;
 // cursor is kept for, the cursor; and their length.
 pub const ROW_AT: usize = 0;
 
-pub const ENTRY_AT: usize = 1;
+pub const ENTRY_AT: usize = ROW_AT + 1;
 
-pub const COUNT_AT: usize = 2;
+pub const COUNT_AT: usize = ENTRY_AT + 1;
 
-const BODIES_START: usize = 3;
+const BODIES_START: usize = COUNT_AT + 1;
 
 const HAND_START: usize = BODIES_START + 7 * BODY_SIZE;
 

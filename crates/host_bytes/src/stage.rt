@@ -49,54 +49,38 @@ pub(crate) fn stage_bytes(stage: HostStage) -> [u8; 9]
 fn end_in(number: u32, status: u32) -> End
     ensures { λ r. ⌜ r ≡ endIn number status ⌝ }
 {
-    if number == 1 {
-        return End::Status((status % 256) as u8);
+    match number {
+        1 => End::Status((status % 256) as u8),
+        2 => End::Foreign,
+        3 => End::Unexpected,
+        4 => End::Busy,
+        _ => End::Done,
     }
-    if number == 2 {
-        return End::Foreign;
-    }
-    if number == 3 {
-        return End::Unexpected;
-    }
-    if number == 4 {
-        return End::Busy;
-    }
-    End::Done
 }
 
 pub(crate) fn stage_in(stage: u8, first: u32, second: u32) -> HostStage
     ensures { λ r. ⌜ r ≡ stageIn stage first second ⌝ }
 {
-    if stage == 1 {
-        return HostStage::Opening;
-    }
-    if stage == 2 {
-        return HostStage::Listing;
-    }
-    if stage == 3 {
-        return HostStage::Offering(Turn {
+    match stage {
+        1 => HostStage::Opening,
+        2 => HostStage::Listing,
+        3 => HostStage::Offering(Turn {
             entry: first,
             busy: second,
-        });
-    }
-    if stage == 4 {
-        return HostStage::Waiting(Turn {
+        }),
+        4 => HostStage::Waiting(Turn {
             entry: first,
             busy: second,
-        });
-    }
-    if stage == 5 {
-        return HostStage::Sending(Place {
+        }),
+        5 => HostStage::Sending(Place {
             entry: first,
             block: second,
-        });
+        }),
+        6 => HostStage::Closing,
+        7 => {
+            let e = end_in(first, second);
+            HostStage::Ended(e)
+        }
+        _ => HostStage::Fresh,
     }
-    if stage == 6 {
-        return HostStage::Closing;
-    }
-    if stage == 7 {
-        let e = end_in(first, second);
-        return HostStage::Ended(e);
-    }
-    HostStage::Fresh
 }

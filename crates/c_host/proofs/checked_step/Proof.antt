@@ -10,7 +10,7 @@ use Rattle.host_record.specs.declared.fits.Body.{Body}
 use Rattle.host_record.specs.Fits.{inHand}
 use Rattle.decide.specs.Decide.{decisionOf}
 use Rattle.host.specs.Inner.{cursorAt}
-use Rattle.host_bytes.specs.Layout.{readHost, bodyRead, cursorIn, isKept, cursorFor}
+use Rattle.host_bytes.specs.Layout.{COUNT-AT, readHost, bodyRead, cursorIn, isKept, cursorFor}
 use Rattle.c_host.proofs.Laws.{inner-row, inner-breaks, inner-moves}
 use borrow.Author.Needs.{needs}
 use Rattle.c_host.proofs.checked_step.Statement.{statement}
@@ -23,15 +23,15 @@ cursorOver q b y stage = cond (isKept q stage) (cursorIn q) (cursorAt b y stage)
 -- what is decided over the body in hand
 decided : (c : tie.After-decision) → let a = c .before .before .before .before .before .before .before .before .before .before .before .before .before .before .args in
     let q = a .contents .now in let h = readHost (a .host .now) in
-    decisionOf (getD q 2 0) (bodyRead q (inHand (h .stage)) .records) h (a .reply .now) ≡ c .decision .result
+    decisionOf (getD q COUNT-AT 0) (bodyRead q (inHand (h .stage)) .records) h (a .reply .now) ≡ c .decision .result
 decided c =
     let r = c .before .before .before .before .before in
     let a = r .before .before .before .before .before .before .before .before .before .args in
     let q = a .contents .now in
     let h = r .read-host .result in
     let e = c .before .before .read-body .ensures ∙ ap (bodyRead q) (c .before .before .before .in-hand .ensures) in
-    sym (c .decision .ensures ∙ ap (λ (y : Body). decisionOf (getD q 2 0) (y .records) h (a .reply .now)) e
-    ∙ ap (λ (x : Host). decisionOf (getD q 2 0) (bodyRead q (inHand (x .stage)) .records) x (a .reply .now)) (r .read-host .ensures))
+    sym (c .decision .ensures ∙ ap (λ (y : Body). decisionOf (getD q COUNT-AT 0) (y .records) h (a .reply .now)) e
+    ∙ ap (λ (x : Host). decisionOf (getD q COUNT-AT 0) (bodyRead q (inHand (x .stage)) .records) x (a .reply .now)) (r .read-host .ensures))
 
 returns : tie.Need-returns
 unfolding flatten

@@ -207,11 +207,12 @@ keptWith q (Ended e) cursor = q
 abbrev pub keptIn : (q : List ℕ) → HostStage → (cursor : ℕ) → List ℕ
 keptIn q stage cursor = cond (eqb (length q) CONTENTS-SIZE) (keptWith q stage cursor) q
 
--- a refused step leaves the contents as they are
+-- the bytes after a step, where it is served, and as they were where a row refuses it
 abbrev pub keptBy : Row → (before after : List ℕ) → List ℕ
 keptBy served before after = after
 keptBy (B k entry) before after = before
 keptBy (N k) before after = before
 
+-- a refused step leaves the contents as they were
 abbrev pub contentsAfter : (q : List ℕ) → InnerStep → List ℕ
 contentsAfter q s = keptBy (s .step .row) q (keptWith q (s .step .host .stage) (s .cursor))

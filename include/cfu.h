@@ -10,10 +10,10 @@
  * What cannot be judged, and so is asked of the caller:
  *   - a pointer is not null and is valid for the length that comes with it, also where that length is 0 (any object's address will do);
  *   - a buffer that is read holds initialised bytes, and nobody else writes a lent buffer during the call;
- *   - buffers that are lent to one call do not overlap, save that two buffers which are only read may: a report and the replies to it, a reply and the next
- *     packet are two buffers each;
- *   - a record, the staging buffer and the bundle are those that the call before left. An older copy of a record is a record too. The contents of a checked
- *     bundle are lent with that very bundle, as the check or any later step over them left them.
+ *   - buffers that are lent to one call do not overlap, save that two buffers which are only read may; so never lend one memory as a report and the replies
+ *     to it, or as a reply and the next packet;
+ *   - a record, the staging buffer and the bundle are those that the call before left: an older copy of a record passes every check and cannot be told from the
+ *     right one. The contents of a checked bundle are lent with that very bundle, as the check or any later step over them left them.
  *
  * Everything else is judged. Each call ends, writes only inside the buffers that it may write (those without const), and returns a number:
  *   - CFU_SERVED, or
@@ -28,7 +28,7 @@
  * CFU_SERVED says that the call was carried out, not that the peer agreed: REJECT, SKIP, BUSY and the errors of a block stand in the packets, and how a host
  * ended stands in its report.
  *
- * Packets are CFU's bytes alone, without a HID report id. Numbers in lent bytes are little-endian. Versions in lent bytes are four: variant, minor (2),
+ * Packets are CFU's bytes alone, without a HID report id. Numbers in lent bytes are little-endian. Versions in lent bytes are four bytes: variant, minor (2),
  * major.
  */
 #ifndef CFU_H
@@ -69,7 +69,7 @@ extern "C" {
 
 #define CFU_SERVED 0
 
-/* A lent buffer is not of its size. C1: a record; or contents that no check leaves, for their size or for their bytes. C2: a list or data that is read. C3: a
+/* A lent buffer is not of its size. C1: a record; or contents of a form that no check leaves. C2: a list or data that is read. C3: a
  * buffer for what comes out. */
 #define CFU_C1 0x4301
 #define CFU_C2 0x4302

@@ -16,7 +16,7 @@ use Rattle.host_record.specs.Record.{running}
 abbrev pub SERVED : ℕ
 SERVED = 0
 
--- C1: a record is not of its size
+-- C1: a record is not of its size, or contents are of a form that no check leaves
 abbrev pub WRONG-RECORD : ℕ
 WRONG-RECORD = 0x4301
 

@@ -19,7 +19,7 @@ use wire::verdict::Verdict;
 // No refusal.
 pub const SERVED: u32 = 0;
 
-// C1: a record is not of its size.
+// C1: a record is not of its size, or contents are of a form that no check leaves.
 pub const WRONG_RECORD: u32 = 0x4301;
 
 // C2: a list or a block of data that is read is not of its size.

@@ -164,7 +164,7 @@ module _ {M : Type 1} (𝓤 : URA M) (H : Heap 𝓤) (A : Atoms 𝓤) (W : Given
         move ! (2 ∷ []) $ split ! $ move ! (1 ∷ []) $ peeks ! O.the-row (Is O.the-row) (shows 𝓤 H A O.the-row) r (u ∷ []) (λ is′.
         -- [what the answer owns; the other tokens; the last bytes; …; the record's cell; what the old record owns; the open borrow; obs; auth; Own; true; _8; …; _7; …; _6; …; _5; …; _4; …; _3; …; _2; …; _1; …; room for _0; …]
         answers ! (O′.the-laws .0 .val (O.the-type .to r .0)) (O′.the-laws .1 .0 .val (O.the-type .to r .1 .0)) (O′.the-laws .1 .1 .0 .val (O.the-type .to r .1 .1 .0)) (O′.the-laws .1 .1 .1 .0 .val (O.the-type .to r .1 .1 .1 .0)) (val (r .device))
-        (ap only (LL.tells O.the-type O′.the-laws r (u ∷ []) is′)) (LL.lawful O.the-type O′.the-laws 𝓤 H A W .typed r _ is′ .0) (LL.lawful O.the-type O′.the-laws 𝓤 H A W .typed r _ (spelled r u is′) .0) (LL.lawful T.the-type T′.the-laws 𝓤 H A W .typed (r .device) _ (kept r u is′) .0)
+        (ap only (LL.tells O.the-type O′.the-laws r (u ∷ []) is′)) (LL.lawful O.the-type O′.the-laws 𝓤 H A W .typed r _ is′ .0) (LL.lawful O.the-type O′.the-laws 𝓤 H A W .typed r _ (spelled r u is′) .0) (LL.lawful T.the-type T′.the-laws 𝓤 H A W .typed (r .device) _ (kept r u is′) .0) refl
         (updating ! $ owned ! T.the-row (Is T.the-row) (LL.makes T.the-type T′.the-plain 𝓤 H A) (r .device) _ (kept r u is′) $ move ! (5 ∷ 0 ∷ 7 ∷ 8 ∷ 9 ∷ []) $ closes ! tt T.the-row (r .device) (val (r .device) ∷ []) b o $
         -- [obs; the borrow; its token; what the answer owns; the other tokens; the last bytes; …; what the old record owns; Own; true]
         keep ! (0 ∷ 1 ∷ 2 ∷ 4 ∷ 5 ∷ 8 ∷ []) $ by ! (exits r (zs .1 .1 .0) e l (spelled r u is′))))))))))))

@@ -18,7 +18,7 @@ use contract.Monad.{Fun, fact}
 use contract.Running.{givenOf, tables, tablesOf}
 use contract.Lifetimes.{AllOutlive}
 use types.Kit.{Given, ‵, raw, some, later, _⊛_, ⋆, _$_, _∵_, !, qed, by, move, keep, drop, use1, use2, use3, split, join, pick, fsplit, fjoin, feqL, suffices, frame, await, done}
-use types.Run.{land, free0, returns, look, init, stop, hop, fld, from, load, addr, of-opd, and-then, no-more, assigns, enter, params1, pass1, pass0}
+use types.Run.{land, free0, returns, look, init, stop, hop, fld, from, load, addr, and-then, no-more, assigns, enter, params1, pass1, pass0}
 use types.Part.{agg, whole, sub, look-in}
 use types.SemTy.{Body}
 use sound.WpLaws.{FmC, fmOf, WpFn-mono}
@@ -54,6 +54,7 @@ use Rattle.device.proofs.answer.Answer.Laws as O′
 use Rattle.device.proofs.answer.Channel as K
 use Rattle.device.proofs.answer.Channel.Laws as K′
 use Rattle.firmware.proofs.Walk.{alloc-nine, free-nine}
+use Rattle.firmware.proofs.Computed.{computes}
 use Rattle.firmware.proofs.Lies.{val, lies-in, lies-out}
 use Rattle.firmware.proofs.serve_in_place as in-place
 use Rattle.firmware.proofs.serve_in_place.Symbol as in-place-def
@@ -137,7 +138,7 @@ module _ {M : Type 1} (𝓤 : URA M) (H : Heap 𝓤) (A : Atoms 𝓤) (W : Given
         pass1 ! (init ! 14 refl (LL.lawful T.the-type T′.the-laws 𝓤 H A W .typed h _ is-h .0)) $ pass1 ! (init ! 12 refl (EL.lawful K.the-type K′.the-laws 𝓤 H A W tt .typed c _ is-c .0)) $ pass1 ! (init ! 10 refl (tt, (tt, (record { fits = room .0 }, tt)))) $
         pass1 ! (init ! 8 refl (shr-slice-lawful 𝓤 H A W (named 1) κ₂ u8 .typed s (v ∷ []) p .0)) $ pass0 ! $
         -- [_8; …; _7; …; _6; …; _5; …; _4; …; _3; …; _2; …; _1; …; room for _0; …; the tokens; what the four parameters own]
-        assigns ! (of-opd ! (load ! (from ! (stop !)) (look ! 14 refl))) (from ! (stop !)) (init ! 6 refl (LL.lawful T.the-type T′.the-laws 𝓤 H A W .typed h _ is-h .0)) $
+        assigns ! (computes ! (record { index = 1; type = T′.mir; block = l₁; value = val h; position = 14 } ∷ []) (refl, (refl, tt)) (val h) refl) (from ! (stop !)) (init ! 6 refl (LL.lawful T.the-type T′.the-laws 𝓤 H A W .typed h _ is-h .0)) $
         assigns ! (addr ! (from ! (stop !))) (from ! (stop !)) (init ! 4 refl (tt, tt)) $
         assigns ! (addr ! (from ! (fld ! refl (hop ! (look-in ! 10 (sub ! 0 refl (whole !))) (stop !))))) (from ! (stop !)) (init ! 2 refl (tt, tt)) $
         assigns ! (agg ! (and-then ! (load ! (from ! (stop !)) (look ! 2 refl)) (and-then ! (load ! (from ! (fld ! refl (stop !))) (look-in ! 10 (sub ! 1 refl (whole !)))) (no-more !)))) (from ! (stop !)) (init ! 0 refl (tt, (tt, (record { fits = room .0 }, tt)))) $

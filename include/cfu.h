@@ -1,5 +1,5 @@
 /*
- * cfu.h: the C interface of the proved CFU updater (library libcapi.a, room crates/capi).
+ * cfu.h: the C interface of the proved CFU updater (library libc_api.a, room crates/c_api).
  *
  * The device end, the host end, the check of a bundle, and the building and reading of each packet of CFU, Microsoft's Component Firmware Update protocol.
  * C99, also C++.
@@ -39,7 +39,7 @@
 
 /* The library is built for x86-64. For another target take the Rust crate that tools/rust_crate makes. */
 #if SIZE_MAX != 0xFFFFFFFFFFFFFFFF
-#error "libcapi.a has a size_t of 64 bits"
+#error "libc_api.a has a size_t of 64 bits"
 #endif
 
 #ifdef __cplusplus

@@ -1,5 +1,5 @@
 #!/usr/bin/env bash
-# The proved library from C: `rt staticlib capi`, then calls.c (each function of include/cfu.h on document 01's values) and the example (cases.py), as they are, with the
+# The proved library from C: `rt staticlib c_api`, then calls.c (each function of include/cfu.h on document 01's values) and the example (cases.py), as they are, with the
 # compiler's checks of addresses and of undefined behaviour, and under valgrind.
 set -u
 cd "$(dirname "$0")/../.." || exit 1
@@ -14,7 +14,7 @@ for tool in rt make cc gcc python3 valgrind; do
 done
 
 bash tests/library.sh || fail "the library is not made"
-library=target/staticlib/libcapi.a
+library=target/staticlib/libc_api.a
 out=target/c
 rm -rf "$out"
 make -s -C examples/c || fail "the example does not build"

@@ -1,7 +1,7 @@
-//! Links the static library that `rt staticlib capi` writes.
+//! Links the static library that `rt staticlib c_api` writes.
 fn main() {
     let top = format!("{}/../..", std::env::var("CARGO_MANIFEST_DIR").unwrap());
     println!("cargo:rustc-link-search=native={top}/target/staticlib");
-    println!("cargo:rustc-link-lib=static=capi");
-    println!("cargo:rerun-if-changed={top}/target/staticlib/libcapi.a");
+    println!("cargo:rustc-link-lib=static=c_api");
+    println!("cargo:rerun-if-changed={top}/target/staticlib/libc_api.a");
 }

@@ -1,5 +1,5 @@
 #!/usr/bin/env python3
-"""Holds include/cfu.h against what is proved: each function against crates/capi/src, each struct against crates/c_numbers/src, each number against the constants of specs/ and src/.
+"""Holds include/cfu.h against what is proved: each function against crates/c_api/src, each struct against crates/c_types/src, each number against the constants of specs/ and src/.
 
 fit.py [HEADER]    HEADER is include/cfu.h unless it is given
 
@@ -75,7 +75,7 @@ def variants(name):
 # The rooms that say what a lent buffer holds.
 LENT = ("c_*", "*_bytes")
 
-NUMBERS = files("c_numbers/specs/Numbers.antt")
+NUMBERS = files("c_types/specs/Numbers.antt")
 READ = files("c_read/specs/Read.antt")
 
 
@@ -165,7 +165,7 @@ def hold_layouts(text):
             misfit(f"{', '.join(names)}: the header's comment has {given}, specs has {[known[name] for name in names]}")
 
 
-# What the header declares, and what crates/capi/src exports with the structs of crates/c_numbers/src, in C's words
+# What the header declares, and what crates/c_api/src exports with the structs of crates/c_types/src, in C's words
 
 WIDTHS = {"u8": "uint8_t", "u16": "uint16_t", "u32": "uint32_t", "u64": "uint64_t", "usize": "size_t"}
 
@@ -176,7 +176,7 @@ def c_type(text):
         return WIDTHS[text]
     if re.fullmatch(r"C[A-Z]\w*", text):
         return "cfu" + re.sub(r"([A-Z])", lambda m: "_" + m.group(1).lower(), text[1:])
-    misfit(f"crates/capi/src or crates/c_numbers/src: the type {text} has no place in C")
+    misfit(f"crates/c_api/src or crates/c_types/src: the type {text} has no place in C")
     return text
 
 
@@ -188,16 +188,16 @@ def c_parameter(text):
 
 
 def exported():
-    text = re.sub(r"//[^\n]*", "", files("capi/src/*.rt"))
+    text = re.sub(r"//[^\n]*", "", files("c_api/src/*.rt"))
     functions = {}
     for mangle, name, parameters, result in re.findall(r'(#\[no_mangle\]\s+)?pub extern "C" fn (\w+)\s*\((.*?)\)\s*->\s*(\w+)', text, re.S):
         if not mangle:
             misfit(f"{name}: exported without no_mangle")
         functions[name] = (c_type(result), [p for part in parameters.split(",") if part.strip() for p in c_parameter(part)])
     if len(functions) != len(re.findall(r'extern "C"', text)):
-        misfit("crates/capi/src: an exported function that this test does not read")
+        misfit("crates/c_api/src: an exported function that this test does not read")
     structs = {}
-    text = re.sub(r"//[^\n]*", "", files("c_numbers/src/types.rt"))
+    text = re.sub(r"//[^\n]*", "", files("c_types/src/types.rt"))
     for c_layout, name, fields in re.findall(r"(#\[repr\(C\)\]\s+)?pub struct (C\w+) \{(.*?)\}", text, re.S):
         if not c_layout:
             misfit(f"{name}: crosses without repr(C)")
@@ -265,7 +265,7 @@ def main():
     hold("function", functions, their_functions)
     hold("struct", structs, their_structs)
     if list(structs) != list(their_structs):
-        misfit("the structs stand in another order than in crates/c_numbers/src/types.rt")
+        misfit("the structs stand in another order than in crates/c_types/src/types.rt")
     expected = expected_numbers()
     for name, places in expected.items():
         for place, number in places:

@@ -1,7 +1,7 @@
 #!/usr/bin/env python3
-"""Writes the script that packets_run reads: its cases, as frames.
+"""Writes the script that run_packets reads: its cases, as frames.
 
-Use: tests/packets/cases.py > crates/packets_run/stdin
+Use: tests/packets/cases.py > crates/run_packets/stdin
 
 A frame is kind (1 byte), length n (1 byte), payload (n bytes). Kind '#' is text: the case's name, which the line begins with. A capital letter
 builds a packet from its fields, in wire order and little-endian; a small letter reads a packet's bytes; 'x' takes the CRC of a message."""

@@ -1,8 +1,8 @@
 #!/usr/bin/env python3
-"""Writes the lines that packets_run must write for a script, from document 01 ("Packets", rows P1 and P2) and the public definition of
+"""Writes the lines that run_packets must write for a script, from document 01 ("Packets", rows P1 and P2) and the public definition of
 CRC-16/XMODEM.
 
-Use: tests/packets/expect.py < crates/packets_run/stdin > crates/packets_run/stdout
+Use: tests/packets/expect.py < crates/run_packets/stdin > crates/run_packets/stdout
 
 It shares nothing with the crates: layouts, refusals and the CRC are written anew here. cases.py says what a frame is."""
 

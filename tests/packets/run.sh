@@ -1,5 +1,5 @@
 #!/usr/bin/env bash
-# The script that packets_run reads and the lines that it is held to are those that cases.py and expect.py write.
+# The script that run_packets reads and the lines that it is held to are those that cases.py and expect.py write.
 set -eu
 cd "$(dirname "$0")/../.."
 made=$(mktemp -d)
@@ -7,8 +7,8 @@ trap 'rm -rf "$made"' EXIT
 python3 tests/packets/cases.py >"$made/stdin"
 python3 tests/packets/expect.py <"$made/stdin" >"$made/stdout"
 for file in stdin stdout; do
-    if ! cmp "$made/$file" "crates/packets_run/$file"; then
-        echo "tests/packets: crates/packets_run/$file is stale"
+    if ! cmp "$made/$file" "crates/run_packets/$file"; then
+        echo "tests/packets: crates/run_packets/$file is stale"
         exit 1
     fi
 done

@@ -1,8 +1,8 @@
 //! The bundle: document 01, "The bundle", rows B1 to B8, and examples E12 and E14; and a walk over a body's records. Written from that document.
 use cfu_updater::bundle::check;
-use cfu_updater::layout::{BundleVerdict, Checked};
-use cfu_updater::records::walk::{next_record, tally};
-use cfu_updater::records::{Next, Tally};
+use cfu_updater::bundle_layout::{BundleVerdict, Checked};
+use cfu_updater::bundle_records::walk::{next_record, tally};
+use cfu_updater::bundle_records::{Next, Tally};
 use cfu_updater::wire::address::RegionAddress;
 use cfu_updater::wire::version::Version;
 

@@ -98,8 +98,8 @@ ROOMS = {
     'crates/low/src/part.rt': PART,
     'crates/high/src/lib.rt': HIGH,
     'crates/high/src/part.rt': KEPT,
-    'crates/show/src/lib.rt': 'pub fn line(s: &[u8]) {\n    io::write_all(1, s);\n}\n',
-    'crates/tool/src/main.rt': 'fn main() {\n    show::line(b"x");\n}\n',
+    'crates/run_print/src/lib.rt': 'pub fn line(s: &[u8]) {\n    io::write_all(1, s);\n}\n',
+    'crates/tool/src/main.rt': 'fn main() {\n    run_print::line(b"x");\n}\n',
 }
 
 # What must stand in the made crate.

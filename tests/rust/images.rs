@@ -1,8 +1,8 @@
 //! The CRC, a region of the staging buffer, the image in it, a component's versions, and set-up: document 01, "The device", rows S1 to S4, and the
 //! addresses of E8 and E9. Written from that document.
-use cfu_updater::component::record::{Component, Listed};
-use cfu_updater::component::rule::VersionVerdict;
-use cfu_updater::component::setup::{setup_verdict, SetupVerdict};
+use cfu_updater::device_component::record::{Component, Listed};
+use cfu_updater::device_component::rule::VersionVerdict;
+use cfu_updater::device_component::setup::{setup_verdict, SetupVerdict};
 use cfu_updater::crc16::crc16;
 use cfu_updater::image::judge::{examine, Image};
 use cfu_updater::image::region::{Region, StagingOffset};

@@ -1,12 +1,12 @@
 //! The packets, built and read: document 01, "Packets", rows P1 and P2, and the packets of examples E1, E2, E7, E8 and E10. Written from that
 //! document.
-use cfu_updater::contents::content::{build_content, read_content, ContentFields};
-use cfu_updater::contents::reply::{build_content_reply, read_content_reply, ContentReply};
-use cfu_updater::offers::kind::{read_offer_packet, OfferPacket};
-use cfu_updater::offers::offer::{build_offer, OfferFields};
-use cfu_updater::offers::reply::{build_offer_reply, read_offer_reply, OfferReply};
-use cfu_updater::offers::signal::{build_extended, build_information, Signal};
-use cfu_updater::versions::{build_version_reply, read_version_reply, Running, VersionReply};
+use cfu_updater::wire_content::content::{build_content, read_content, ContentFields};
+use cfu_updater::wire_content::reply::{build_content_reply, read_content_reply, ContentReply};
+use cfu_updater::wire_offer::kind::{read_offer_packet, OfferPacket};
+use cfu_updater::wire_offer::offer::{build_offer, OfferFields};
+use cfu_updater::wire_offer::reply::{build_offer_reply, read_offer_reply, OfferReply};
+use cfu_updater::wire_offer::signal::{build_extended, build_information, Signal};
+use cfu_updater::wire_version::{build_version_reply, read_version_reply, Running, VersionReply};
 use cfu_updater::wire::address::RegionAddress;
 use cfu_updater::wire::verdict::Verdict;
 use cfu_updater::wire::version::Version;

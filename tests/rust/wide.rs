@@ -1,10 +1,10 @@
 //! Numbers from outside whose sum passes 32 bits, and E13: document 01, "The bundle", "The device", "The host", rows B7, S4 and N1. Written from that
 //! document. `cargo test` runs these cases with the usize of the machine; tests/rust/wide.sh runs them with a usize of 32 bits.
 use cfu_updater::bundle::check;
-use cfu_updater::component::record::Listed;
-use cfu_updater::component::setup::SetupVerdict;
+use cfu_updater::device_component::record::Listed;
+use cfu_updater::device_component::setup::SetupVerdict;
 use cfu_updater::crc16::crc16;
-use cfu_updater::decide::{Action, Move};
+use cfu_updater::host_decide::{Action, Move};
 use cfu_updater::device::setup::set_up;
 use cfu_updater::host::inner::inner_step;
 use cfu_updater::host::step::step;
@@ -13,11 +13,11 @@ use cfu_updater::host_record::fits::{body_at, is_last};
 use cfu_updater::host_record::record::{End, Host, HostStage, Place};
 use cfu_updater::host_record::report::Progress;
 use cfu_updater::image::region::{Region, StagingOffset};
-use cfu_updater::layout::{BundleVerdict, Checked};
-use cfu_updater::make::action::made;
-use cfu_updater::make::answer::{Sent, StepAnswer, StepRefusal};
-use cfu_updater::records::walk::next_record;
-use cfu_updater::records::Next;
+use cfu_updater::bundle_layout::{BundleVerdict, Checked};
+use cfu_updater::host_packet::action::made;
+use cfu_updater::host_packet::answer::{Sent, StepAnswer, StepRefusal};
+use cfu_updater::bundle_records::walk::next_record;
+use cfu_updater::bundle_records::Next;
 use cfu_updater::update::{run, RunRefusal};
 use cfu_updater::wire::address::RegionAddress;
 use cfu_updater::wire::version::Version;

@@ -1,6 +1,6 @@
 #!/usr/bin/env bash
 # The time of the static library and of the crate of tools/rust_crate against the second implementation taking the same steps, as one table. It fails where the
-# three leave different bytes, never on a time. First: rt check capi
+# three leave different bytes, never on a time. First: rt check c_api
 set -u
 cd "$(dirname "$0")/../.." || exit 1
 

@@ -12,11 +12,11 @@ use lib.Seq.{take-at, drop-at, drop-drop, getD-append-add}
 use Rattle.wire.specs.Bytes.{number, bytesOf, bytesAt}
 use Rattle.wire.specs.Checks.{any, firstOf}
 use Rattle.wire.proofs.words.Laws.{round}
-use Rattle.records.specs.Record.{Block}
-use Rattle.records.specs.Parse.{whole, recordsOf, written}
-use Rattle.records.proofs.Written.{written-reads}
-use Rattle.layout.specs.Layout.{BUNDLE-LIMIT, OFFER-LIMIT, HEAD, ENTRY, tableEnd, entriesFrom, entriesIn, idIn, offsetIn, lengthIn, bodyIn}
-use Rattle.layout.specs.Rows.{firstEntry, badLength, badHead, badCount, cutTable, badOffer, repeated, gap, isBad, badBody, rowB5, rowB6, rowB7, rowB8, bundleRow}
+use Rattle.bundle_records.specs.Record.{Block}
+use Rattle.bundle_records.specs.Parse.{whole, recordsOf, written}
+use Rattle.bundle_records.proofs.Written.{written-reads}
+use Rattle.bundle_layout.specs.Layout.{BUNDLE-LIMIT, OFFER-LIMIT, HEAD, ENTRY, tableEnd, entriesFrom, entriesIn, idIn, offsetIn, lengthIn, bodyIn}
+use Rattle.bundle_layout.specs.Rows.{firstEntry, badLength, badHead, badCount, cutTable, badOffer, repeated, gap, isBad, badBody, rowB5, rowB6, rowB7, rowB8, bundleRow}
 use Rattle.bundle.specs.Contents.{joined, All, Part, tableBytes, bundleBytes, GoodPart, LayoutAccepted}
 
 -- a part's body, its entry where the body stands at `at`, and the entries of a layout

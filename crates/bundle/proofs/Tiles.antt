@@ -10,11 +10,11 @@ use lib.ListN.{length, take, drop, take-append-drop}
 use lib.Seq.{drop-drop, drop-length}
 use Rattle.wire.specs.Bytes.{Bytes}
 use Rattle.wire.specs.Checks.{firstOf}
-use Rattle.records.specs.Parse.{Parsed, whole, broken, recordsOf}
-use Rattle.records.proofs.Parts.{bytes-take, bytes-drop}
-use Rattle.records.proofs.Written.{reads-written}
-use Rattle.layout.specs.Layout.{OFFER-LIMIT, countIn, tableEnd, entriesIn, offsetIn, lengthIn, bodyIn}
-use Rattle.layout.specs.Rows.{Row, served, B, firstEntry, badLength, badHead, badCount, cutTable, gap, rowB5, rowB6, rowB7, rowB8, isBad, badBody, named, bundleRow}
+use Rattle.bundle_records.specs.Parse.{Parsed, whole, broken, recordsOf}
+use Rattle.bundle_records.proofs.Parts.{bytes-take, bytes-drop}
+use Rattle.bundle_records.proofs.Written.{reads-written}
+use Rattle.bundle_layout.specs.Layout.{OFFER-LIMIT, countIn, tableEnd, entriesIn, offsetIn, lengthIn, bodyIn}
+use Rattle.bundle_layout.specs.Rows.{Row, served, B, firstEntry, badLength, badHead, badCount, cutTable, gap, rowB5, rowB6, rowB7, rowB8, isBad, badBody, named, bundleRow}
 use Rattle.bundle.specs.Contents.{joined, All, GoodBody, AcceptedTiles}
 use Rattle.bundle.proofs.Limits.{inside}
 use Rattle.bundle.proofs.table.Laws.{length-entries}

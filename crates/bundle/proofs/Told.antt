@@ -3,9 +3,9 @@ use mathlib.Core.Path.{_≡_, refl}
 use mathlib.Core.List.{List}
 use Prim.Native.Nat.{ℕ}
 use native.Mathlib.Omega.{arith}
-use Rattle.layout.specs.declared.BundleVerdict.{BundleVerdict}
-use Rattle.layout.specs.declared.BundleVerdict.the-variants.{Fine, B1, B2, B3, B4, B5, B6, B7, B8}
-use Rattle.layout.specs.Rows.{Row, served, B, numberOf, rowOf, bundleRow}
+use Rattle.bundle_layout.specs.declared.BundleVerdict.{BundleVerdict}
+use Rattle.bundle_layout.specs.declared.BundleVerdict.the-variants.{Fine, B1, B2, B3, B4, B5, B6, B7, B8}
+use Rattle.bundle_layout.specs.Rows.{Row, served, B, numberOf, rowOf, bundleRow}
 use Rattle.bundle.specs.Contents.{contentsBy, checkOf}
 
 -- the verdict's row, where its number is 0

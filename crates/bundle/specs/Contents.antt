@@ -5,13 +5,13 @@ use mathlib.Core.Bool.{false}
 use mathlib.Core.List.{List, [], _∷_, _++_, map}
 use lib.ListN.{length, getD, take, replicate}
 use Rattle.wire.specs.Bytes.{Packet, Bytes, bytesOf}
-use Rattle.offers.specs.Offer.{fieldsIn}
-use Rattle.records.specs.Record.{Block}
-use Rattle.records.specs.Parse.{whole, recordsOf, blocksOf, AllSound, written}
-use Rattle.layout.specs.declared.Entry.{Entry}
-use Rattle.layout.specs.declared.Checked.{Checked}
-use Rattle.layout.specs.Layout.{blankEntry, BUNDLE-LIMIT, OFFER-LIMIT, countIn, tableEnd, entriesIn, offerIn, idIn, offsetIn, lengthIn, bodyIn}
-use Rattle.layout.specs.Rows.{Row, served, B, rowOf, badOffer, bundleRow}
+use Rattle.wire_offer.specs.Offer.{fieldsIn}
+use Rattle.bundle_records.specs.Record.{Block}
+use Rattle.bundle_records.specs.Parse.{whole, recordsOf, blocksOf, AllSound, written}
+use Rattle.bundle_layout.specs.declared.Entry.{Entry}
+use Rattle.bundle_layout.specs.declared.Checked.{Checked}
+use Rattle.bundle_layout.specs.Layout.{blankEntry, BUNDLE-LIMIT, OFFER-LIMIT, countIn, tableEnd, entriesIn, offerIn, idIn, offsetIn, lengthIn, bodyIn}
+use Rattle.bundle_layout.specs.Rows.{Row, served, B, rowOf, badOffer, bundleRow}
 
 -- the records of an entry's body
 abbrev pub blocksIn : (b e : List ℕ) → List Block

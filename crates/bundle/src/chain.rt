@@ -2,12 +2,12 @@
 ghost use mathlib.Core.Path.{_≡_};
 ghost use Prim.Native.Nat.{_≤_};
 ghost use lib.ListN.{length};
-ghost use Rattle.layout.specs.Layout.{OFFER-LIMIT, countIn, tableEnd};
-ghost use Rattle.layout.specs.Rows.{rowB7};
+ghost use Rattle.bundle_layout.specs.Layout.{OFFER-LIMIT, countIn, tableEnd};
+ghost use Rattle.bundle_layout.specs.Rows.{rowB7};
 use crate::table::entry_at;
-use layout::head::table_end;
-use layout::parts::length_in;
-use layout::parts::offset_in;
+use bundle_layout::head::table_end;
+use bundle_layout::parts::length_in;
+use bundle_layout::parts::offset_in;
 
 fn wide(x: u32) -> u64
     ensures { λ r. ⌜ r ≡ x ⌝ }

@@ -4,23 +4,23 @@ ghost use mathlib.Core.Bool.{false};
 ghost use mathlib.Core.List.{map, _++_};
 ghost use Prim.Native.Nat.{_+_, _-_, _≤_};
 ghost use lib.ListN.{length, take, drop, replicate};
-ghost use Rattle.offers.specs.Offer.{fieldsIn};
-ghost use Rattle.records.specs.Parse.{recordsOf, blocksOf};
-ghost use Rattle.layout.specs.Layout.{BUNDLE-LIMIT, OFFER-LIMIT, ENTRY, countIn, tableEnd, entriesIn, offerIn, idIn, offsetIn, lengthIn};
-ghost use Rattle.layout.specs.Rows.{rowB5, rowB7, rowB8, badOffer};
-ghost use Rattle.layout.specs.Layout.{blankEntry};
+ghost use Rattle.wire_offer.specs.Offer.{fieldsIn};
+ghost use Rattle.bundle_records.specs.Parse.{recordsOf, blocksOf};
+ghost use Rattle.bundle_layout.specs.Layout.{BUNDLE-LIMIT, OFFER-LIMIT, ENTRY, countIn, tableEnd, entriesIn, offerIn, idIn, offsetIn, lengthIn};
+ghost use Rattle.bundle_layout.specs.Rows.{rowB5, rowB7, rowB8, badOffer};
+ghost use Rattle.bundle_layout.specs.Layout.{blankEntry};
 ghost use Rattle.bundle.specs.Contents.{entryIn};
 use crate::table::entry_at;
-use layout::Entry;
-use layout::blank::no_entries;
-use layout::blank::no_offer;
-use layout::parts::length_in;
-use layout::parts::offset_in;
-use offers::kind::OfferPacket;
-use offers::kind::read_offer_packet;
-use offers::offer::OfferFields;
-use records::Tally;
-use records::walk::tally;
+use bundle_layout::Entry;
+use bundle_layout::blank::no_entries;
+use bundle_layout::blank::no_offer;
+use bundle_layout::parts::length_in;
+use bundle_layout::parts::offset_in;
+use bundle_records::Tally;
+use bundle_records::walk::tally;
+use wire_offer::kind::OfferPacket;
+use wire_offer::kind::read_offer_packet;
+use wire_offer::offer::OfferFields;
 
 // What row B8 says (an entry, or 0), and the contents table where it says 0.
 pub struct Filled {

@@ -1,10 +1,10 @@
 // The bundle: its check, and what an accepted bundle contains.
 ghost use mathlib.Core.Path.{_≡_};
 ghost use Rattle.bundle.specs.Contents.{toldChecked, checkOf};
-use layout::BundleVerdict;
-use layout::Checked;
-use layout::blank::refused;
-use layout::head;
+use bundle_layout::BundleVerdict;
+use bundle_layout::Checked;
+use bundle_layout::blank::refused;
+use bundle_layout::head;
 
 mod table; // table.rt: an entry of the table, rows B5 and B6
 mod chain; // chain.rt: row B7, the bodies one after the other

@@ -4,12 +4,12 @@ ghost use Prim.Native.Nat.{_+_, _≤_};
 ghost use lib.Dec.{eqb};
 ghost use lib.ListN.{length, take, drop};
 ghost use Rattle.wire.specs.Checks.{any};
-ghost use Rattle.layout.specs.Layout.{OFFER-LIMIT, ENTRY, countIn, tableEnd, entriesIn, idIn};
-ghost use Rattle.layout.specs.Rows.{rowB5, rowB6};
-use layout::head::table_end;
-use layout::limits::ENTRY;
-use layout::parts::bad_offer;
-use layout::parts::id_in;
+ghost use Rattle.bundle_layout.specs.Layout.{OFFER-LIMIT, ENTRY, countIn, tableEnd, entriesIn, idIn};
+ghost use Rattle.bundle_layout.specs.Rows.{rowB5, rowB6};
+use bundle_layout::head::table_end;
+use bundle_layout::limits::ENTRY;
+use bundle_layout::parts::bad_offer;
+use bundle_layout::parts::id_in;
 
 // The 24 bytes of entry i, counted from 0.
 pub(crate) fn entry_at(b: &[u8], i: u8) -> &[u8]

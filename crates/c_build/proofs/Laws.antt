@@ -4,8 +4,8 @@ use mathlib.Core.List.{List}
 use Prim.Native.Nat.{ℕ}
 use lib.ListN.{length}
 use Rattle.wire.specs.Rows.{Row, Told}
-use Rattle.c_numbers.specs.Numbers.{WRONG-OUTPUT, packetNumber, sized}
-use Rattle.c_numbers.specs.Lent.{Left, leaves}
+use Rattle.c_types.specs.Numbers.{WRONG-OUTPUT, packetNumber, sized}
+use Rattle.c_types.specs.Lent.{Left, leaves}
 use Rattle.c_build.specs.Build.{built}
 
 -- the packet that a build tells, of its size, left with the number of its row

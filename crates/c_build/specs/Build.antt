@@ -6,17 +6,17 @@ use lib.Dec.{eqb, leb}
 use lib.ListN.{replicate}
 use Rattle.wire.specs.Version.{versionOf}
 use Rattle.wire.specs.Rows.{P, Told}
-use Rattle.offers.specs.Offer as offer
-use Rattle.offers.specs.Signal.{informationBytes, extendedBytes}
-use Rattle.offers.specs.Reply as offerReply
-use Rattle.offers.specs.declared.offer.OfferFields.{OfferFields}
-use Rattle.contents.specs.Content as content
-use Rattle.contents.specs.Reply as contentReply
-use Rattle.versions.specs.Reply as versions
-use Rattle.versions_bytes.specs.Layout.{COMPONENTS-SIZE, componentsIn}
-use Rattle.c_numbers.specs.declared.types.COffer.{COffer}
-use Rattle.c_numbers.specs.Numbers.{SERVED, WRONG-LIST, WRONG-OUTPUT, packetNumber, sized}
-use Rattle.c_numbers.specs.Lent.{SHORT-SIZE, LONG-SIZE, DATA-SIZE, Left, leaves}
+use Rattle.wire_offer.specs.Offer as offer
+use Rattle.wire_offer.specs.Signal.{informationBytes, extendedBytes}
+use Rattle.wire_offer.specs.Reply as offerReply
+use Rattle.wire_offer.specs.declared.offer.OfferFields.{OfferFields}
+use Rattle.wire_content.specs.Content as content
+use Rattle.wire_content.specs.Reply as contentReply
+use Rattle.wire_version.specs.Reply as versions
+use Rattle.c_version.specs.Layout.{COMPONENTS-SIZE, componentsIn}
+use Rattle.c_types.specs.declared.types.COffer.{COffer}
+use Rattle.c_types.specs.Numbers.{SERVED, WRONG-LIST, WRONG-OUTPUT, packetNumber, sized}
+use Rattle.c_types.specs.Lent.{SHORT-SIZE, LONG-SIZE, DATA-SIZE, Left, leaves}
 
 -- a build's number and the packet that it leaves
 abbrev pub built : (size : ℕ) → (packet : List ℕ) → Told (List ℕ) → Left

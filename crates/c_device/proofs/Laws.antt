@@ -9,20 +9,20 @@ use lib.ListN.{length, take, drop, replicate, length-append}
 use lib.Seq.{take-all}
 use Rattle.wire.specs.Bytes.{copyOf}
 use Rattle.wire.proofs.Pieces.{put-more}
-use Rattle.component.specs.Setup as setup
-use Rattle.component.specs.declared.setup.SetupVerdict.{SetupVerdict}
-use Rattle.component.specs.declared.setup.SetupVerdict.the-variants.{Fine, S1, S2, S3, S4}
+use Rattle.device_component.specs.Setup as setup
+use Rattle.device_component.specs.declared.setup.SetupVerdict.{SetupVerdict}
+use Rattle.device_component.specs.declared.setup.SetupVerdict.the-variants.{Fine, S1, S2, S3, S4}
 use Rattle.device.specs.Refusals.{rowOf, Outcome}
 use Rattle.device.specs.declared.answer.Refusal.{Refusal}
 use Rattle.device.specs.declared.answer.Refusal.the-variants.{Served, D1, D2, D3}
 use Rattle.device.specs.declared.record.Device.{Device}
 use Rattle.device_bytes.specs.Layout.{deviceBytes}
-use Rattle.c_numbers.specs.declared.types.CReplies.{CReplies}
-use Rattle.c_numbers.specs.Numbers.{setupNumber, deviceNumber, filledTo}
-use Rattle.in_place.specs.InPlace.{keptBy, leftBy}
+use Rattle.c_types.specs.declared.types.CReplies.{CReplies}
+use Rattle.c_types.specs.Numbers.{setupNumber, deviceNumber, filledTo}
+use Rattle.device_in_place.specs.InPlace.{keptBy, leftBy}
 use Rattle.c_device.specs.Device.{REPLIES-SIZE, madeBy, toldReplies, repliedBy}
-use Rattle.c_numbers.specs.Lent.{Left, leaves}
-use Rattle.c_numbers.proofs.lent.Laws.{stored}
+use Rattle.c_types.specs.Lent.{Left, leaves}
+use Rattle.c_types.proofs.lent.Laws.{stored}
 
 -- no reply: zeros
 pub none-sent : replicate 16 0 ++ replicate 16 0 ≡ filledTo REPLIES-SIZE (flatten [])

@@ -2,17 +2,17 @@
 use Prim.Native.Nat.{ℕ}
 use mathlib.Core.List.{List, flatten}
 use lib.ListN.{length}
-use Rattle.component.specs.Setup as setup
+use Rattle.device_component.specs.Setup as setup
 use Rattle.device.specs.declared.record.Device.{Device}
 use Rattle.device.specs.Refusals.{Outcome}
 use Rattle.device.specs.Entries.{setUpOf, versionEntry, Reset, resetEntry}
 use Rattle.device.specs.Offer.{offerEntry}
 use Rattle.device.specs.Content.{contentEntry, contentStaging}
-use Rattle.in_place.specs.InPlace.{keptBy}
+use Rattle.device_in_place.specs.InPlace.{keptBy}
 use Rattle.device_bytes.specs.Layout.{DEVICE-SIZE, LIST-SIZE, deviceBytes, readDevice, listIn}
-use Rattle.c_numbers.specs.declared.types.CReplies.{CReplies}
-use Rattle.c_numbers.specs.Numbers.{WRONG-RECORD, WRONG-LIST, WRONG-OUTPUT, setupNumber, deviceNumber, sized, filledTo}
-use Rattle.c_numbers.specs.Lent.{LONG-SIZE, Left, leaves}
+use Rattle.c_types.specs.declared.types.CReplies.{CReplies}
+use Rattle.c_types.specs.Numbers.{WRONG-RECORD, WRONG-LIST, WRONG-OUTPUT, setupNumber, deviceNumber, sized, filledTo}
+use Rattle.c_types.specs.Lent.{LONG-SIZE, Left, leaves}
 
 -- the size of a buffer for replies: two of 16 bytes
 abbrev pub REPLIES-SIZE : ℕ

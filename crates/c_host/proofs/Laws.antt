@@ -9,33 +9,33 @@ use lib.Dec.{eqb, leb}
 use lib.ListN.{length, getD, take, replicate}
 use lib.Seq.{length-take-le}
 use Rattle.wire.specs.Bytes.{copyOf}
-use Rattle.records.specs.Walk.{nextOf}
-use Rattle.records.specs.declared.Next.{Next}
-use Rattle.records.specs.declared.Next.the-variants as next
-use Rattle.layout.specs.Layout.{tableEnd}
-use Rattle.layout.specs.Rows as bundle
+use Rattle.bundle_records.specs.Walk.{nextOf}
+use Rattle.bundle_records.specs.declared.Next.{Next}
+use Rattle.bundle_records.specs.declared.Next.the-variants as next
+use Rattle.bundle_layout.specs.Layout.{tableEnd}
+use Rattle.bundle_layout.specs.Rows as bundle
 use Rattle.host_record.specs.declared.record.Host.{Host}
 use Rattle.host_record.specs.declared.record.Place.{Place}
 use Rattle.host_record.specs.declared.fits.Body.{Body}
 use Rattle.host_record.specs.Fits.{inHand}
-use Rattle.decide.specs.declared.Action.{Action}
-use Rattle.decide.specs.declared.Action.the-variants as action
-use Rattle.decide.specs.declared.Decided.{Decided}
-use Rattle.decide.specs.declared.Decided.the-variants as decided
-use Rattle.decide.specs.declared.Move.{Move}
-use Rattle.decide.specs.Decide.{entryOf, decisionOf}
-use Rattle.make.specs.Answer.{B, N, rowOf, sentBy, refusedBy}
-use Rattle.make.specs.Made.{Laid, laidRecord, laidOf, laidBy, recordStart, writtenOf, stepOfLaid, madeOf}
-use Rattle.make.specs.declared.answer.Written.{Written}
-use Rattle.make.specs.declared.answer.StepRefusal.{StepRefusal}
-use Rattle.make.specs.declared.answer.StepRefusal.the-variants.{Served, Bundle, N1}
+use Rattle.host_decide.specs.declared.Action.{Action}
+use Rattle.host_decide.specs.declared.Action.the-variants as action
+use Rattle.host_decide.specs.declared.Decided.{Decided}
+use Rattle.host_decide.specs.declared.Decided.the-variants as decided
+use Rattle.host_decide.specs.declared.Move.{Move}
+use Rattle.host_decide.specs.Decide.{entryOf, decisionOf}
+use Rattle.host_packet.specs.Answer.{B, N, rowOf, sentBy, refusedBy}
+use Rattle.host_packet.specs.Made.{Laid, laidRecord, laidOf, laidBy, recordStart, writtenOf, stepOfLaid, madeOf}
+use Rattle.host_packet.specs.declared.answer.Written.{Written}
+use Rattle.host_packet.specs.declared.answer.StepRefusal.{StepRefusal}
+use Rattle.host_packet.specs.declared.answer.StepRefusal.the-variants.{Served, Bundle, N1}
 use Rattle.host.specs.Inner.{innerOn, innerBy, innerOf}
 use Rattle.host_bytes.specs.Layout.{ROW-AT, ENTRY-AT, COUNT-AT, CONTENTS-SIZE, hostBytes, readHost, contentsIn, bodyRead, cursorFor, keptWith, keptBy, contentsAfter}
 use Rattle.host_bytes.proofs.Contents.{body-read}
-use Rattle.c_numbers.specs.Numbers.{SERVED, stepNumber}
-use Rattle.c_numbers.specs.Lent.{Left, leaves}
+use Rattle.c_types.specs.Numbers.{SERVED, stepNumber}
+use Rattle.c_types.specs.Lent.{Left, leaves}
 use Rattle.c_host.specs.Host.{toldStep, refusedStep, stepBy, innerOver}
-use Rattle.c_numbers.proofs.lent.Laws.{stored}
+use Rattle.c_types.proofs.lent.Laws.{stored}
 
 -- how many bytes are sent: none, the first 16, all 60
 pub sent-none : 0 ≡ length (flatten {A = ℕ} [])

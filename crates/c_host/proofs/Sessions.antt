@@ -11,7 +11,7 @@ use Rattle.bundle.specs.Contents.{checkOf}
 use Rattle.host_bytes.specs.Layout.{HOST-SIZE, CONTENTS-SIZE, readHost, noPlace, contentsBytes, contentsAfter}
 use Rattle.host_bytes.specs.Promises.{Keeps}
 use Rattle.host_bytes.proofs.Kept.{check-keeps, kept-contents-step, kept-are-contents}
-use Rattle.c_numbers.specs.Lent.{LONG-SIZE}
+use Rattle.c_types.specs.Lent.{LONG-SIZE}
 use Rattle.c_host.specs.Host.{checkCall, StepLeft, stepCall, innerOver, stepCheckedCall, stepCheckedContents}
 use Rattle.c_host.specs.Sessions.{session, checkedSession, CheckedSessions, KeptSessions}
 

@@ -7,16 +7,16 @@ use lib.ListN.{length}
 use Rattle.bundle.specs.Contents.{Contents, checkOf}
 use Rattle.host_record.specs.Record.{Reported, reportOf, freshHost}
 use Rattle.host_record.specs.Fits.{PACKET-LIMIT}
-use Rattle.make.specs.Answer.{N, Step}
-use Rattle.make.specs.Made.{InnerStep}
+use Rattle.host_packet.specs.Answer.{N, Step}
+use Rattle.host_packet.specs.Made.{InnerStep}
 use Rattle.host.specs.Step.{stepOf}
 use Rattle.host.specs.Inner.{innerOf}
 use Rattle.host_bytes.specs.Layout.{HOST-SIZE, CONTENTS-SIZE, hostBytes, readHost, noPlace, contentsBytes, contentsIn, areContents, cursorFor, keptBy, contentsAfter}
-use Rattle.c_numbers.specs.declared.types.CCheck.{CCheck}
-use Rattle.c_numbers.specs.declared.types.CStep.{CStep}
-use Rattle.c_numbers.specs.declared.types.CReport.{CReport}
-use Rattle.c_numbers.specs.Numbers.{SERVED, WRONG-RECORD, WRONG-OUTPUT, bundleNumber, stepNumber, stepEntry, endingNumber, endingStatus, sized}
-use Rattle.c_numbers.specs.Lent.{LONG-SIZE, Left, leaves}
+use Rattle.c_types.specs.declared.types.CCheck.{CCheck}
+use Rattle.c_types.specs.declared.types.CStep.{CStep}
+use Rattle.c_types.specs.declared.types.CReport.{CReport}
+use Rattle.c_types.specs.Numbers.{SERVED, WRONG-RECORD, WRONG-OUTPUT, bundleNumber, stepNumber, stepEntry, endingNumber, endingStatus, sized}
+use Rattle.c_types.specs.Lent.{LONG-SIZE, Left, leaves}
 
 -- what the check leaves: the contents, with no block in hand and the cursor at 0
 pub record CheckLeft : Type 0 where

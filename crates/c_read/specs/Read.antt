@@ -5,29 +5,29 @@ use mathlib.Core.List.{List}
 use Rattle.wire.specs.Version.{majorOf, minorOf, variantOf}
 use Rattle.wire.specs.Rows.{Row, P, Told}
 use Rattle.wire.specs.declared.version.Version.{Version}
-use Rattle.offers.specs.Offer as offer
-use Rattle.offers.specs.Kind as kind
-use Rattle.offers.specs.Reply as offerReply
-use Rattle.offers.specs.declared.offer.OfferFields.{OfferFields}
-use Rattle.offers.specs.declared.signal.Signal.{Signal}
-use Rattle.offers.specs.declared.reply.OfferReply.{OfferReply}
-use Rattle.contents.specs.Content as content
-use Rattle.contents.specs.Reply as contentReply
-use Rattle.contents.specs.declared.content.ContentFields.{ContentFields}
-use Rattle.contents.specs.declared.reply.ContentReply.{ContentReply}
-use Rattle.versions.specs.Reply as versions
-use Rattle.versions.specs.declared.VersionReply.{VersionReply}
-use Rattle.versions_bytes.specs.Layout.{COMPONENTS-SIZE, componentsBytes}
-use Rattle.c_numbers.specs.declared.types.CVersion.{CVersion}
-use Rattle.c_numbers.specs.declared.types.COffer.{COffer}
-use Rattle.c_numbers.specs.declared.types.CSignal.{CSignal}
-use Rattle.c_numbers.specs.declared.types.COfferPacket.{COfferPacket}
-use Rattle.c_numbers.specs.declared.types.COfferReply.{COfferReply}
-use Rattle.c_numbers.specs.declared.types.CContent.{CContent}
-use Rattle.c_numbers.specs.declared.types.CContentReply.{CContentReply}
-use Rattle.c_numbers.specs.declared.types.CVersionReply.{CVersionReply}
-use Rattle.c_numbers.specs.Numbers.{SERVED, WRONG-OUTPUT, packetNumber, sized}
-use Rattle.c_numbers.specs.Lent.{DATA-SIZE}
+use Rattle.wire_offer.specs.Offer as offer
+use Rattle.wire_offer.specs.Kind as kind
+use Rattle.wire_offer.specs.Reply as offerReply
+use Rattle.wire_offer.specs.declared.offer.OfferFields.{OfferFields}
+use Rattle.wire_offer.specs.declared.signal.Signal.{Signal}
+use Rattle.wire_offer.specs.declared.reply.OfferReply.{OfferReply}
+use Rattle.wire_content.specs.Content as content
+use Rattle.wire_content.specs.Reply as contentReply
+use Rattle.wire_content.specs.declared.content.ContentFields.{ContentFields}
+use Rattle.wire_content.specs.declared.reply.ContentReply.{ContentReply}
+use Rattle.wire_version.specs.Reply as versions
+use Rattle.wire_version.specs.declared.VersionReply.{VersionReply}
+use Rattle.c_version.specs.Layout.{COMPONENTS-SIZE, componentsBytes}
+use Rattle.c_types.specs.declared.types.CVersion.{CVersion}
+use Rattle.c_types.specs.declared.types.COffer.{COffer}
+use Rattle.c_types.specs.declared.types.CSignal.{CSignal}
+use Rattle.c_types.specs.declared.types.COfferPacket.{COfferPacket}
+use Rattle.c_types.specs.declared.types.COfferReply.{COfferReply}
+use Rattle.c_types.specs.declared.types.CContent.{CContent}
+use Rattle.c_types.specs.declared.types.CContentReply.{CContentReply}
+use Rattle.c_types.specs.declared.types.CVersionReply.{CVersionReply}
+use Rattle.c_types.specs.Numbers.{SERVED, WRONG-OUTPUT, packetNumber, sized}
+use Rattle.c_types.specs.Lent.{DATA-SIZE}
 
 -- what reading tells
 abbrev pub partsOf : Version → CVersion

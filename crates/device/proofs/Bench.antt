@@ -1,16 +1,16 @@
 -- E1 to E10, by computation. Assumes nothing.
 use mathlib.Core.Path.{refl}
 use Rattle.wire.specs.Checks.{firstOf, any, pairs}
-use Rattle.offers.specs.Offer.{fieldsIn}
-use Rattle.offers.specs.Kind.{kindIn}
-use Rattle.versions.specs.Reply.{flat, replyBytes}
+use Rattle.wire_offer.specs.Offer.{fieldsIn}
+use Rattle.wire_offer.specs.Kind.{kindIn}
+use Rattle.wire_version.specs.Reply.{flat, replyBytes}
 use Rattle.image.specs.Region.{within, blank, put, eraseOf, writeOf}
-use Rattle.component.specs.Lists.{firstFrom, find}
-use Rattle.component.specs.Setup.{badIds, badRegions, setupVerdict}
-use Rattle.session.specs.Sound.{breaksD1}
-use Rattle.offering.specs.Offer.{rejections, needUnmet, offerVerdict, onOffer}
-use Rattle.receiving.specs.Content.{contentVerdict, takeBlock}
-use Rattle.receiving.specs.Receive.{onBlock}
+use Rattle.device_component.specs.Lists.{firstFrom, find}
+use Rattle.device_component.specs.Setup.{badIds, badRegions, setupVerdict}
+use Rattle.device_session.specs.Sound.{breaksD1}
+use Rattle.device_offering.specs.Offer.{rejections, needUnmet, offerVerdict, onOffer}
+use Rattle.device_receiving.specs.Content.{contentVerdict, takeBlock}
+use Rattle.device_receiving.specs.Receive.{onBlock}
 use Rattle.device.specs.Refusals.{refusalOf}
 use Rattle.device.specs.Offer.{offerEntry}
 use Rattle.device.specs.Content.{contentEntry, contentStaging}

@@ -10,31 +10,31 @@ use lib.ListN.{length, set, take, drop}
 use Rattle.wire.specs.Checks.{firstOf}
 use Rattle.wire.specs.Codes.{SUCCESS}
 use Rattle.wire.specs.declared.version.Version.{Version}
-use Rattle.contents.specs.Head.{headIn}
-use Rattle.contents.specs.Reply.{replyBytes}
-use Rattle.contents.specs.declared.head.ContentHead.{ContentHead}
+use Rattle.wire_content.specs.Head.{headIn}
+use Rattle.wire_content.specs.Reply.{replyBytes}
+use Rattle.wire_content.specs.declared.head.ContentHead.{ContentHead}
 use Rattle.image.specs.Region.{isInside, holds, within, regionBytes, blank, put, eraseOf}
 use Rattle.image.specs.Judge.{isRight, imageId, imageVersion, imageIn}
 use Rattle.image.specs.declared.region.Region.{Region}
 use Rattle.image.specs.declared.judge.Image.the-variants.{Bears}
 use Rattle.image.proofs.region.Within.{blank-length, within-twice, erase-inside, erase-length, write-inside, inside}
-use Rattle.component.specs.Lists.{partAt}
-use Rattle.component.specs.Record.{withStaged}
-use Rattle.component.specs.Versions.{imageVersionFits}
-use Rattle.component.specs.declared.record.Component.{Component}
-use Rattle.component.specs.declared.list.Found.the-variants.{At}
+use Rattle.device_component.specs.Lists.{componentAt}
+use Rattle.device_component.specs.Record.{withStaged}
+use Rattle.device_component.specs.Versions.{imageVersionFits}
+use Rattle.device_component.specs.declared.record.Component.{Component}
+use Rattle.device_component.specs.declared.list.Found.the-variants.{At}
 use Rattle.device.specs.declared.record.Device.{Device}
-use Rattle.session.specs.declared.owed.Owed.the-variants as owed
-use Rattle.session.specs.declared.stage.Stage.{Stage}
-use Rattle.session.specs.declared.stage.Stage.the-variants.{Offered, Receiving}
+use Rattle.device_session.specs.declared.owed.Owed.the-variants as owed
+use Rattle.device_session.specs.declared.stage.Stage.{Stage}
+use Rattle.device_session.specs.declared.stage.Stage.the-variants.{Offered, Receiving}
 use Rattle.device.specs.declared.answer.Channel.the-variants.{Content}
-use Rattle.receiving.specs.declared.checks.ContentVerdict.the-variants.{Take}
-use Rattle.session.specs.Stage.{openSlot, atToken}
-use Rattle.receiving.specs.Content as receiving
-use Rattle.receiving.specs.Content.{isFirst, isLast, badShape, takeBlock}
-use Rattle.receiving.specs.Finish.{finish}
-use Rattle.receiving.specs.Receive.{onBlock}
-use Rattle.receiving.proofs.content.Laws.{kept}
+use Rattle.device_receiving.specs.declared.checks.ContentVerdict.the-variants.{Take}
+use Rattle.device_session.specs.Stage.{openSlot, atToken}
+use Rattle.device_receiving.specs.Content as receiving
+use Rattle.device_receiving.specs.Content.{isFirst, isLast, badShape, takeBlock}
+use Rattle.device_receiving.specs.Finish.{finish}
+use Rattle.device_receiving.specs.Receive.{onBlock}
+use Rattle.device_receiving.proofs.content.Laws.{kept}
 use Rattle.device.specs.Record.{sessionOf, idleWith}
 use Rattle.device.specs.Content.{contentVerdict, received, contentEntry, contentStaging}
 use Rattle.device.specs.Entries.{serveEntry, serveStaging}
@@ -42,11 +42,11 @@ use Rattle.device.proofs.Calls.{Sound, answeredWith, rows-pass}
 
 -- the record with these components in this stage, owing nothing
 abbrev pub held : Device → List Component → Stage → Device
-held d parts stage = record {
+held d components stage = record {
   platform = d .platform;
   «staging_len» = d .«staging_len»;
   count = d .count;
-  parts = parts;
+  components = components;
   stage = stage;
   owed = owed.Nothing;
 }
@@ -99,21 +99,21 @@ puts r c (suc k) s own bytes f h e l =
 
 -- a right image: pending with its version
 finishes : (x : Component) (s m : List ℕ) (v : Version) → regionBytes (x .region) s ≡ m → isRight m ≡ true
-    → imageId m ≡ x .id → imageVersion m ≡ v → imageVersionFits x v ≡ true → finish x s ≡ record { status = SUCCESS; part = withStaged x v }
+    → imageId m ≡ x .id → imageVersion m ≡ v → imageVersionFits x v ≡ true → finish x s ≡ record { status = SUCCESS; component = withStaged x v }
 unfolding finish
 finishes x s m v e r i w g = rw (e, bears m (x .id) v r i w, g)
 
-module _ (d : Device) (parts : List Component) (slot token : ℕ) (c : ContentHead) where
+module _ (d : Device) (components : List Component) (slot token : ℕ) (c : ContentHead) where
   -- the record whose session waits for block k
   abbrev waiting : ℕ → Device
-  waiting k = held d parts (awaits slot token k)
+  waiting k = held d components (awaits slot token k)
 
   -- the reply to a block that is taken
   abbrev taken : List ℕ
   taken = replyBytes (record { sequence = c .sequence; status = SUCCESS })
 
   -- checks 1 to 5 let it pass
-  takes : (k : ℕ) → Fitting c k (partAt parts slot .region) → contentVerdict (waiting k) c ≡ Take slot
+  takes : (k : ℕ) → Fitting c k (componentAt components slot .region) → contentVerdict (waiting k) c ≡ Take slot
   unfolding receiving.contentVerdict firstOf
   takes zero f = simp (f .shape, f .first, f .room)
   takes (suc k) f =
@@ -121,44 +121,44 @@ module _ (d : Device) (parts : List Component) (slot token : ℕ) (c : ContentHe
 
   -- a block that is not the last: the session waits for the next
   goes-on : (k : ℕ) (s : List ℕ) → c .sequence ≡ k % 65536 → isLast c ≡ false
-      → received (waiting k) (onBlock (partAt parts slot) (sessionOf (waiting k)) slot c s) ≡ answeredWith taken owed.Nothing (waiting (suc k))
+      → received (waiting k) (onBlock (componentAt components slot) (sessionOf (waiting k)) slot c s) ≡ answeredWith taken owed.Nothing (waiting (suc k))
   unfolding onBlock
   goes-on k s q h =
       let e : (c .sequence + 1) % 65536 ≡ suc k % 65536 = omega arith in
-      rw (h, e, awaits-token slot token k, awaits-slot slot token k, kept parts slot)
+      rw (h, e, awaits-token slot token k, awaits-slot slot token k, kept components slot)
 
   -- the reply to the last block of a right image
-  ends : (k : ℕ) (s m : List ℕ) (v : Version) → isLast c ≡ true → regionBytes (partAt parts slot .region) s ≡ m → isRight m ≡ true
-      → imageId m ≡ partAt parts slot .id → imageVersion m ≡ v → imageVersionFits (partAt parts slot) v ≡ true
-      → received (waiting k) (onBlock (partAt parts slot) (sessionOf (waiting k)) slot c s)
-      ≡ answeredWith taken owed.Nothing (idleWith d (set parts slot (withStaged (partAt parts slot) v)))
+  ends : (k : ℕ) (s m : List ℕ) (v : Version) → isLast c ≡ true → regionBytes (componentAt components slot .region) s ≡ m → isRight m ≡ true
+      → imageId m ≡ componentAt components slot .id → imageVersion m ≡ v → imageVersionFits (componentAt components slot) v ≡ true
+      → received (waiting k) (onBlock (componentAt components slot) (sessionOf (waiting k)) slot c s)
+      ≡ answeredWith taken owed.Nothing (idleWith d (set components slot (withStaged (componentAt components slot) v)))
   unfolding onBlock
-  ends k s m v h e r i w g = rw (h, finishes (partAt parts slot) s m v e r i w g, awaits-slot slot token k)
+  ends k s m v h e r i w g = rw (h, finishes (componentAt components slot) s m v e r i w g, awaits-slot slot token k)
 
-  module _ (s p : List ℕ) (size : length p ≡ 60) (reads : headIn p ≡ c) (k : ℕ) (f : Fitting c k (partAt parts slot .region))
-      (sound : Sound (held d parts (awaits slot token k)) s) where
+  module _ (s p : List ℕ) (size : length p ≡ 60) (reads : headIn p ≡ c) (k : ℕ) (f : Fitting c k (componentAt components slot .region))
+      (sound : Sound (held d components (awaits slot token k)) s) where
     -- the staging buffer afterwards
-    pub block-staging : serveStaging (held d parts (awaits slot token k)) Content s p ≡ takeBlock (partAt parts slot .region) c (drop 8 p) s
+    pub block-staging : serveStaging (held d components (awaits slot token k)) Content s p ≡ takeBlock (componentAt components slot .region) c (drop 8 p) s
     unfolding serveStaging contentStaging
     block-staging = rw (rows-pass 60 (waiting k) s (length p) sound size, reads, takes k f, awaits-slot slot token k)
 
     -- the answer is that of a taken block
     block-taken : serveEntry (waiting k) Content s p
-        ≡ received (waiting k) (onBlock (partAt parts slot) (sessionOf (waiting k)) slot c (takeBlock (partAt parts slot .region) c (drop 8 p) s))
+        ≡ received (waiting k) (onBlock (componentAt components slot) (sessionOf (waiting k)) slot c (takeBlock (componentAt components slot .region) c (drop 8 p) s))
     unfolding serveEntry contentEntry
     block-taken = rw (rows-pass 60 (waiting k) s (length p) sound size, reads, takes k f, awaits-slot slot token k)
 
     -- a block that is not the last: status 0, and the session waits for the next
     pub block-next : isLast c ≡ false
-        → serveEntry (held d parts (awaits slot token k)) Content s p
-        ≡ answeredWith (replyBytes (record { sequence = c .sequence; status = SUCCESS })) owed.Nothing (held d parts (awaits slot token (suc k)))
+        → serveEntry (held d components (awaits slot token k)) Content s p
+        ≡ answeredWith (replyBytes (record { sequence = c .sequence; status = SUCCESS })) owed.Nothing (held d components (awaits slot token (suc k)))
     block-next h = block-taken ∙ goes-on k _ (f .sequence) h
 
     -- the last block of a right image that is not older: status 0, and the component is pending with its version
     pub block-last : (m : List ℕ) (v : Version) → isLast c ≡ true
-        → regionBytes (partAt parts slot .region) (takeBlock (partAt parts slot .region) c (drop 8 p) s) ≡ m → isRight m ≡ true
-        → imageId m ≡ partAt parts slot .id → imageVersion m ≡ v → imageVersionFits (partAt parts slot) v ≡ true
-        → serveEntry (held d parts (awaits slot token k)) Content s p
+        → regionBytes (componentAt components slot .region) (takeBlock (componentAt components slot .region) c (drop 8 p) s) ≡ m → isRight m ≡ true
+        → imageId m ≡ componentAt components slot .id → imageVersion m ≡ v → imageVersionFits (componentAt components slot) v ≡ true
+        → serveEntry (held d components (awaits slot token k)) Content s p
         ≡ answeredWith (replyBytes (record { sequence = c .sequence; status = SUCCESS })) owed.Nothing
-        (idleWith d (set parts slot (withStaged (partAt parts slot) v)))
+        (idleWith d (set components slot (withStaged (componentAt components slot) v)))
     block-last m v h e r i w g = block-taken ∙ ends k _ m v h e r i w g

@@ -10,29 +10,29 @@ use lib.ListN.{length, drop}
 use Rattle.wire.specs.Checks.{firstOf}
 use Rattle.wire.specs.Codes.{OFFER-ACCEPT, OFFER-UNSUPPORTED}
 use Rattle.wire.proofs.Chain.{either}
-use Rattle.offers.specs.Reply.{replyBytes}
-use Rattle.offers.specs.Signal.{informationBytes}
-use Rattle.offers.specs.Kind.{Kind, offer, information, kindIn}
-use Rattle.offers.specs.declared.offer.OfferFields.{OfferFields}
-use Rattle.offers.specs.declared.signal.Signal.{Signal}
-use Rattle.contents.specs.Head.{headIn}
-use Rattle.session.specs.Effect.{idle}
-use Rattle.session.specs.declared.owed.Owed.{Owed}
-use Rattle.session.specs.declared.owed.Owed.the-variants as owed
-use Rattle.offering.specs.Offer.{onOffer}
-use Rattle.offering.specs.Signal as signal
-use Rattle.offering.specs.Signal.{onInformation}
-use Rattle.receiving.specs.Content.{isLast}
-use Rattle.receiving.specs.Receive.{onBlock, onVerdict}
-use Rattle.receiving.specs.declared.checks.ContentVerdict.{ContentVerdict}
-use Rattle.receiving.specs.declared.checks.ContentVerdict.the-variants.{Refuse, Take}
-use Rattle.receiving.specs.declared.content.Taken.{Taken}
+use Rattle.wire_offer.specs.Reply.{replyBytes}
+use Rattle.wire_offer.specs.Signal.{informationBytes}
+use Rattle.wire_offer.specs.Kind.{Kind, offer, information, kindIn}
+use Rattle.wire_offer.specs.declared.offer.OfferFields.{OfferFields}
+use Rattle.wire_offer.specs.declared.signal.Signal.{Signal}
+use Rattle.wire_content.specs.Head.{headIn}
+use Rattle.device_session.specs.Effect.{idle}
+use Rattle.device_session.specs.declared.owed.Owed.{Owed}
+use Rattle.device_session.specs.declared.owed.Owed.the-variants as owed
+use Rattle.device_offering.specs.Offer.{onOffer}
+use Rattle.device_offering.specs.Signal as signal
+use Rattle.device_offering.specs.Signal.{onInformation}
+use Rattle.device_receiving.specs.Content.{isLast}
+use Rattle.device_receiving.specs.Receive.{onBlock, onVerdict}
+use Rattle.device_receiving.specs.declared.checks.ContentVerdict.{ContentVerdict}
+use Rattle.device_receiving.specs.declared.checks.ContentVerdict.the-variants.{Refuse, Take}
+use Rattle.device_receiving.specs.declared.content.Taken.{Taken}
 use Rattle.device.specs.declared.record.Device.{Device}
 use Rattle.device.specs.declared.answer.Channel.the-variants.{Offer, Content}
 use Rattle.device.specs.Record.{sessionOf, toIdle}
 use Rattle.device.specs.Refusals.{served, breaksD1, refusalOf, Outcome, servedWith, readySent}
 use Rattle.device.specs.Offer.{onKind, offerEntry}
-use Rattle.device.specs.Content.{sessionPart, contentVerdict, received, contentEntry}
+use Rattle.device.specs.Content.{sessionComponent, contentVerdict, received, contentEntry}
 use Rattle.device.specs.Entries.{serveEntry}
 
 -- a served call with one reply, and then the READY that was owed
@@ -85,7 +85,7 @@ unfolding onInformation
 answers-code d s p x h l e = rw (serves-kind d s p (information x) h l e) (go (eqb (x .code) 0) (leb (x .code) 2))
   where
     go : (a b : Bool)
-        → Answered (servedWith d (d .parts) (cond a (signal.plainReply (x .token) OFFER-ACCEPT idle)
+        → Answered (servedWith d (d .components) (cond a (signal.plainReply (x .token) OFFER-ACCEPT idle)
         (cond b (signal.plainReply (x .token) OFFER-ACCEPT (sessionOf d)) (signal.plainReply (x .token) OFFER-UNSUPPORTED (sessionOf d)))))
     go true b = (refl, refl)
     go false true = (refl, refl)
@@ -96,6 +96,6 @@ pub answers-block : (d : Device) (s p : List ℕ) → Sound d s → d .owed ≡ 
 unfolding serveEntry contentEntry onBlock
 answers-block d s p h o l = rw (rows-pass 60 d s (length p) h l) (go (contentVerdict d (headIn p)))
   where
-    go : (v : ContentVerdict) → Answered (received d (onVerdict (sessionPart d) (sessionOf d) (headIn p) (drop 8 p) s v))
+    go : (v : ContentVerdict) → Answered (received d (onVerdict (sessionComponent d) (sessionOf d) (headIn p) (drop 8 p) s v))
     go (Refuse status) = (refl, refl)
     go (Take slot) = either (λ (t : Taken). Answered (received d t)) (isLast (headIn p)) _ _ (rw o (refl, refl)) (refl, refl)

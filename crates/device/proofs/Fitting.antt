@@ -8,50 +8,50 @@ use lib.Dec.{eqb}
 use lib.ListN.{length, getD, drop, length-set, length-map, replicate}
 use Rattle.wire.specs.Bytes.{Bytes}
 use Rattle.wire.specs.declared.version.Version.{Version}
-use Rattle.offers.specs.Offer as offers
-use Rattle.contents.specs.Head.{headIn}
-use Rattle.contents.specs.declared.head.ContentHead.{ContentHead}
+use Rattle.wire_offer.specs.Offer as offers
+use Rattle.wire_content.specs.Head.{headIn}
+use Rattle.wire_content.specs.declared.head.ContentHead.{ContentHead}
 use Rattle.image.specs.Region.{regionBytes}
 use Rattle.image.specs.Judge.{imageVersion, imageId, isRight, imageIn}
 use Rattle.image.specs.declared.judge.Image.the-variants.{Damaged, Foreign, Bears}
 use Rattle.image.specs.declared.region.Region.{Region}
-use Rattle.component.specs.Record.{FitsStaged, FitsComponent, effective, listed, withStaged, afterReset, blankComponent}
-use Rattle.component.specs.Lists.{partAt}
-use Rattle.component.specs.Setup.{rowOf, setupVerdict}
-use Rattle.component.specs.declared.record.Component.{Component}
-use Rattle.component.specs.declared.record.Staged.{Staged}
-use Rattle.component.specs.declared.record.Staged.the-variants.{Nothing, Pending}
-use Rattle.component.specs.declared.setup.SetupVerdict.{SetupVerdict}
-use Rattle.slots.specs.Slots.{resetParts}
-use Rattle.session.specs.Stage.{FitsStage, openSlot, atToken}
-use Rattle.session.specs.Owed.{FitsOwed}
-use Rattle.session.specs.Sound.{refusesSetup}
-use Rattle.receiving.specs.Content.{isFirst, takeBlock}
+use Rattle.device_component.specs.Record.{FitsStaged, FitsComponent, effective, listed, withStaged, afterReset, blankComponent}
+use Rattle.device_component.specs.Lists.{componentAt}
+use Rattle.device_component.specs.Setup.{rowOf, setupVerdict}
+use Rattle.device_component.specs.declared.record.Component.{Component}
+use Rattle.device_component.specs.declared.record.Staged.{Staged}
+use Rattle.device_component.specs.declared.record.Staged.the-variants.{Nothing, Pending}
+use Rattle.device_component.specs.declared.setup.SetupVerdict.{SetupVerdict}
+use Rattle.device_slots.specs.Slots.{resetComponents}
+use Rattle.device_session.specs.Stage.{FitsStage, openSlot, atToken}
+use Rattle.device_session.specs.Owed.{FitsOwed}
+use Rattle.device_session.specs.Sound.{refusesSetup}
+use Rattle.device_receiving.specs.Content.{isFirst, takeBlock}
 use Rattle.device.specs.Entries.{newDevice, setUpBy, setUpOf, Reset, resetEntry}
-use Rattle.session.proofs.sound.Laws.{fine}
+use Rattle.device_session.proofs.sound.Laws.{fine}
 use Rattle.device.proofs.setup.Laws.{refused-set-up, made-set-up}
 use Rattle.wire.specs.Version.{FitsVersion}
-use Rattle.component.specs.declared.list.Found.the-variants as found
+use Rattle.device_component.specs.declared.list.Found.the-variants as found
 use Rattle.device.specs.declared.record.Device.{Device}
-use Rattle.session.specs.declared.owed.Owed.{Owed}
-use Rattle.session.specs.declared.stage.Stage.{Stage}
-use Rattle.session.specs.declared.stage.Stage.the-variants.{Idle, Offered, Receiving}
+use Rattle.device_session.specs.declared.owed.Owed.{Owed}
+use Rattle.device_session.specs.declared.stage.Stage.{Stage}
+use Rattle.device_session.specs.declared.stage.Stage.the-variants.{Idle, Offered, Receiving}
 use Rattle.device.specs.declared.answer.Channel.{Channel}
-use Rattle.device.specs.Record.{FitsDevice, part, blankDevice}
+use Rattle.device.specs.Record.{FitsDevice, component, blankDevice}
 use Rattle.device.specs.Refusals.{breaksD1}
 use Rattle.device.specs.Promises.{SetUpFits, ResetKeepsFits, ServeKeepsFits}
 use Rattle.wire.proofs.Chain.{either}
-use Rattle.component.proofs.list.Laws.{find-at}
-use Rattle.component.proofs.setup.Laws.{seen, fine-staging}
+use Rattle.device_component.proofs.list.Laws.{find-at}
+use Rattle.device_component.proofs.setup.Laws.{seen, fine-staging}
 use Rattle.device.proofs.Lists.{reset-seen, each-set, each-front}
 use Rattle.device.proofs.Bytes.{take-bytes, drop-bytes, region-bytes, erase-bytes, write-bytes, version-fits}
 use Rattle.device.proofs.Moves.{Move, stays, idles, opens, owes, goes, stages, serve-moves}
 
 -- the record with other components and another session
-fits-with : (d : Device) → FitsDevice d → (parts : List Component) → length parts ≡ 7 → ((k : ℕ) → FitsComponent (partAt parts k))
+fits-with : (d : Device) → FitsDevice d → (components : List Component) → length components ≡ 7 → ((k : ℕ) → FitsComponent (componentAt components k))
     → (s : Stage) → FitsStage s → (o : Owed) → FitsOwed o
-    → FitsDevice (record { platform = d .platform; «staging_len» = d .«staging_len»; count = d .count; parts = parts; stage = s; owed = o })
-fits-with d f parts l e s h o k =
+    → FitsDevice (record { platform = d .platform; «staging_len» = d .«staging_len»; count = d .count; components = components; stage = s; owed = o })
+fits-with d f components l e s h o k =
     record { platform = f .platform; staging = f .staging; count = f .count; slots = l; each = e; stage = h; owed = k }
 
 slot-fits : (s : Stage) (k : ℕ) → FitsStage s → openSlot s ≡ found.At k → k < 256
@@ -83,20 +83,20 @@ block-bytes r c bytes s h b =
 move-fits : {d d′ : Device} {channel : Channel} {staging report : List ℕ} → FitsDevice d → Bytes report → Bytes staging → Move d channel staging report d′ → FitsDevice d′
 unfolding offers.fieldsIn
 move-fits f h b stays = f
-move-fits {d} f h b idles = fits-with d f (d .parts) (f .slots) (f .each) Idle tt _ tt
+move-fits {d} f h b idles = fits-with d f (d .components) (f .slots) (f .each) Idle tt _ tt
 move-fits {d} {report = report} f h b (opens k a q) =
-    let m = find-at _ (d .count) (d .parts) k (a .component) .0 in
-    fits-with d f (d .parts) (f .slots) (f .each) _ (omega (arith, f .count), h 3) _ (f .owed)
-move-fits {d} f h b (owes e) = fits-with d f (d .parts) (f .slots) (f .each) _ (f .stage) _ (h 3)
+    let m = find-at _ (d .count) (d .components) k (a .component) .0 in
+    fits-with d f (d .components) (f .slots) (f .each) _ (omega (arith, f .count), h 3) _ (f .owed)
+move-fits {d} f h b (owes e) = fits-with d f (d .components) (f .slots) (f .each) _ (f .stage) _ (h 3)
 move-fits {d} f h b (goes k e) =
-    fits-with d f (d .parts) (f .slots) (f .each) _ (slot-fits (d .stage) k (f .stage) e, token-fits (d .stage) (f .stage), omega arith) _ (f .owed)
+    fits-with d f (d .components) (f .slots) (f .each) _ (slot-fits (d .stage) k (f .stage) e, token-fits (d .stage) (f .stage), omega arith) _ (f .owed)
 move-fits {d} {staging = staging} {report = report} f h b (stages k e v q w) =
     let c = f .each k in
-    let r = part d k .region in
+    let r = component d k .region in
     let after = takeBlock r (headIn report) (drop 8 report) staging in
     let n : v .0 < 256 ^ 4 = rw (bears (regionBytes r after) _ v q) (version-fits 0 (regionBytes r after) (region-bytes r after (block-bytes r (headIn report) (drop 8 report) staging (drop-bytes 8 report h) b))) in
-    let g : FitsComponent (withStaged (part d k) v) = record { id = c .id; running = c .running; region = c .region; staged = n } in
-    fits-with d f _ (length-set (d .parts) k _ ∙ f .slots) (each-set FitsComponent (d .parts) k _ blankComponent g (f .each)) Idle tt _ tt
+    let g : FitsComponent (withStaged (component d k) v) = record { id = c .id; running = c .running; region = c .region; staged = n } in
+    fits-with d f _ (length-set (d .components) k _ ∙ f .slots) (each-set FitsComponent (d .components) k _ blankComponent g (f .each)) Idle tt _ tt
 
 pub serve-keeps-fits : ServeKeepsFits
 serve-keeps-fits d channel staging report f h b = move-fits f h b (serve-moves d staging report channel)
@@ -147,6 +147,6 @@ reset-fits c f = record { id = f .id; running = effective-fits (c .staged) (f .s
 pub reset-keeps-fits : ResetKeepsFits
 unfolding resetEntry
 reset-keeps-fits d f =
-    let l : length (resetParts (d .count) (d .parts)) ≡ 7 = sym (length-map (resetParts (d .count) (d .parts)) seen) ∙ ap length (reset-seen (d .count) (d .parts)) ∙ length-map (d .parts) seen ∙ f .slots in
+    let l : length (resetComponents (d .count) (d .components)) ≡ 7 = sym (length-map (resetComponents (d .count) (d .components)) seen) ∙ ap length (reset-seen (d .count) (d .components)) ∙ length-map (d .components) seen ∙ f .slots in
     either (λ (r : Reset). FitsDevice (r .device)) (breaksD1 d) _ _ f
-    (fits-with d f (resetParts (d .count) (d .parts)) l (each-front FitsComponent afterReset blankComponent reset-fits (d .count) (d .parts) (f .each)) Idle tt _ tt)
+    (fits-with d f (resetComponents (d .count) (d .components)) l (each-front FitsComponent afterReset blankComponent reset-fits (d .count) (d .components) (f .each)) Idle tt _ tt)

@@ -8,27 +8,27 @@ use borrow.Author.Tests.{lt-leb}
 use lib.ListN.{length, set, take}
 use lib.Seq.{take-set-lt}
 use Rattle.wire.specs.Checks.{any}
-use Rattle.component.specs.Record.{listed, afterReset, withStaged}
-use Rattle.component.specs.Versions.{keepsStaged}
-use Rattle.component.specs.Setup as setup
-use Rattle.component.specs.Setup.{setupVerdict}
-use Rattle.component.specs.declared.record.Component.{Component}
-use Rattle.component.specs.declared.setup.SetupVerdict.{SetupVerdict}
-use Rattle.component.specs.declared.setup.SetupVerdict.the-variants.{Fine, S1, S2, S3, S4}
+use Rattle.device_component.specs.Record.{listed, afterReset, withStaged}
+use Rattle.device_component.specs.Versions.{keepsStaged}
+use Rattle.device_component.specs.Setup as setup
+use Rattle.device_component.specs.Setup.{setupVerdict}
+use Rattle.device_component.specs.declared.record.Component.{Component}
+use Rattle.device_component.specs.declared.setup.SetupVerdict.{SetupVerdict}
+use Rattle.device_component.specs.declared.setup.SetupVerdict.the-variants.{Fine, S1, S2, S3, S4}
 use Rattle.device.specs.declared.record.Device.{Device}
 use Rattle.device.specs.declared.answer.Channel.{Channel}
-use Rattle.device.specs.Record.{part}
+use Rattle.device.specs.Record.{component}
 use Rattle.device.specs.Refusals.{breaksD1}
-use Rattle.slots.specs.Slots.{resetParts}
-use Rattle.session.specs.Stage.{atSlot}
-use Rattle.receiving.proofs.checks.Laws.{open-at}
+use Rattle.device_slots.specs.Slots.{resetComponents}
+use Rattle.device_session.specs.Stage.{atSlot}
+use Rattle.device_receiving.proofs.checks.Laws.{open-at}
 use Rattle.device.specs.Entries.{newDevice, setUpBy, setUpOf, resetEntry}
 use Rattle.device.specs.Promises.{SetUpPasses, ServeKeepsD1, ResetKeepsD1}
-use Rattle.component.proofs.list.Laws.{find-at}
-use Rattle.component.proofs.list.Members.{map-take, any-map}
-use Rattle.component.proofs.setup.Laws.{setup-same, setup-staged}
+use Rattle.device_component.proofs.list.Laws.{find-at}
+use Rattle.device_component.proofs.list.Members.{map-take, any-map}
+use Rattle.device_component.proofs.setup.Laws.{setup-same, setup-staged}
 use Rattle.device.proofs.Lists.{any-never, any-set, reset-seen, reset-take}
-use Rattle.session.proofs.sound.Laws.{passes, keeps, count-most, open-slot}
+use Rattle.device_session.proofs.sound.Laws.{passes, keeps, count-most, open-slot}
 use Rattle.device.proofs.Passes.{Passes}
 use Rattle.device.proofs.Moves.{Move, stays, idles, opens, owes, goes, stages, serve-moves}
 
@@ -57,7 +57,7 @@ move-passes : {d d′ : Device} {channel : Channel} {staging report : List ℕ} 
 move-passes {d} p stays = keeps p
 move-passes {d} p idles = keeps (record { setup = p .setup; slot = refl; owed = refl; staged = p .staged })
 move-passes {d} p (opens k a q) =
-    let b = lt-leb (d .count) k (find-at _ (d .count) (d .parts) k (a .component) .0) in
+    let b = lt-leb (d .count) k (find-at _ (d .count) (d .components) k (a .component) .0) in
     keeps (record { setup = p .setup; slot = rw (b, q); owed = refl; staged = p .staged })
 move-passes {d} p (owes e) =
     let s = open-at (d .stage) e in
@@ -69,10 +69,10 @@ move-passes {d} p (goes k s) =
     keeps (record { setup = p .setup; slot = rw (lt-leb (d .count) k (o .0), o .1); owed = refl; staged = p .staged })
 move-passes {d} p (stages k s v e f) =
     let o = open-slot k p s in
-    let c = withStaged (part d k) v in
-    let same = setup-staged (d .«staging_len») (d .count) (d .parts) k v in
-    let kept : any stale (take (d .count) (set (d .parts) k c)) ≡ false
-    = rw (take-set-lt (d .count) (d .parts) k c (o .0)) (any-set stale (take (d .count) (d .parts)) k c (rw f) (p .staged)) in
+    let c = withStaged (component d k) v in
+    let same = setup-staged (d .«staging_len») (d .count) (d .components) k v in
+    let kept : any stale (take (d .count) (set (d .components) k c)) ≡ false
+    = rw (take-set-lt (d .count) (d .components) k c (o .0)) (any-set stale (take (d .count) (d .components)) k c (rw f) (p .staged)) in
     keeps (record { setup = rw same (p .setup); slot = refl; owed = refl; staged = kept })
 
 pub serve-keeps-d1 : ServeKeepsD1
@@ -82,8 +82,8 @@ pub reset-keeps-d1 : ResetKeepsD1
 unfolding resetEntry
 reset-keeps-d1 d f h =
     let p = passes h in
-    let m : d .count ≤ length (d .parts) = omega (arith, count-most p, f .slots) in
-    let same = setup-same (d .«staging_len») (d .count) (resetParts (d .count) (d .parts)) (d .parts) (reset-seen (d .count) (d .parts)) in
-    let kept : any stale (take (d .count) (resetParts (d .count) (d .parts))) ≡ false
-    = rw (reset-take (d .count) (d .parts) m, ← (any-map afterReset stale (take (d .count) (d .parts)))) (any-never (take (d .count) (d .parts))) in
+    let m : d .count ≤ length (d .components) = omega (arith, count-most p, f .slots) in
+    let same = setup-same (d .«staging_len») (d .count) (resetComponents (d .count) (d .components)) (d .components) (reset-seen (d .count) (d .components)) in
+    let kept : any stale (take (d .count) (resetComponents (d .count) (d .components))) ≡ false
+    = rw (reset-take (d .count) (d .components) m, ← (any-map afterReset stale (take (d .count) (d .components)))) (any-never (take (d .count) (d .components))) in
     rw h (keeps (record { setup = rw same (p .setup); slot = refl; owed = refl; staged = kept }))

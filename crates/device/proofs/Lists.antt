@@ -7,10 +7,10 @@ use lib.ListN.{length, take, drop, set, getD, length-map, take-append-drop}
 use lib.Seq.{take-at, length-take-le}
 use Rattle.wire.specs.Checks.{any}
 use Rattle.image.specs.declared.region.Region.{Region}
-use Rattle.component.specs.Record.{afterReset}
-use Rattle.component.specs.declared.record.Component.{Component}
-use Rattle.component.proofs.setup.Laws.{seen}
-use Rattle.slots.specs.Slots.{resetParts}
+use Rattle.device_component.specs.Record.{afterReset}
+use Rattle.device_component.specs.declared.record.Component.{Component}
+use Rattle.device_component.proofs.setup.Laws.{seen}
+use Rattle.device_slots.specs.Slots.{resetComponents}
 use Rattle.wire.proofs.Tests.{neither}
 
 module _ {A : Type 0} where
@@ -44,12 +44,12 @@ module _ {A : Type 0} where
   each-front P f z g (suc n) (x ∷ l) h (suc k) = each-front P f z g n l (λ j. h (suc j)) k
 
 -- a reset keeps what set-up looks at
-pub reset-seen : (n : ℕ) (l : List Component) → map seen (resetParts n l) ≡ map seen l
+pub reset-seen : (n : ℕ) (l : List Component) → map seen (resetComponents n l) ≡ map seen l
 reset-seen n l =
     map-append seen (map afterReset (take n l)) (drop n l)
     ∙ ap (λ (t : List (ℕ × Region)). t ++ map seen (drop n l)) (map-map seen afterReset (take n l))
     ∙ sym (map-append seen (take n l) (drop n l)) ∙ ap (map seen) (take-append-drop n l)
 
 -- the components in use after a reset
-pub reset-take : (n : ℕ) (l : List Component) → n ≤ length l → take n (resetParts n l) ≡ map afterReset (take n l)
+pub reset-take : (n : ℕ) (l : List Component) → n ≤ length l → take n (resetComponents n l) ≡ map afterReset (take n l)
 reset-take n l h = take-at (map afterReset (take n l)) (drop n l) n (length-map (take n l) afterReset ∙ length-take-le n l h)

@@ -7,44 +7,44 @@ use lib.Dec.{eqb, leb}
 use lib.ListN.{length, getD, drop, set}
 use Rattle.wire.specs.Codes.{KIND-INFORMATION, KIND-EXTENDED, NOTIFY-ON-READY, INFO-START-ENTIRE-TRANSACTION, INFO-END-OFFER-LIST}
 use Rattle.wire.specs.declared.version.Version.{Version}
-use Rattle.offers.specs.Kind.{offer, kindIn}
-use Rattle.offers.specs.Offer as offers
-use Rattle.offers.specs.Signal.{signalIn}
-use Rattle.offers.specs.declared.signal.Signal.{Signal}
-use Rattle.contents.specs.Head.{headIn}
+use Rattle.wire_offer.specs.Kind.{offer, kindIn}
+use Rattle.wire_offer.specs.Offer as offers
+use Rattle.wire_offer.specs.Signal.{signalIn}
+use Rattle.wire_offer.specs.declared.signal.Signal.{Signal}
+use Rattle.wire_content.specs.Head.{headIn}
 use Rattle.image.specs.Region.{regionBytes}
 use Rattle.image.specs.Judge.{imageIn}
 use Rattle.image.specs.declared.judge.Image.{Image}
 use Rattle.image.specs.declared.judge.Image.the-variants.{Damaged, Foreign, Bears}
-use Rattle.component.specs.Record.{isPending, withStaged}
-use Rattle.component.specs.Versions.{imageVersionFits}
-use Rattle.component.specs.declared.list.Found.the-variants as found
-use Rattle.session.specs.Stage.{isOpen, openSlot, atSlot}
-use Rattle.session.specs.Effect.{inStage, owing}
-use Rattle.session.specs.declared.stage.Stage.the-variants.{Offered}
-use Rattle.session.specs.declared.owed.Owed.{Owed}
-use Rattle.session.specs.declared.owed.Owed.the-variants as owed
-use Rattle.session.specs.declared.effect.Effect.{Effect}
-use Rattle.offering.specs.Offer.{offerVerdict, afterOffer, onOffer}
-use Rattle.offering.specs.Signal.{onInformation, onNotify, onExtended}
-use Rattle.offering.specs.declared.verdict.OfferVerdict.{OfferVerdict}
-use Rattle.offering.specs.declared.verdict.OfferVerdict.the-variants.{Busy, Reject, Skip, Accept}
-use Rattle.offering.proofs.checks.Laws.{OfferSays, offer-says}
-use Rattle.receiving.specs.Content.{isLast, takeBlock}
-use Rattle.receiving.specs.Finish.{judge, finish}
-use Rattle.receiving.specs.Receive.{goesOn, onBlock, onVerdict, onContent}
-use Rattle.receiving.specs.declared.checks.ContentVerdict.{ContentVerdict}
-use Rattle.receiving.specs.declared.checks.ContentVerdict.the-variants.{Refuse, Take}
-use Rattle.receiving.specs.declared.content.Taken.{Taken}
-use Rattle.receiving.proofs.checks.Laws.{ContentSays, content-says}
-use Rattle.receiving.proofs.content.Laws.{kept}
+use Rattle.device_component.specs.Record.{isPending, withStaged}
+use Rattle.device_component.specs.Versions.{imageVersionFits}
+use Rattle.device_component.specs.declared.list.Found.the-variants as found
+use Rattle.device_session.specs.Stage.{isOpen, openSlot, atSlot}
+use Rattle.device_session.specs.Effect.{inStage, owing}
+use Rattle.device_session.specs.declared.stage.Stage.the-variants.{Offered}
+use Rattle.device_session.specs.declared.owed.Owed.{Owed}
+use Rattle.device_session.specs.declared.owed.Owed.the-variants as owed
+use Rattle.device_session.specs.declared.effect.Effect.{Effect}
+use Rattle.device_offering.specs.Offer.{offerVerdict, afterOffer, onOffer}
+use Rattle.device_offering.specs.Signal.{onInformation, onNotify, onExtended}
+use Rattle.device_offering.specs.declared.verdict.OfferVerdict.{OfferVerdict}
+use Rattle.device_offering.specs.declared.verdict.OfferVerdict.the-variants.{Busy, Reject, Skip, Accept}
+use Rattle.device_offering.proofs.checks.Laws.{OfferSays, offer-says}
+use Rattle.device_receiving.specs.Content.{isLast, takeBlock}
+use Rattle.device_receiving.specs.Finish.{judge, finish}
+use Rattle.device_receiving.specs.Receive.{goesOn, onBlock, onVerdict, onContent}
+use Rattle.device_receiving.specs.declared.checks.ContentVerdict.{ContentVerdict}
+use Rattle.device_receiving.specs.declared.checks.ContentVerdict.the-variants.{Refuse, Take}
+use Rattle.device_receiving.specs.declared.content.Taken.{Taken}
+use Rattle.device_receiving.proofs.checks.Laws.{ContentSays, content-says}
+use Rattle.device_receiving.proofs.content.Laws.{kept}
 use Rattle.device.specs.declared.record.Device.{Device}
 use Rattle.device.specs.declared.answer.Channel.{Channel}
 use Rattle.device.specs.declared.answer.Channel.the-variants.{Offer, Content}
-use Rattle.device.specs.Record.{find, part, sessionOf, withSession, idleWith, toIdle}
+use Rattle.device.specs.Record.{find, component, sessionOf, withSession, idleWith, toIdle}
 use Rattle.device.specs.Refusals.{Row, served, D, refusalOf, unlessRefused, Outcome}
 use Rattle.device.specs.Offer.{onKind, offerEntry}
-use Rattle.device.specs.Content.{sessionPart, contentVerdict, received, contentEntry}
+use Rattle.device.specs.Content.{sessionComponent, contentVerdict, received, contentEntry}
 use Rattle.device.specs.Entries.{serveEntry}
 use Rattle.device.specs.Sessions.{Accepts}
 
@@ -52,13 +52,13 @@ use Rattle.device.specs.Sessions.{Accepts}
 pub data Move (d : Device) (channel : Channel) (staging report : List ℕ) : Device → Type 0 where
   stays : Move d channel staging report d
   idles : Move d channel staging report (toIdle d)
-  opens : (k : ℕ) → Accepts d channel staging report k → isPending (part d k .staged) ≡ false
-      → Move d channel staging report (withSession d (d .parts) (inStage (sessionOf d) (Offered (record { slot = k; token = offers.fieldsIn report .token }))))
-  owes : isOpen (d .stage) ≡ true → Move d channel staging report (withSession d (d .parts) (owing (sessionOf d) (owed.Token (getD report 3 0))))
-  goes : (k : ℕ) → openSlot (d .stage) ≡ found.At k → Move d channel staging report (withSession d (d .parts) (goesOn (sessionOf d) k (headIn report)))
+  opens : (k : ℕ) → Accepts d channel staging report k → isPending (component d k .staged) ≡ false
+      → Move d channel staging report (withSession d (d .components) (inStage (sessionOf d) (Offered (record { slot = k; token = offers.fieldsIn report .token }))))
+  owes : isOpen (d .stage) ≡ true → Move d channel staging report (withSession d (d .components) (owing (sessionOf d) (owed.Token (getD report 3 0))))
+  goes : (k : ℕ) → openSlot (d .stage) ≡ found.At k → Move d channel staging report (withSession d (d .components) (goesOn (sessionOf d) k (headIn report)))
   stages : (k : ℕ) → openSlot (d .stage) ≡ found.At k → (v : Version)
-      → imageIn (regionBytes (part d k .region) (takeBlock (part d k .region) (headIn report) (drop 8 report) staging)) (part d k .id) ≡ Bears v
-      → imageVersionFits (part d k) v ≡ true → Move d channel staging report (idleWith d (set (d .parts) k (withStaged (part d k) v)))
+      → imageIn (regionBytes (component d k .region) (takeBlock (component d k .region) (headIn report) (drop 8 report) staging)) (component d k .id) ≡ Bears v
+      → imageVersionFits (component d k) v ≡ true → Move d channel staging report (idleWith d (set (d .components) k (withStaged (component d k) v)))
 
 -- where nothing refuses the call, the entry's own answer counts
 unless : (P : Device → Type 0) (row : Row) (d : Device) (answer : Outcome) → P d → (row ≡ served → P (answer .device)) → P (unlessRefused row d answer .device)
@@ -68,11 +68,11 @@ unless P (D n) d answer h k = h
 module _ (d : Device) (staging report : List ℕ) where
   -- the record after what a packet did
   abbrev after : Effect → Device
-  after effect = withSession d (d .parts) (effect .session)
+  after effect = withSession d (d .components) (effect .session)
 
   -- checks 1 to 9 over the offer that the report is
   abbrev verdictOn : OfferVerdict
-  verdictOn = offerVerdict (d .platform) (d .count) (d .parts) (d .stage) (offers.fieldsIn report)
+  verdictOn = offerVerdict (d .platform) (d .count) (d .components) (d .stage) (offers.fieldsIn report)
 
   -- no row refuses the packet, and it is an offer
   module _ (r : refusalOf 16 d (length staging) (length report) ≡ served) (x : kindIn report ≡ offer (offers.fieldsIn report)) where
@@ -80,8 +80,8 @@ module _ (d : Device) (staging report : List ℕ) where
     unfolding serveEntry offerEntry onOffer
     accepts k e f = record { fields = offers.fieldsIn report; entry = refl; kind = x; component = f; verdict = e; reply = rw (r, x, e) }
 
-    after-offer : (v : OfferVerdict) → verdictOn ≡ v → OfferSays (d .count) (d .parts) (offers.fieldsIn report) v
-        → Move d Offer staging report (withSession d (d .parts) (afterOffer (sessionOf d) (offers.fieldsIn report .token) v))
+    after-offer : (v : OfferVerdict) → verdictOn ≡ v → OfferSays (d .count) (d .components) (offers.fieldsIn report) v
+        → Move d Offer staging report (withSession d (d .components) (afterOffer (sessionOf d) (offers.fieldsIn report .token) v))
     after-offer Busy e h = stays
     after-offer (Reject w) e h = stays
     after-offer Skip e h = stays
@@ -113,36 +113,36 @@ module _ (d : Device) (staging report : List ℕ) where
     go : (a b : Bool) → eqb (getD report 2 0) KIND-INFORMATION ≡ a → eqb (getD report 2 0) KIND-EXTENDED ≡ b → Move d Offer staging report (onKind d (kindIn report) .device)
     go true b e f = rw e (after-information (signalIn report))
     go false true e f = rw (e, f) after-extended
-    go false false e f = rw (e, f) (after-offer r (rw (e, f)) verdictOn refl (offer-says (d .platform) (d .count) (d .parts) (d .stage) (offers.fieldsIn report)))
+    go false false e f = rw (e, f) (after-offer r (rw (e, f)) verdictOn refl (offer-says (d .platform) (d .count) (d .components) (d .stage) (offers.fieldsIn report)))
 
   -- the record after a content packet for the component in slot k
   abbrev taken : (k : ℕ) → Taken → Device
-  taken k t = withSession d (set (d .parts) k (t .part)) (t .effect .session)
+  taken k t = withSession d (set (d .components) k (t .component)) (t .effect .session)
 
   module _ (k : ℕ) (h : openSlot (d .stage) ≡ found.At k) where
     -- the staging buffer after a block
     abbrev written : List ℕ
-    written = takeBlock (part d k .region) (headIn report) (drop 8 report) staging
+    written = takeBlock (component d k .region) (headIn report) (drop 8 report) staging
 
-    after-judge : (m : Image) → imageIn (regionBytes (part d k .region) written) (part d k .id) ≡ m
-        → Move d Content staging report (idleWith d (set (d .parts) k (judge (part d k) m .part)))
-    after-judge Damaged e = rw (kept (d .parts) k) idles
-    after-judge Foreign e = rw (kept (d .parts) k) idles
-    after-judge (Bears v) e = go (imageVersionFits (part d k) v) refl where
-      go : (b : Bool) → imageVersionFits (part d k) v ≡ b → Move d Content staging report (idleWith d (set (d .parts) k (judge (part d k) (Bears v) .part)))
+    after-judge : (m : Image) → imageIn (regionBytes (component d k .region) written) (component d k .id) ≡ m
+        → Move d Content staging report (idleWith d (set (d .components) k (judge (component d k) m .component)))
+    after-judge Damaged e = rw (kept (d .components) k) idles
+    after-judge Foreign e = rw (kept (d .components) k) idles
+    after-judge (Bears v) e = go (imageVersionFits (component d k) v) refl where
+      go : (b : Bool) → imageVersionFits (component d k) v ≡ b → Move d Content staging report (idleWith d (set (d .components) k (judge (component d k) (Bears v) .component)))
       go true f = rw f (stages k h v e f)
-      go false f = rw (f, kept (d .parts) k) idles
+      go false f = rw (f, kept (d .components) k) idles
 
-    after-block : Move d Content staging report (taken k (onBlock (part d k) (sessionOf d) k (headIn report) written))
+    after-block : Move d Content staging report (taken k (onBlock (component d k) (sessionOf d) k (headIn report) written))
     unfolding onBlock finish
     after-block = go (isLast (headIn report)) refl where
-      go : (b : Bool) → isLast (headIn report) ≡ b → Move d Content staging report (taken k (onBlock (part d k) (sessionOf d) k (headIn report) written))
+      go : (b : Bool) → isLast (headIn report) ≡ b → Move d Content staging report (taken k (onBlock (component d k) (sessionOf d) k (headIn report) written))
       go true e = rw e (after-judge _ refl)
-      go false e = rw (e, kept (d .parts) k) (goes k h)
+      go false e = rw (e, kept (d .components) k) (goes k h)
 
-  after-content : (v : ContentVerdict) → ContentSays (sessionPart d .region) (d .stage) (headIn report) v
-      → Move d Content staging report (received d (onVerdict (sessionPart d) (sessionOf d) (headIn report) (drop 8 report) staging v) .device)
-  after-content (Refuse s) h = rw (kept (d .parts) (atSlot (d .stage))) stays
+  after-content : (v : ContentVerdict) → ContentSays (sessionComponent d .region) (d .stage) (headIn report) v
+      → Move d Content staging report (received d (onVerdict (sessionComponent d) (sessionOf d) (headIn report) (drop 8 report) staging v) .device)
+  after-content (Refuse s) h = rw (kept (d .components) (atSlot (d .stage))) stays
   after-content (Take k) h = rw (h .0) (after-block k (h .0))
 
   -- each entry for packets does one of the six
@@ -151,5 +151,5 @@ module _ (d : Device) (staging report : List ℕ) where
   serve-moves Offer = unless (Move d Offer staging report) (refusalOf 16 d (length staging) (length report)) d (onKind d (kindIn report)) stays after-kind
   serve-moves Content =
       unless (Move d Content staging report) (refusalOf 60 d (length staging) (length report)) d
-      (received d (onContent (sessionPart d) (sessionOf d) (headIn report) (drop 8 report) staging)) stays
-      (λ r. after-content (contentVerdict d (headIn report)) (content-says (sessionPart d .region) (d .stage) (headIn report)))
+      (received d (onContent (sessionComponent d) (sessionOf d) (headIn report) (drop 8 report) staging)) stays
+      (λ r. after-content (contentVerdict d (headIn report)) (content-says (sessionComponent d .region) (d .stage) (headIn report)))

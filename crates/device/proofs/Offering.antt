@@ -3,13 +3,13 @@ use Prim.Native.Nat.{ℕ}
 use mathlib.Core.Path.{_≡_, _∙_}
 use mathlib.Core.List.{List}
 use lib.ListN.{length}
-use Rattle.offers.specs.Reply.{replyBytes}
-use Rattle.offers.specs.Kind.{offer, kindIn}
-use Rattle.offers.specs.declared.offer.OfferFields.{OfferFields}
-use Rattle.session.specs.declared.owed.Owed.the-variants as owed
-use Rattle.offering.specs.Offer as offering
-use Rattle.offering.specs.Offer.{statusOf, reasonOf, onOffer}
-use Rattle.offering.specs.declared.verdict.OfferVerdict.{OfferVerdict}
+use Rattle.wire_offer.specs.Reply.{replyBytes}
+use Rattle.wire_offer.specs.Kind.{offer, kindIn}
+use Rattle.wire_offer.specs.declared.offer.OfferFields.{OfferFields}
+use Rattle.device_session.specs.declared.owed.Owed.the-variants as owed
+use Rattle.device_offering.specs.Offer as offering
+use Rattle.device_offering.specs.Offer.{statusOf, reasonOf, onOffer}
+use Rattle.device_offering.specs.declared.verdict.OfferVerdict.{OfferVerdict}
 use Rattle.device.specs.declared.record.Device.{Device}
 use Rattle.device.specs.declared.answer.Channel.the-variants.{Offer}
 use Rattle.device.specs.Record.{sessionOf, withSession}
@@ -18,11 +18,11 @@ use Rattle.device.proofs.Calls.{Sound, answeredWith, serves-kind}
 
 -- checks 1 to 9 over a record
 abbrev pub offerVerdict : Device → OfferFields → OfferVerdict
-offerVerdict d o = offering.offerVerdict (d .platform) (d .count) (d .parts) (d .stage) o
+offerVerdict d o = offering.offerVerdict (d .platform) (d .count) (d .components) (d .stage) o
 
 -- the record after a verdict
 abbrev pub afterOffer : Device → (token : ℕ) → OfferVerdict → Device
-afterOffer d token v = withSession d (d .parts) (offering.afterOffer (sessionOf d) token v)
+afterOffer d token v = withSession d (d .components) (offering.afterOffer (sessionOf d) token v)
 
 pub answers : (d : Device) (s p : List ℕ) (o : OfferFields) (v : OfferVerdict) → Sound d s → length p ≡ 16 → kindIn p ≡ offer o → offerVerdict d o ≡ v
     → serveEntry d Offer s p

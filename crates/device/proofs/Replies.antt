@@ -8,40 +8,40 @@ use lib.Dec.{eqb, leb}
 use lib.ListN.{length, drop}
 use Rattle.wire.specs.Codes.{NOTIFY-ON-READY, INFO-START-ENTIRE-TRANSACTION, INFO-END-OFFER-LIST}
 use Rattle.wire.proofs.Chain.{either}
-use Rattle.offers.specs.Kind.{Kind, offer, information, extended, kindIn}
-use Rattle.contents.specs.Head.{headIn}
-use Rattle.contents.specs.declared.head.ContentHead.{ContentHead}
-use Rattle.component.specs.declared.list.Found.the-variants.{At}
-use Rattle.session.specs.Stage.{isOpen, openSlot}
-use Rattle.session.specs.Owed.{owes}
-use Rattle.session.specs.declared.owed.Owed.{Owed}
-use Rattle.session.specs.declared.owed.Owed.the-variants as owed
-use Rattle.session.specs.declared.stage.Stage.{Stage}
-use Rattle.session.specs.declared.stage.Stage.the-variants.{Idle, Offered, Receiving}
-use Rattle.session.specs.declared.effect.Effect.{Effect}
-use Rattle.offering.specs.Offer.{onOffer}
-use Rattle.offering.specs.Signal.{onInformation, onNotify, onExtended}
-use Rattle.receiving.specs.Content.{isLast, takeBlock}
-use Rattle.receiving.specs.Receive.{onBlock, onVerdict}
-use Rattle.receiving.specs.declared.checks.ContentVerdict.{ContentVerdict}
-use Rattle.receiving.specs.declared.checks.ContentVerdict.the-variants.{Refuse, Take}
-use Rattle.receiving.proofs.checks.Laws.{ContentSays, content-says}
+use Rattle.wire_offer.specs.Kind.{Kind, offer, information, extended, kindIn}
+use Rattle.wire_content.specs.Head.{headIn}
+use Rattle.wire_content.specs.declared.head.ContentHead.{ContentHead}
+use Rattle.device_component.specs.declared.list.Found.the-variants.{At}
+use Rattle.device_session.specs.Stage.{isOpen, openSlot}
+use Rattle.device_session.specs.Owed.{owes}
+use Rattle.device_session.specs.declared.owed.Owed.{Owed}
+use Rattle.device_session.specs.declared.owed.Owed.the-variants as owed
+use Rattle.device_session.specs.declared.stage.Stage.{Stage}
+use Rattle.device_session.specs.declared.stage.Stage.the-variants.{Idle, Offered, Receiving}
+use Rattle.device_session.specs.declared.effect.Effect.{Effect}
+use Rattle.device_offering.specs.Offer.{onOffer}
+use Rattle.device_offering.specs.Signal.{onInformation, onNotify, onExtended}
+use Rattle.device_receiving.specs.Content.{isLast, takeBlock}
+use Rattle.device_receiving.specs.Receive.{onBlock, onVerdict}
+use Rattle.device_receiving.specs.declared.checks.ContentVerdict.{ContentVerdict}
+use Rattle.device_receiving.specs.declared.checks.ContentVerdict.the-variants.{Refuse, Take}
+use Rattle.device_receiving.proofs.checks.Laws.{ContentSays, content-says}
 use Rattle.device.specs.declared.record.Device.{Device}
 use Rattle.device.specs.Record.{sessionOf}
 use Rattle.device.specs.Refusals.{Outcome, servedWith, refusalOf, readySent}
 use Rattle.device.specs.Offer.{onKind, offerEntry}
-use Rattle.device.specs.Content.{sessionPart, contentVerdict, received, contentEntry}
+use Rattle.device.specs.Content.{sessionComponent, contentVerdict, received, contentEntry}
 use Rattle.device.specs.Promises.{awaits, becomesIdle, OfferReplies, ContentReplies}
 use Rattle.device.proofs.Answers.{served-row, content-served}
 
 -- just its reply is sent
 abbrev One : Device → Effect → Type 0
-One d e = servedWith d (d .parts) e .sent ≡ e .reply ∷ []
+One d e = servedWith d (d .components) e .sent ≡ e .reply ∷ []
 
 module _ (d : Device) where
   -- what a notify on ready comes to
   abbrev notified : (token : ℕ) → Bool → Owed → Outcome
-  notified token b o = servedWith d (d .parts) (onNotify (sessionOf d) token b o)
+  notified token b o = servedWith d (d .components) (onNotify (sessionOf d) token b o)
 
   notify-sends : (token : ℕ) (b : Bool) (o : Owed) → notified token b o .sent ≡ cond (b && not (owes o)) [] (notified token b o .reply ∷ [])
   notify-sends token false o = refl
@@ -77,11 +77,11 @@ abbrev Sends : Device → Outcome → Type 0
 Sends d a = a .sent ≡ a .reply ∷ readySent (cond (becomesIdle d (a .device)) (d .owed) owed.Nothing)
 
 module _ (d : Device) (c : ContentHead) (bytes s : List ℕ) where
-  verdict-sends : (v : ContentVerdict) → ContentSays (sessionPart d .region) (d .stage) c v → Sends d (received d (onVerdict (sessionPart d) (sessionOf d) c bytes s v))
+  verdict-sends : (v : ContentVerdict) → ContentSays (sessionComponent d .region) (d .stage) c v → Sends d (received d (onVerdict (sessionComponent d) (sessionOf d) c bytes s v))
   unfolding onBlock
   verdict-sends (Refuse status) h = rw (stays-open (isOpen (d .stage)))
   verdict-sends (Take k) h = go (isLast c) refl where
-    go : (b : Bool) → isLast c ≡ b → Sends d (received d (onBlock (sessionPart d) (sessionOf d) k c (takeBlock (sessionPart d .region) c bytes s)))
+    go : (b : Bool) → isLast c ≡ b → Sends d (received d (onBlock (sessionComponent d) (sessionOf d) k c (takeBlock (sessionComponent d .region) c bytes s)))
     go true e = rw (e, is-open (d .stage) k (h .0))
     go false e = rw (e, is-open (d .stage) k (h .0))
 
@@ -89,4 +89,4 @@ pub content-replies : ContentReplies
 unfolding contentEntry
 content-replies d staging report e =
     let v = contentVerdict d (headIn report) in
-    rw (content-served d staging report e) (verdict-sends d (headIn report) (drop 8 report) staging v (content-says (sessionPart d .region) (d .stage) (headIn report)))
+    rw (content-served d staging report e) (verdict-sends d (headIn report) (drop 8 report) staging v (content-says (sessionComponent d .region) (d .stage) (headIn report)))

@@ -10,15 +10,15 @@ use lib.Seq.{ext-getD}
 use Rattle.image.specs.Region.{regionBytes}
 use Rattle.image.specs.declared.region.Region.{Region}
 use Rattle.image.proofs.region.Within.{Apart, inside, region-length, region-byte}
-use Rattle.component.specs.Record.{isPending}
-use Rattle.component.specs.declared.list.Found.the-variants as found
-use Rattle.component.proofs.setup.Laws.{fine-apart}
-use Rattle.session.specs.Stage.{openSlot}
-use Rattle.session.proofs.sound.Laws.{fine, open-slot, region-inside}
+use Rattle.device_component.specs.Record.{isPending}
+use Rattle.device_component.specs.declared.list.Found.the-variants as found
+use Rattle.device_component.proofs.setup.Laws.{fine-apart}
+use Rattle.device_session.specs.Stage.{openSlot}
+use Rattle.device_session.proofs.sound.Laws.{fine, open-slot, region-inside}
 use Rattle.device.specs.declared.record.Device.{Device}
 use Rattle.device.specs.declared.answer.Channel.{Channel}
 use Rattle.device.specs.declared.answer.Channel.the-variants.{Offer, Content}
-use Rattle.device.specs.Record.{FitsDevice, part}
+use Rattle.device.specs.Record.{FitsDevice, component}
 use Rattle.device.specs.Content.{window, contentStaging}
 use Rattle.device.specs.Entries.{serveStaging}
 use Rattle.device.specs.Promises.{TakesBlock}
@@ -55,24 +55,24 @@ kept-apart r r′ s s′ l h i a =
     out j q (inl z) = inr (omega arith)
     out j q (inr z) = inl (omega arith)
 
-module _ (d : Device) (staging report : List ℕ) (k : ℕ) (f : FitsDevice d) (m : k < d .count) (p : isPending (part d k .staged) ≡ true) where
+module _ (d : Device) (staging report : List ℕ) (k : ℕ) (f : FitsDevice d) (m : k < d .count) (p : isPending (component d k .staged) ≡ true) where
   -- a block of the session is for another component, whose region does not overlap
   block-keeps : length (contentStaging d staging report) ≡ length staging → TakesBlock d staging report
-      → regionBytes (part d k .region) (contentStaging d staging report) ≡ regionBytes (part d k .region) staging
+      → regionBytes (component d k .region) (contentStaging d staging report) ≡ regionBytes (component d k .region) staging
   block-keeps l t =
       let v = serves 60 d (length staging) (length report) (content-served d staging report (t .row)) in
       let w = v .record-passes in
       let o = open-slot (t .slot) w (t .opened) in
-      let other : t .slot ≡ k → ⊥ = λ e. true≢false (sym p ∙ ap (λ (i : ℕ). isPending (part d i .staged)) (sym e) ∙ o .1) in
-      kept-apart (window d (t .slot)) (part d k .region) staging (contentStaging d staging report) l (t .beside)
-      (inside (part d k .region) (length staging) (rw (v .staging) (region-inside k w (f .slots) m)))
-      (fine-apart (d .«staging_len») (d .count) (d .parts) (fine _ (w .setup)) (f .slots) (t .slot) k (o .0) m other)
+      let other : t .slot ≡ k → ⊥ = λ e. true≢false (sym p ∙ ap (λ (i : ℕ). isPending (component d i .staged)) (sym e) ∙ o .1) in
+      kept-apart (window d (t .slot)) (component d k .region) staging (contentStaging d staging report) l (t .beside)
+      (inside (component d k .region) (length staging) (rw (v .staging) (region-inside k w (f .slots) m)))
+      (fine-apart (d .«staging_len») (d .count) (d .components) (fine _ (w .setup)) (f .slots) (t .slot) k (o .0) m other)
 
 pub pending-kept : PendingKept
 unfolding serveStaging
 pending-kept d Offer staging report k f m p = refl
 pending-kept d Content staging report k f m p = go (changes d staging report f .1) where
   go : (contentStaging d staging report ≡ staging) ⊎ TakesBlock d staging report
-      → regionBytes (part d k .region) (contentStaging d staging report) ≡ regionBytes (part d k .region) staging
+      → regionBytes (component d k .region) (contentStaging d staging report) ≡ regionBytes (component d k .region) staging
   go (inl e) = rw e
   go (inr t) = block-keeps d staging report k f m p (changes d staging report f .0) t

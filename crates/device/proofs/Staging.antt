@@ -8,23 +8,23 @@ use native.Mathlib.Omega.{arith}
 use borrow.Author.Tests.{le-leb}
 use lib.ListN.{length, getD, take, drop, length-take, length-drop, getD-replicate, drop-of-length-le, List·getD-append}
 use lib.Seq.{getD-append-add, getD-take, getD-drop, length-take-le}
-use Rattle.contents.specs.Content.{fieldsIn}
-use Rattle.contents.specs.Head.{headIn}
-use Rattle.contents.specs.declared.head.ContentHead.{ContentHead}
+use Rattle.wire_content.specs.Content.{fieldsIn}
+use Rattle.wire_content.specs.Head.{headIn}
+use Rattle.wire_content.specs.declared.head.ContentHead.{ContentHead}
 use Rattle.image.specs.Region.{isInside, regionBytes, blank, put, eraseOf}
 use Rattle.image.specs.declared.region.Region.{Region}
 use Rattle.image.proofs.region.Within.{region-length, blank-length, within-same, inside, erase-inside, put-place, erase-length, write-put, write-length}
-use Rattle.receiving.specs.declared.checks.ContentVerdict.{ContentVerdict}
-use Rattle.receiving.specs.declared.checks.ContentVerdict.the-variants.{Refuse, Take}
+use Rattle.device_receiving.specs.declared.checks.ContentVerdict.{ContentVerdict}
+use Rattle.device_receiving.specs.declared.checks.ContentVerdict.the-variants.{Refuse, Take}
 use Rattle.device.specs.declared.record.Device.{Device}
 use Rattle.device.specs.Record.{FitsDevice}
 use Rattle.device.specs.Refusals.{Row, served, D, refusalOf}
-use Rattle.receiving.specs.Content.{isFirst, takeBlock}
-use Rattle.receiving.proofs.checks.Laws.{ContentSays, content-says}
-use Rattle.device.specs.Content.{window, sessionPart, contentVerdict, contentEntry, contentStaging}
+use Rattle.device_receiving.specs.Content.{isFirst, takeBlock}
+use Rattle.device_receiving.proofs.checks.Laws.{ContentSays, content-says}
+use Rattle.device.specs.Content.{window, sessionComponent, contentVerdict, contentEntry, contentStaging}
 use Rattle.device.specs.Promises.{TakesBlock, StagingChanges}
 use Rattle.wire.proofs.Chain.{either}
-use Rattle.session.proofs.sound.Laws.{open-slot, region-inside}
+use Rattle.device_session.proofs.sound.Laws.{open-slot, region-inside}
 use Rattle.device.proofs.Passes.{serves}
 
 -- place j is not among the n places from `at` on
@@ -160,7 +160,7 @@ changes d staging report f = go (refusalOf 60 d (length staging) (length report)
   c : ContentHead
   c = headIn report
 
-  by-verdict : (v : ContentVerdict) → contentVerdict d c ≡ v → ContentSays (sessionPart d .region) (d .stage) c v → refusalOf 60 d (length staging) (length report) ≡ served → ByBlock d staging report
+  by-verdict : (v : ContentVerdict) → contentVerdict d c ≡ v → ContentSays (sessionComponent d .region) (d .stage) c v → refusalOf 60 d (length staging) (length report) ≡ served → ByBlock d staging report
   by-verdict (Refuse s) e says r = (rw (r, e), inl (rw (r, e)))
   by-verdict (Take k) e says r =
       let v = serves 60 d (length staging) (length report) r in
@@ -180,7 +180,7 @@ changes d staging report f = go (refusalOf 60 d (length staging) (length report)
       )
 
   go : (row : Row) → refusalOf 60 d (length staging) (length report) ≡ row → ByBlock d staging report
-  go served r = by-verdict (contentVerdict d c) refl (content-says (sessionPart d .region) (d .stage) c) r
+  go served r = by-verdict (contentVerdict d c) refl (content-says (sessionComponent d .region) (d .stage) c) r
   go (D k) r = (rw r, inl (rw r))
 
 pub staging-changes : StagingChanges

@@ -4,12 +4,12 @@ use Prim.Native.Nat.{ℕ}
 use mathlib.Core.Path.{_≡_}
 use mathlib.Core.List.{List, [], _∷_, _++_}
 use lib.ListN.{replicate}
-use Rattle.component.specs.Record.{blankComponent}
-use Rattle.component.specs.declared.record.Staged.the-variants as staged
+use Rattle.device_component.specs.Record.{blankComponent}
+use Rattle.device_component.specs.declared.record.Staged.the-variants as staged
 use Rattle.device.specs.declared.record.Device.{Device}
-use Rattle.session.specs.declared.stage.Stage.{Stage}
-use Rattle.session.specs.declared.stage.Stage.the-variants.{Idle, Offered, Receiving}
-use Rattle.session.specs.declared.owed.Owed.the-variants as owed
+use Rattle.device_session.specs.declared.stage.Stage.{Stage}
+use Rattle.device_session.specs.declared.stage.Stage.the-variants.{Idle, Offered, Receiving}
+use Rattle.device_session.specs.declared.owed.Owed.the-variants as owed
 use Rattle.device.specs.declared.answer.Channel.{Channel}
 use Rattle.device.specs.declared.answer.Channel.the-variants.{Offer, Content}
 use Rattle.device.specs.Entries.{versionEntry, serveEntry, serveStaging}
@@ -20,7 +20,7 @@ bench stage = record {
   platform = 0x0042;
   «staging_len» = 128;
   count = 2;
-  parts =
+  components =
       record { id = 1; running = record { 0 = 0x01000200 }; region = record { base = record { 0 = 0 }; len = 64 }; staged = staged.Nothing }
       ∷ record { id = 2; running = record { 0 = 0x01000100 }; region = record { base = record { 0 = 64 }; len = 64 }; staged = staged.Nothing }
       ∷ replicate 5 blankComponent;

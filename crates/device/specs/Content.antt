@@ -2,34 +2,34 @@
 use Prim.Native.Nat.{ℕ}
 use mathlib.Core.List.{List}
 use lib.ListN.{length, drop, set}
-use Rattle.contents.specs.Head.{headIn}
-use Rattle.contents.specs.declared.head.ContentHead.{ContentHead}
+use Rattle.wire_content.specs.Head.{headIn}
+use Rattle.wire_content.specs.declared.head.ContentHead.{ContentHead}
 use Rattle.image.specs.declared.region.Region.{Region}
-use Rattle.component.specs.declared.record.Component.{Component}
-use Rattle.session.specs.Stage.{atSlot}
-use Rattle.receiving.specs.Content as receiving
-use Rattle.receiving.specs.Receive.{onContent, stagingAfter}
-use Rattle.receiving.specs.declared.checks.ContentVerdict.{ContentVerdict}
-use Rattle.receiving.specs.declared.content.Taken.{Taken}
+use Rattle.device_component.specs.declared.record.Component.{Component}
+use Rattle.device_session.specs.Stage.{atSlot}
+use Rattle.device_receiving.specs.Content as receiving
+use Rattle.device_receiving.specs.Receive.{onContent, stagingAfter}
+use Rattle.device_receiving.specs.declared.checks.ContentVerdict.{ContentVerdict}
+use Rattle.device_receiving.specs.declared.content.Taken.{Taken}
 use Rattle.device.specs.declared.record.Device.{Device}
-use Rattle.device.specs.Record.{part, sessionOf}
+use Rattle.device.specs.Record.{component, sessionOf}
 use Rattle.device.specs.Refusals.{Row, served, D, Outcome, refusalOf, unlessRefused, servedWith}
 
 -- the bytes of the staging buffer that a session on this slot may write
 abbrev pub window : Device → ℕ → Region
-window d slot = part d slot .region
+window d slot = component d slot .region
 
 -- the component that the session is on; the first slot's while it is idle
-abbrev pub sessionPart : Device → Component
-sessionPart d = part d (atSlot (d .stage))
+abbrev pub sessionComponent : Device → Component
+sessionComponent d = component d (atSlot (d .stage))
 
 -- checks 1 to 6: the first that applies
 abbrev pub contentVerdict : Device → ContentHead → ContentVerdict
-contentVerdict d c = receiving.contentVerdict (sessionPart d .region) (d .stage) c
+contentVerdict d c = receiving.contentVerdict (sessionComponent d .region) (d .stage) c
 
 -- what a content packet does to the record
 abbrev pub received : Device → Taken → Outcome
-received d t = servedWith d (set (d .parts) (atSlot (d .stage)) (t .part)) (t .effect)
+received d t = servedWith d (set (d .components) (atSlot (d .stage)) (t .component)) (t .effect)
 
 abbrev pub stagingUnless : Row → (s after : List ℕ) → List ℕ
 stagingUnless served s after = after
@@ -39,10 +39,10 @@ stagingUnless (D k) s after = s
 unfoldable pub contentEntry : Device → (staging report : List ℕ) → Outcome
 contentEntry d staging report =
     unlessRefused (refusalOf 60 d (length staging) (length report)) d
-    (received d (onContent (sessionPart d) (sessionOf d) (headIn report) (drop 8 report) staging))
+    (received d (onContent (sessionComponent d) (sessionOf d) (headIn report) (drop 8 report) staging))
 
 -- the content entry: every byte of the staging buffer afterwards
 unfoldable pub contentStaging : Device → (staging report : List ℕ) → List ℕ
 contentStaging d staging report =
     stagingUnless (refusalOf 60 d (length staging) (length report)) staging
-    (stagingAfter (sessionPart d .region) (d .stage) (headIn report) (drop 8 report) staging)
+    (stagingAfter (sessionComponent d .region) (d .stage) (headIn report) (drop 8 report) staging)

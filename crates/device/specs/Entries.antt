@@ -4,13 +4,13 @@ use mathlib.Core.Bool.{cond}
 use mathlib.Core.List.{List, map}
 use lib.ListN.{length, replicate}
 use Rattle.wire.specs.Codes.{PROTOCOL}
-use Rattle.versions.specs.Reply.{replyBytes}
-use Rattle.component.specs.Record.{listed}
-use Rattle.component.specs.Setup as setup
-use Rattle.component.specs.declared.record.Listed.{Listed}
-use Rattle.slots.specs.Slots.{resetParts, runningOf}
-use Rattle.session.specs.declared.stage.Stage.the-variants.{Idle}
-use Rattle.session.specs.declared.owed.Owed.the-variants.{Nothing}
+use Rattle.wire_version.specs.Reply.{replyBytes}
+use Rattle.device_component.specs.Record.{listed}
+use Rattle.device_component.specs.Setup as setup
+use Rattle.device_component.specs.declared.record.Listed.{Listed}
+use Rattle.device_slots.specs.Slots.{resetComponents, runningOf}
+use Rattle.device_session.specs.declared.stage.Stage.the-variants.{Idle}
+use Rattle.device_session.specs.declared.owed.Owed.the-variants.{Nothing}
 use Rattle.device.specs.declared.record.Device.{Device}
 use Rattle.device.specs.declared.answer.SetupAnswer.{SetupAnswer}
 use Rattle.device.specs.declared.answer.VersionAnswer.{VersionAnswer}
@@ -36,7 +36,7 @@ newDevice platform list count n = record {
   platform = platform;
   «staging_len» = n;
   count = count;
-  parts = map listed list;
+  components = map listed list;
   stage = Idle;
   owed = Nothing;
 }
@@ -62,7 +62,7 @@ toldVersions a = record { row = rowOf (a .refusal); packet = a .packet }
 unfoldable pub versionEntry : Device → Versions
 versionEntry d =
     cond (breaksD1 d) (record { row = D 1; packet = replicate 60 0 })
-    (record { row = served; packet = replyBytes (d .count) PROTOCOL (map (runningOf (d .platform)) (d .parts)) })
+    (record { row = served; packet = replyBytes (d .count) PROTOCOL (map (runningOf (d .platform)) (d .components)) })
 
 -- what the reset's entry answers
 pub record Reset : Type 0 where
@@ -76,7 +76,7 @@ toldReset a = record { row = rowOf (a .refusal); device = a .device }
 unfoldable pub resetEntry : Device → Reset
 resetEntry d =
     cond (breaksD1 d) (record { row = D 1; device = d })
-    (record { row = served; device = idleWith d (resetParts (d .count) (d .parts)) })
+    (record { row = served; device = idleWith d (resetComponents (d .count) (d .components)) })
 
 -- the entry that a packet is for, by its channel
 unfoldable pub serveEntry : Device → Channel → (staging report : List ℕ) → Outcome

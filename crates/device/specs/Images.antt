@@ -8,18 +8,18 @@ use Rattle.wire.specs.declared.version.Version.{Version}
 use Rattle.image.specs.Region.{regionBytes}
 use Rattle.image.specs.Judge.{imageIn}
 use Rattle.image.specs.declared.judge.Image.the-variants.{Bears}
-use Rattle.component.specs.Versions.{imageVersionFits}
-use Rattle.component.specs.declared.record.Staged.the-variants.{Pending}
+use Rattle.device_component.specs.Versions.{imageVersionFits}
+use Rattle.device_component.specs.declared.record.Staged.the-variants.{Pending}
 use Rattle.device.specs.declared.record.Device.{Device}
 use Rattle.device.specs.declared.answer.Channel.{Channel}
-use Rattle.device.specs.Record.{part}
+use Rattle.device.specs.Record.{component}
 use Rattle.device.specs.Entries.{serveEntry, serveStaging}
 
 -- whatever packet comes, a component that is pending afterwards was so before, or its region now holds an image with a right CRC that bears the component's own
 -- id and this version, which is not below the running one
 abbrev pub StagesOwnImage : Type 0
 StagesOwnImage = (d : Device) (channel : Channel) (staging report : List ℕ) (k : ℕ) (v : Version)
-    → part (serveEntry d channel staging report .device) k .staged ≡ Pending v
-    → (part d k .staged ≡ Pending v)
-    ⊎ ((imageIn (regionBytes (part d k .region) (serveStaging d channel staging report)) (part d k .id) ≡ Bears v)
-    × (imageVersionFits (part d k) v ≡ true))
+    → component (serveEntry d channel staging report .device) k .staged ≡ Pending v
+    → (component d k .staged ≡ Pending v)
+    ⊎ ((imageIn (regionBytes (component d k .region) (serveStaging d channel staging report)) (component d k .id) ≡ Bears v)
+    × (imageVersionFits (component d k) v ≡ true))

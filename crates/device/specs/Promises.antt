@@ -7,22 +7,22 @@ use mathlib.Core.List.{List, [], _∷_, map}
 use lib.Dec.{eqb}
 use lib.ListN.{length, getD, replicate}
 use Rattle.wire.specs.Codes.{NOTIFY-ON-READY}
-use Rattle.offers.specs.Kind.{Kind, offer, information, extended, kindIn}
-use Rattle.contents.specs.Content.{fieldsIn}
-use Rattle.contents.specs.Head.{headIn}
-use Rattle.contents.specs.declared.content.ContentFields.{ContentFields}
-use Rattle.component.specs.Record.{FitsComponent, listed}
-use Rattle.component.specs.Lists.{partAt}
-use Rattle.component.specs.Setup as setup
-use Rattle.component.specs.declared.record.Listed.{Listed}
-use Rattle.component.specs.declared.list.Found.the-variants.{At}
+use Rattle.wire_offer.specs.Kind.{Kind, offer, information, extended, kindIn}
+use Rattle.wire_content.specs.Content.{fieldsIn}
+use Rattle.wire_content.specs.Head.{headIn}
+use Rattle.wire_content.specs.declared.content.ContentFields.{ContentFields}
+use Rattle.device_component.specs.Record.{FitsComponent, listed}
+use Rattle.device_component.specs.Lists.{componentAt}
+use Rattle.device_component.specs.Setup as setup
+use Rattle.device_component.specs.declared.record.Listed.{Listed}
+use Rattle.device_component.specs.declared.list.Found.the-variants.{At}
 use Rattle.device.specs.declared.record.Device.{Device}
-use Rattle.session.specs.declared.owed.Owed.the-variants.{Nothing}
+use Rattle.device_session.specs.declared.owed.Owed.the-variants.{Nothing}
 use Rattle.device.specs.declared.answer.Channel.{Channel}
-use Rattle.receiving.specs.declared.checks.ContentVerdict.the-variants.{Take}
-use Rattle.session.specs.Stage.{isOpen, openSlot}
-use Rattle.session.specs.Owed.{owes}
-use Rattle.receiving.specs.Content.{isFirst}
+use Rattle.device_receiving.specs.declared.checks.ContentVerdict.the-variants.{Take}
+use Rattle.device_session.specs.Stage.{isOpen, openSlot}
+use Rattle.device_session.specs.Owed.{owes}
+use Rattle.device_receiving.specs.Content.{isFirst}
 use Rattle.device.specs.Record.{FitsDevice, blankDevice}
 use Rattle.device.specs.Refusals.{Row, served, D, Outcome, breaksD1, refusedBy, readySent}
 use Rattle.device.specs.Offer.{offerEntry}
@@ -44,7 +44,7 @@ ResetKeepsD1 = (d : Device) → FitsDevice d → breaksD1 d ≡ false → breaks
 -- the values are those of the types, and stay so
 abbrev pub SetUpFits : Type 0
 SetUpFits = (platform : ℕ) (list : List Listed) (count n : ℕ) → platform < 256 ^ 2 → count < 256 → length list ≡ 7
-    → ((k : ℕ) → FitsComponent (partAt (map listed list) k)) → FitsDevice (setUpOf platform list count n .device)
+    → ((k : ℕ) → FitsComponent (componentAt (map listed list) k)) → FitsDevice (setUpOf platform list count n .device)
 
 abbrev pub ResetKeepsFits : Type 0
 ResetKeepsFits = (d : Device) → FitsDevice d → FitsDevice (resetEntry d .device)

@@ -6,12 +6,12 @@ use lib.Dec.{eqb}
 use lib.ListN.{replicate}
 use Rattle.wire.specs.Checks.{firstOf}
 use Rattle.wire.specs.Codes.{OFFER-READY}
-use Rattle.offers.specs.Reply.{replyBytes}
-use Rattle.component.specs.declared.record.Component.{Component}
-use Rattle.session.specs.Sound as sound
-use Rattle.session.specs.declared.owed.Owed.{Owed}
-use Rattle.session.specs.declared.owed.Owed.the-variants as owed
-use Rattle.session.specs.declared.effect.Effect.{Effect}
+use Rattle.wire_offer.specs.Reply.{replyBytes}
+use Rattle.device_component.specs.declared.record.Component.{Component}
+use Rattle.device_session.specs.Sound as sound
+use Rattle.device_session.specs.declared.owed.Owed.{Owed}
+use Rattle.device_session.specs.declared.owed.Owed.the-variants as owed
+use Rattle.device_session.specs.declared.effect.Effect.{Effect}
 use Rattle.device.specs.declared.record.Device.{Device}
 use Rattle.device.specs.declared.answer.Refusal.{Refusal}
 use Rattle.device.specs.declared.answer.Refusal.the-variants.{Served, D1, D2, D3}
@@ -36,7 +36,7 @@ isRefused (D k) = true
 
 -- D1
 abbrev pub breaksD1 : Device → Bool
-breaksD1 d = sound.breaksD1 (d .«staging_len») (d .count) (d .parts) (sessionOf d)
+breaksD1 d = sound.breaksD1 (d .«staging_len») (d .count) (d .components) (sessionOf d)
 
 -- D1, D2 and D3, in this order, for a staging buffer of n bytes, a report of m bytes, and an entry whose reports are `size` bytes long
 unfoldable pub refusalOf : (size : ℕ) → Device → (n m : ℕ) → Row
@@ -91,13 +91,13 @@ refusedBy row d = record { row = row; due = false; reply = replicate 16 0; ready
 
 -- a served call: what the packet does, and the components afterwards
 abbrev pub servedWith : Device → List Component → Effect → Outcome
-servedWith d parts effect = record {
+servedWith d components effect = record {
   row = served;
   due = effect .due;
   reply = effect .reply;
   ready = effect .ready;
   sent = sentWith (effect .due) (effect .reply) (effect .ready);
-  device = withSession d parts (effect .session);
+  device = withSession d components (effect .session);
 }
 
 -- a refused call, or the answer of the entry

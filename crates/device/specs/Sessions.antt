@@ -5,19 +5,19 @@ use mathlib.Core.Bool.{true}
 use mathlib.Core.List.{List, [], _∷_}
 use mathlib.Core.Logic.{_⊎_}
 use Rattle.wire.specs.Codes.{OFFER-ACCEPT}
-use Rattle.offers.specs.Kind.{offer, kindIn}
-use Rattle.offers.specs.Reply.{replyBytes}
-use Rattle.offers.specs.declared.offer.OfferFields.{OfferFields}
+use Rattle.wire_offer.specs.Kind.{offer, kindIn}
+use Rattle.wire_offer.specs.Reply.{replyBytes}
+use Rattle.wire_offer.specs.declared.offer.OfferFields.{OfferFields}
 use Rattle.image.specs.Region.{regionBytes}
-use Rattle.component.specs.Record.{isPending}
-use Rattle.component.specs.declared.list.Found.the-variants.{At}
-use Rattle.session.specs.Stage.{openSlot}
-use Rattle.offering.specs.Offer.{offerVerdict}
-use Rattle.offering.specs.declared.verdict.OfferVerdict.the-variants.{Accept}
+use Rattle.device_component.specs.Record.{isPending}
+use Rattle.device_component.specs.declared.list.Found.the-variants.{At}
+use Rattle.device_session.specs.Stage.{openSlot}
+use Rattle.device_offering.specs.Offer.{offerVerdict}
+use Rattle.device_offering.specs.declared.verdict.OfferVerdict.the-variants.{Accept}
 use Rattle.device.specs.declared.record.Device.{Device}
 use Rattle.device.specs.declared.answer.Channel.{Channel}
 use Rattle.device.specs.declared.answer.Channel.the-variants.{Offer}
-use Rattle.device.specs.Record.{FitsDevice, find, part}
+use Rattle.device.specs.Record.{FitsDevice, find, component}
 use Rattle.device.specs.Entries.{serveEntry, serveStaging}
 
 -- an ACCEPT for the component in slot k: the packet is an offer for that component, the checks accept it, and the only reply says so
@@ -26,7 +26,7 @@ pub record Accepts (d : Device) (channel : Channel) (staging report : List ℕ) 
   pub entry : channel ≡ Offer
   pub kind : kindIn report ≡ offer fields
   pub component : find d (fields .id) ≡ At k
-  pub verdict : offerVerdict (d .platform) (d .count) (d .parts) (d .stage) fields ≡ Accept k
+  pub verdict : offerVerdict (d .platform) (d .count) (d .components) (d .stage) fields ≡ Accept k
   pub reply : serveEntry d channel staging report .sent ≡ replyBytes (record { token = fields .token; reason = 0; status = OFFER-ACCEPT }) ∷ []
 
 -- a session opens only by an ACCEPT for that component: if it is open on a slot after a packet, it was so before, or the packet was accepted for the
@@ -39,5 +39,5 @@ OpensByAccept = (d : Device) (channel : Channel) (staging report : List ℕ) (k 
 -- while a component is pending, no packet changes a byte of its region
 abbrev pub PendingKept : Type 0
 PendingKept = (d : Device) (channel : Channel) (staging report : List ℕ) (k : ℕ) → FitsDevice d
-    → k < d .count → isPending (part d k .staged) ≡ true
-    → regionBytes (part d k .region) (serveStaging d channel staging report) ≡ regionBytes (part d k .region) staging
+    → k < d .count → isPending (component d k .staged) ≡ true
+    → regionBytes (component d k .region) (serveStaging d channel staging report) ≡ regionBytes (component d k .region) staging

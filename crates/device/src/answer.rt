@@ -1,12 +1,12 @@
 // What an entry of the device answers.
 use crate::record::Device;
-use component::record::Component;
-use component::setup::SetupVerdict;
-use offers::reply::OfferReply;
-use offers::reply::build_offer_reply;
-use session::effect::Effect;
-use session::owed::Owed;
+use device_component::record::Component;
+use device_component::setup::SetupVerdict;
+use device_session::effect::Effect;
+use device_session::owed::Owed;
 use wire::codes;
+use wire_offer::reply::OfferReply;
+use wire_offer::reply::build_offer_reply;
 ghost use mathlib.Core.Path.{_≡_};
 ghost use Rattle.device.specs.Refusals.{rowOf, isRefused, readyBytes, told, refusedBy, servedWith};
 
@@ -91,13 +91,13 @@ impl Device {
     }
 
     // A served call: what the packet does, and the components afterwards.
-    pub(crate) fn served(self, parts: [Component; 7], effect: Effect) -> Answer
-        ensures { λ r. ⌜ told r ≡ servedWith self parts effect ⌝ }
+    pub(crate) fn served(self, components: [Component; 7], effect: Effect) -> Answer
+        ensures { λ r. ⌜ told r ≡ servedWith self components effect ⌝ }
     {
         let reply = effect.reply;
         let ready = effect.ready;
         let session = effect.session;
-        let device = self.with_session(parts, session);
+        let device = self.with_session(components, session);
         Answer {
             refusal: Refusal::Served,
             due: effect.due,

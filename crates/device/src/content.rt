@@ -1,36 +1,42 @@
 // The content entry (document 01, "The device").
 use crate::answer::Answer;
 use crate::record::Device;
-use contents::head::read_head;
-use receiving::content;
-use session::effect::Session;
-use slots::slot::part_at;
-use slots::slot::slot_of;
-use slots::slot::with_part;
+use device_receiving::content;
+use device_session::effect::Session;
+use device_slots::slot::component_at;
+use device_slots::slot::slot_of;
+use device_slots::slot::with_component;
+use wire_content::head::read_head;
 ghost use mathlib.Core.Path.{_≡_};
 ghost use lib.ListN.{length, drop};
-ghost use Rattle.contents.specs.Head.{headIn};
-ghost use Rattle.receiving.specs.Receive.{onContent, stagingAfter};
+ghost use Rattle.wire_content.specs.Head.{headIn};
+ghost use Rattle.device_receiving.specs.Receive.{onContent, stagingAfter};
 ghost use Rattle.device.specs.Record.{sessionOf};
 ghost use Rattle.device.specs.Refusals.{told};
-ghost use Rattle.device.specs.Content.{sessionPart, received as receivedBy, contentEntry, contentStaging};
+ghost use Rattle.device.specs.Content.{sessionComponent, received as receivedBy, contentEntry, contentStaging};
 
 impl Device {
     // A packet that no row refuses.
     fn on_content(self, report: &[u8], staging: &mut [u8]) -> Answer
         requires { ⌜ length (now report) ≡ 60 ⌝ }
-        ensures { λ r. ⌜ (told r ≡ receivedBy self (onContent (sessionPart self) (sessionOf self) (headIn (now (report .entry))) (drop 8 (now (report .entry))) (now (staging .entry)))) × (now (staging .exit) ≡ stagingAfter (sessionPart self .region) (self .stage) (headIn (now (report .entry))) (drop 8 (now (report .entry))) (now (staging .entry))) ⌝ }
+        ensures { λ r. ⌜ (told r ≡ receivedBy self (onContent (sessionComponent self) (sessionOf self) (headIn (now (report .entry))) (drop 8 (now (report .entry))) (now (staging .entry)))) × (now (staging .exit) ≡ stagingAfter (sessionComponent self .region) (self .stage) (headIn (now (report .entry))) (drop 8 (now (report .entry))) (now (staging .entry))) ⌝ }
     {
-        let parts = self.parts;
+        let components = self.components;
         let stage = self.stage;
         let owed = self.owed;
         let slot = slot_of(stage.open_slot());
-        let part = part_at(parts, slot);
+        let component = component_at(components, slot);
         let head = read_head(report);
-        let taken = content::on_content(part, Session { stage, owed }, head, &report[8..], staging);
+        let taken = content::on_content(
+            component,
+            Session { stage, owed },
+            head,
+            &report[8..],
+            staging,
+        );
         let effect = taken.effect;
-        let after = taken.part;
-        let next = with_part(parts, slot, after);
+        let after = taken.component;
+        let next = with_component(components, slot, after);
         self.served(next, effect)
     }
 

@@ -1,14 +1,14 @@
 // The offer entry (document 01, "The device"): offers, information and extended packets.
 use crate::answer::Answer;
 use crate::record::Device;
-use offering::packet;
-use offers::kind::OfferPacket;
-use offers::kind::read_offer_packet;
-use session::effect::Session;
-use slots::standing::standing_of;
+use device_offering::packet;
+use device_session::effect::Session;
+use device_slots::standing::standing_of;
+use wire_offer::kind::OfferPacket;
+use wire_offer::kind::read_offer_packet;
 ghost use mathlib.Core.Path.{_≡_};
 ghost use lib.ListN.{length};
-ghost use Rattle.offering.specs.Packet.{onPacket};
+ghost use Rattle.device_offering.specs.Packet.{onPacket};
 ghost use Rattle.device.specs.Record.{sessionOf};
 ghost use Rattle.device.specs.Refusals.{told, servedWith};
 ghost use Rattle.device.specs.Offer.{offerEntry};
@@ -16,15 +16,15 @@ ghost use Rattle.device.specs.Offer.{offerEntry};
 impl Device {
     // A packet that no row refuses; none changes a component.
     fn on_packet(self, p: OfferPacket) -> Answer
-        ensures { λ r. ⌜ told r ≡ servedWith self (self .parts) (onPacket (self .platform) (self .count) (self .parts) (sessionOf self) p) ⌝ }
+        ensures { λ r. ⌜ told r ≡ servedWith self (self .components) (onPacket (self .platform) (self .count) (self .components) (sessionOf self) p) ⌝ }
     {
-        let parts = self.parts;
+        let components = self.components;
         let stage = self.stage;
         let owed = self.owed;
-        let target = standing_of(parts, self.count, packet::id_of(p));
-        let needed = standing_of(parts, self.count, packet::need_of(p));
+        let target = standing_of(components, self.count, packet::id_of(p));
+        let needed = standing_of(components, self.count, packet::need_of(p));
         let effect = packet::on_packet(self.platform, Session { stage, owed }, target, needed, p);
-        self.served(parts, effect)
+        self.served(components, effect)
     }
 
     // D1 to D3, or the answer to an offer, an information or an extended packet.

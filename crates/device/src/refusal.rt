@@ -1,8 +1,8 @@
 // Rows D1 to D3 (document 01, "Numbered refusals"): what every entry judges first.
 use crate::answer::Refusal;
 use crate::record::Device;
-use session::effect::Session;
-use session::sound;
+use device_session::effect::Session;
+use device_session::sound;
 ghost use mathlib.Core.Path.{_≡_};
 ghost use Rattle.device.specs.Refusals.{rowOf, breaksD1, refusalOf};
 
@@ -11,13 +11,13 @@ impl Device {
     pub fn breaks_d1(self) -> bool
         ensures { λ r. ⌜ r ≡ breaksD1 self ⌝ }
     {
-        let parts = self.parts;
+        let components = self.components;
         let stage = self.stage;
         let owed = self.owed;
         sound::breaks_d1(
             self.staging_len as usize,
             self.count,
-            parts,
+            components,
             Session { stage, owed },
         )
     }

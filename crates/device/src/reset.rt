@@ -2,8 +2,8 @@
 use crate::answer::Refusal;
 use crate::answer::ResetAnswer;
 use crate::record::Device;
-use session::effect::Session;
-use slots::all::reset_parts;
+use device_session::effect::Session;
+use device_slots::all::reset_components;
 ghost use mathlib.Core.Path.{_≡_};
 ghost use Rattle.device.specs.Entries.{toldReset, resetEntry};
 
@@ -18,8 +18,8 @@ impl Device {
                 device: self,
             };
         }
-        let parts = self.parts;
-        let next = reset_parts(parts, self.count);
+        let components = self.components;
+        let next = reset_components(components, self.count);
         let device = self.with_session(next, Session::idle());
         ResetAnswer {
             refusal: Refusal::Served,

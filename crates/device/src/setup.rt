@@ -1,12 +1,12 @@
 // Set-up (document 01, rows S1 to S4): a device that is idle, with nothing staged and nothing owed.
 use crate::answer::SetupAnswer;
 use crate::record::Device;
-use component::record::Listed;
-use component::setup::setup_verdict;
-use session::owed::Owed;
-use session::sound::refuses_setup;
-use session::stage::Stage;
-use slots::all::components;
+use device_component::record::Listed;
+use device_component::setup::setup_verdict;
+use device_session::owed::Owed;
+use device_session::sound::refuses_setup;
+use device_session::stage::Stage;
+use device_slots::all::components_of;
 ghost use mathlib.Core.Path.{_≡_};
 ghost use lib.ListN.{length};
 ghost use Rattle.device.specs.Entries.{toldSetUp, setUpOf};
@@ -15,8 +15,8 @@ ghost use Rattle.device.specs.Entries.{toldSetUp, setUpOf};
 pub fn set_up(platform: u16, list: [Listed; 7], count: u8, staging: &[u8]) -> SetupAnswer
     ensures { λ r. ⌜ toldSetUp r ≡ setUpOf platform list count (length (now (staging .entry))) ⌝ }
 {
-    let parts = components(list);
-    let verdict = setup_verdict(staging.len(), count, parts);
+    let components = components_of(list);
+    let verdict = setup_verdict(staging.len(), count, components);
     if refuses_setup(verdict) {
         let device = Device::blank();
         return SetupAnswer { verdict, device };
@@ -25,7 +25,7 @@ pub fn set_up(platform: u16, list: [Listed; 7], count: u8, staging: &[u8]) -> Se
         platform,
         staging_len: staging.len() as u32,
         count,
-        parts,
+        components,
         stage: Stage::Idle,
         owed: Owed::Nothing,
     };

@@ -2,10 +2,10 @@
 use crate::answer::Refusal;
 use crate::answer::VersionAnswer;
 use crate::record::Device;
-use slots::all::all_running;
-use versions::VersionReply;
-use versions::build_version_reply;
+use device_slots::all::all_running;
 use wire::codes::PROTOCOL;
+use wire_version::VersionReply;
+use wire_version::build_version_reply;
 ghost use mathlib.Core.Path.{_≡_};
 ghost use Rattle.device.specs.Entries.{toldVersions, versionEntry};
 
@@ -20,12 +20,12 @@ impl Device {
                 packet: [0u8; 60],
             };
         }
-        let parts = self.parts;
-        let components = all_running(self.platform, parts);
+        let components = self.components;
+        let running = all_running(self.platform, components);
         let built = build_version_reply(VersionReply {
             count: self.count,
             protocol: PROTOCOL,
-            components,
+            components: running,
         });
         let packet = built.packet;
         VersionAnswer {

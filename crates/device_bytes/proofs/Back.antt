@@ -17,26 +17,26 @@ use Rattle.wire.proofs.words.Laws.{round}
 use Rattle.wire.proofs.words.Sames.{same-refl, same-eq}
 use Rattle.image.specs.Region.{FitsRegion}
 use Rattle.image.specs.declared.region.Region.{Region}
-use Rattle.component.specs.Record.{FitsStaged, FitsComponent}
-use Rattle.component.specs.Lists.{partAt}
-use Rattle.component.specs.Setup.{setupVerdict}
-use Rattle.component.specs.declared.record.Component.{Component}
-use Rattle.component.specs.declared.record.Staged.{Staged}
-use Rattle.component.specs.declared.record.Staged.the-variants as staged
-use Rattle.session.specs.Stage.{FitsStage}
-use Rattle.session.specs.Owed.{FitsOwed}
+use Rattle.device_component.specs.Record.{FitsStaged, FitsComponent}
+use Rattle.device_component.specs.Lists.{componentAt}
+use Rattle.device_component.specs.Setup.{setupVerdict}
+use Rattle.device_component.specs.declared.record.Component.{Component}
+use Rattle.device_component.specs.declared.record.Staged.{Staged}
+use Rattle.device_component.specs.declared.record.Staged.the-variants as staged
+use Rattle.device_session.specs.Stage.{FitsStage}
+use Rattle.device_session.specs.Owed.{FitsOwed}
 use Rattle.device.specs.Record.{FitsDevice, blankDevice}
 use Rattle.device.specs.Refusals.{breaksD1}
-use Rattle.session.specs.Sound as sound
+use Rattle.device_session.specs.Sound as sound
 use Rattle.device.specs.declared.record.Device.{Device}
-use Rattle.session.specs.declared.stage.Stage.{Stage}
-use Rattle.session.specs.declared.stage.Stage.the-variants.{Idle, Offered, Receiving}
-use Rattle.session.specs.declared.owed.Owed.{Owed}
-use Rattle.session.specs.declared.owed.Owed.the-variants.{Nothing, Token}
-use Rattle.device_bytes.specs.Layout.{PART-SIZE, PARTS-START, stageBytes, owedBytes, stagedBytes, regionBytes, partBytes, partsBytes, deviceBytes, partIn, partsIn, deviceIn, readDevice}
+use Rattle.device_session.specs.declared.stage.Stage.{Stage}
+use Rattle.device_session.specs.declared.stage.Stage.the-variants.{Idle, Offered, Receiving}
+use Rattle.device_session.specs.declared.owed.Owed.{Owed}
+use Rattle.device_session.specs.declared.owed.Owed.the-variants.{Nothing, Token}
+use Rattle.device_bytes.specs.Layout.{COMPONENT-SIZE, COMPONENTS-START, stageBytes, owedBytes, stagedBytes, regionBytes, componentBytes, componentsBytes, deviceBytes, componentIn, componentsIn, deviceIn, readDevice}
 use Rattle.device_bytes.specs.Promises.{DeviceSized, DeviceReadsBack, OthersBreakD1}
-use Rattle.device_bytes.proofs.part.Laws.{part-sized}
-use Rattle.device_bytes.proofs.Record.{device-length, parts-seven}
+use Rattle.device_bytes.proofs.component.Laws.{component-sized}
+use Rattle.device_bytes.proofs.Record.{device-length, components-seven}
 
 -- two bytes, and five
 two : (a b : ℕ) → a < 256 → b < 256 → Bytes (a ∷ b ∷ [])
@@ -59,18 +59,18 @@ staged-bytes : (s : Staged) → FitsStaged s → Bytes (stagedBytes s)
 staged-bytes staged.Nothing f = five 0 0 0 0 0 (omega arith) (omega arith) (omega arith) (omega arith) (omega arith)
 staged-bytes (staged.Pending v) f = cons-bytes 1 (versionBytes v) (omega arith) (version-bytes v f)
 
-part-bytes : (c : Component) → FitsComponent c → Bytes (partBytes c)
-part-bytes c f =
+component-bytes : (c : Component) → FitsComponent c → Bytes (componentBytes c)
+component-bytes c f =
     cons-bytes (c .id) (versionBytes (c .running) ++ (regionBytes (c .region) ++ stagedBytes (c .staged))) (f .id)
     (join-bytes (versionBytes (c .running)) (regionBytes (c .region) ++ stagedBytes (c .staged)) (version-bytes (c .running) (f .running))
     (join-bytes (regionBytes (c .region)) (stagedBytes (c .staged))
     (join-bytes (bytesOf 4 (c .region .base .0)) (bytesOf 4 (c .region .len)) (word-bytes 4 (c .region .base .0)) (word-bytes 4 (c .region .len)))
     (staged-bytes (c .staged) (f .staged))))
 
-parts-bytes : (cs : List Component) → ((k : ℕ) → FitsComponent (partAt cs k)) → Bytes (partsBytes cs)
-unfolding partsBytes
-parts-bytes [] f = no-bytes
-parts-bytes (c ∷ cs) f = join-bytes (partBytes c) (partsBytes cs) (part-bytes c (f 0)) (parts-bytes cs (λ k. f (suc k)))
+components-bytes : (cs : List Component) → ((k : ℕ) → FitsComponent (componentAt cs k)) → Bytes (componentsBytes cs)
+unfolding componentsBytes
+components-bytes [] f = no-bytes
+components-bytes (c ∷ cs) f = join-bytes (componentBytes c) (componentsBytes cs) (component-bytes c (f 0)) (components-bytes cs (λ k. f (suc k)))
 
 -- every record is bytes of the one length
 pub device-sized : DeviceSized
@@ -78,32 +78,32 @@ unfolding deviceBytes
 device-sized d f = record {
   size = device-length d (f .slots);
   bytes =
-      let o = owedBytes (d .owed) ++ partsBytes (d .parts) in
+      let o = owedBytes (d .owed) ++ componentsBytes (d .components) in
       let s = d .count ∷ stageBytes (d .stage) ++ o in
       join-bytes (bytesOf 2 (d .platform)) (bytesOf 4 (d .«staging_len») ++ s) (word-bytes 2 (d .platform))
       (join-bytes (bytesOf 4 (d .«staging_len»)) s (word-bytes 4 (d .«staging_len»))
       (cons-bytes (d .count) (stageBytes (d .stage) ++ o) (f .count)
       (join-bytes (stageBytes (d .stage)) o (stage-bytes (d .stage) (f .stage))
-      (join-bytes (owedBytes (d .owed)) (partsBytes (d .parts)) (owed-bytes (d .owed) (f .owed)) (parts-bytes (d .parts) (f .each))))));
+      (join-bytes (owedBytes (d .owed)) (componentsBytes (d .components)) (owed-bytes (d .owed) (f .owed)) (components-bytes (d .components) (f .each))))));
 }
 
 -- a component reads back, whatever follows it
 fields-back : (id : ℕ) (v : Version) (r : Region) (s : Staged) (rest : List ℕ) → FitsRegion r
-    → partIn (partBytes (record { id = id; running = v; region = r; staged = s }) ++ rest) ≡ record { id = id; running = v; region = r; staged = s }
+    → componentIn (componentBytes (record { id = id; running = v; region = r; staged = s }) ++ rest) ≡ record { id = id; running = v; region = r; staged = s }
 fields-back id v r staged.Nothing rest f = simp (parts v, round 4 (r .base .0) (f .base), round 4 (r .len) (f .len))
 fields-back id v r (staged.Pending w) rest f = simp (parts v, parts w, round 4 (r .base .0) (f .base), round 4 (r .len) (f .len))
 
-parts-back : (cs : List Component) → ((k : ℕ) → FitsComponent (partAt cs k)) → partsIn (length cs) (partsBytes cs) ≡ cs
-unfolding partsBytes partsIn
+parts-back : (cs : List Component) → ((k : ℕ) → FitsComponent (componentAt cs k)) → componentsIn (length cs) (componentsBytes cs) ≡ cs
+unfolding componentsBytes componentsIn
 parts-back [] f = refl
 parts-back (c ∷ cs) f =
-    ap₂ (λ (x : Component) (l : List Component). x ∷ l) (fields-back (c .id) (c .running) (c .region) (c .staged) (partsBytes cs) (f 0 .region))
-    (ap (partsIn (length cs)) (drop-at (partBytes c) (partsBytes cs) PART-SIZE (part-sized c)) ∙ parts-back cs (λ k. f (suc k)))
+    ap₂ (λ (x : Component) (l : List Component). x ∷ l) (fields-back (c .id) (c .running) (c .region) (c .staged) (componentsBytes cs) (f 0 .region))
+    (ap (componentsIn (length cs)) (drop-at (componentBytes c) (componentsBytes cs) COMPONENT-SIZE (component-sized c)) ∙ parts-back cs (λ k. f (suc k)))
 
 -- so does what stands before the components
-session-back : (platform staging count : ℕ) (cs : List Component) (stage : Stage) (owed : Owed) → platform < 256 ^ 2 → staging < 256 ^ 4 → FitsStage stage → partsIn 7 (partsBytes cs) ≡ cs
-    → deviceIn (deviceBytes (record { platform = platform; «staging_len» = staging; count = count; parts = cs; stage = stage; owed = owed }))
-    ≡ record { platform = platform; «staging_len» = staging; count = count; parts = cs; stage = stage; owed = owed }
+session-back : (platform staging count : ℕ) (cs : List Component) (stage : Stage) (owed : Owed) → platform < 256 ^ 2 → staging < 256 ^ 4 → FitsStage stage → componentsIn 7 (componentsBytes cs) ≡ cs
+    → deviceIn (deviceBytes (record { platform = platform; «staging_len» = staging; count = count; components = cs; stage = stage; owed = owed }))
+    ≡ record { platform = platform; «staging_len» = staging; count = count; components = cs; stage = stage; owed = owed }
 unfolding deviceBytes deviceIn
 session-back platform staging count cs Idle Nothing f g h e = simp (round 2 platform f, round 4 staging g, e)
 session-back platform staging count cs Idle (Token t) f g h e = simp (round 2 platform f, round 4 staging g, e)
@@ -114,8 +114,8 @@ session-back platform staging count cs (Receiving r) (Token t) f g h e = simp (r
 
 device-back : (d : Device) → FitsDevice d → deviceIn (deviceBytes d) ≡ d
 device-back d f =
-    let e : partsIn 7 (partsBytes (d .parts)) ≡ d .parts = ap (λ (n : ℕ). partsIn n (partsBytes (d .parts))) (sym (f .slots)) ∙ parts-back (d .parts) (f .each) in
-    session-back (d .platform) (d .«staging_len») (d .count) (d .parts) (d .stage) (d .owed) (f .platform) (f .staging) (f .stage) e
+    let e : componentsIn 7 (componentsBytes (d .components)) ≡ d .components = ap (λ (n : ℕ). componentsIn n (componentsBytes (d .components))) (sym (f .slots)) ∙ parts-back (d .components) (f .each) in
+    session-back (d .platform) (d .«staging_len») (d .count) (d .components) (d .stage) (d .owed) (f .platform) (f .staging) (f .stage) e
 
 -- every record reads back
 pub device-reads-back : DeviceReadsBack
@@ -137,19 +137,19 @@ staged-fits : (x : Bool) (v : Version) → FitsVersion v → FitsStaged (cond x 
 staged-fits true v f = f
 staged-fits false v f = tt
 
-part-fits : (q : List ℕ) → Bytes q → FitsComponent (partIn q)
-part-fits q h = record {
+component-fits : (q : List ℕ) → Bytes q → FitsComponent (componentIn q)
+component-fits q h = record {
   id = h 0;
   running = version-fits 1 q h;
   region = record { base = word-fits 4 5 q h; len = word-fits 4 9 q h };
   staged = staged-fits (eqb (getD q 13 0) 1) (versionAt 14 q) (version-fits 14 q h);
 }
 
-parts-fit : (n : ℕ) (q : List ℕ) → Bytes q → (k : ℕ) → FitsComponent (partAt (partsIn n q) k)
-unfolding partsIn
-parts-fit zero q h k = record { id = omega arith; running = omega arith; region = record { base = omega arith; len = omega arith }; staged = tt }
-parts-fit (suc n) q h zero = part-fits q h
-parts-fit (suc n) q h (suc k) = parts-fit n (drop PART-SIZE q) (rest-bytes PART-SIZE q h) k
+components-fit : (n : ℕ) (q : List ℕ) → Bytes q → (k : ℕ) → FitsComponent (componentAt (componentsIn n q) k)
+unfolding componentsIn
+components-fit zero q h k = record { id = omega arith; running = omega arith; region = record { base = omega arith; len = omega arith }; staged = tt }
+components-fit (suc n) q h zero = component-fits q h
+components-fit (suc n) q h (suc k) = components-fit n (drop COMPONENT-SIZE q) (rest-bytes COMPONENT-SIZE q h) k
 
 device-fits : (b : List ℕ) → Bytes b → FitsDevice (deviceIn b)
 unfolding deviceIn
@@ -157,8 +157,8 @@ device-fits b h = record {
   platform = word-fits 2 0 b h;
   staging = word-fits 4 2 b h;
   count = h 6;
-  slots = parts-seven (drop PARTS-START b);
-  each = parts-fit 7 (drop PARTS-START b) (rest-bytes PARTS-START b h);
+  slots = components-seven (drop COMPONENTS-START b);
+  each = components-fit 7 (drop COMPONENTS-START b) (rest-bytes COMPONENTS-START b h);
   stage = stage-fits (eqb (getD b 7 0) 1) (eqb (getD b 7 0) 2) (getD b 8 0) (getD b 9 0) (number (bytesAt 2 10 b)) (h 8) (h 9) (word-fits 2 10 b h);
   owed = owed-fits (eqb (getD b 12 0) 1) (getD b 13 0) (h 13);
 }

@@ -7,27 +7,27 @@ use lib.ListN.{length, getD, drop}
 use Rattle.wire.specs.Bytes.{number, bytesOf, bytesAt, same}
 use Rattle.wire.specs.Version.{versionAt, versionBytes}
 use Rattle.image.specs.declared.region.Region.{Region}
-use Rattle.component.specs.Record.{blankComponent}
-use Rattle.component.specs.declared.record.Component.{Component}
-use Rattle.component.specs.declared.record.Listed.{Listed}
-use Rattle.component.specs.declared.record.Staged.{Staged}
-use Rattle.component.specs.declared.record.Staged.the-variants as staged
+use Rattle.device_component.specs.Record.{blankComponent}
+use Rattle.device_component.specs.declared.record.Component.{Component}
+use Rattle.device_component.specs.declared.record.Listed.{Listed}
+use Rattle.device_component.specs.declared.record.Staged.{Staged}
+use Rattle.device_component.specs.declared.record.Staged.the-variants as staged
 use Rattle.device.specs.declared.record.Device.{Device}
-use Rattle.session.specs.declared.stage.Stage.{Stage}
-use Rattle.session.specs.declared.stage.Stage.the-variants.{Idle, Offered, Receiving}
-use Rattle.session.specs.declared.owed.Owed.{Owed}
-use Rattle.session.specs.declared.owed.Owed.the-variants.{Nothing, Token}
+use Rattle.device_session.specs.declared.stage.Stage.{Stage}
+use Rattle.device_session.specs.declared.stage.Stage.the-variants.{Idle, Offered, Receiving}
+use Rattle.device_session.specs.declared.owed.Owed.{Owed}
+use Rattle.device_session.specs.declared.owed.Owed.the-variants.{Nothing, Token}
 use Rattle.device.specs.Record.{blankDevice}
 
 -- the lengths: a record, the part of it for each component, and what stands before these
 abbrev pub DEVICE-SIZE : ℕ
 DEVICE-SIZE = 140
 
-abbrev pub PART-SIZE : ℕ
-PART-SIZE = 18
+abbrev pub COMPONENT-SIZE : ℕ
+COMPONENT-SIZE = 18
 
-abbrev pub PARTS-START : ℕ
-PARTS-START = 14
+abbrev pub COMPONENTS-START : ℕ
+COMPONENTS-START = 14
 
 -- bytes 7-11: the stage (0 idle, 1 offered, 2 receiving), the slot, the token, the next sequence; zero where the stage has none
 abbrev pub stageBytes : Stage → List ℕ
@@ -50,18 +50,18 @@ abbrev pub regionBytes : Region → List ℕ
 regionBytes r = bytesOf 4 (r .base .0) ++ bytesOf 4 (r .len)
 
 -- a component: id, running version, region, what is staged
-abbrev pub partBytes : Component → List ℕ
-partBytes c = c .id ∷ versionBytes (c .running) ++ (regionBytes (c .region) ++ stagedBytes (c .staged))
+abbrev pub componentBytes : Component → List ℕ
+componentBytes c = c .id ∷ versionBytes (c .running) ++ (regionBytes (c .region) ++ stagedBytes (c .staged))
 
 -- components one after the other
-unfoldable pub partsBytes : List Component → List ℕ
-partsBytes [] = []
-partsBytes (c ∷ cs) = partBytes c ++ partsBytes cs
+unfoldable pub componentsBytes : List Component → List ℕ
+componentsBytes [] = []
+componentsBytes (c ∷ cs) = componentBytes c ++ componentsBytes cs
 
 -- the record: platform, staging length, count, stage, owed, the seven components
 unfoldable pub deviceBytes : Device → List ℕ
 deviceBytes d =
-    bytesOf 2 (d .platform) ++ (bytesOf 4 (d .«staging_len») ++ (d .count ∷ stageBytes (d .stage) ++ (owedBytes (d .owed) ++ partsBytes (d .parts))))
+    bytesOf 2 (d .platform) ++ (bytesOf 4 (d .«staging_len») ++ (d .count ∷ stageBytes (d .stage) ++ (owedBytes (d .owed) ++ componentsBytes (d .components))))
 
 -- the fields that stand in bytes, unjudged
 abbrev pub stageIn : (stage slot token next : ℕ) → Stage
@@ -75,8 +75,8 @@ owedIn owed token = cond (eqb owed 1) (Token token) Nothing
 abbrev pub regionIn : ℕ → List ℕ → Region
 regionIn i q = record { base = record { 0 = number (bytesAt 4 i q) }; len = number (bytesAt 4 (4 + i) q) }
 
-abbrev pub partIn : List ℕ → Component
-partIn q = record {
+abbrev pub componentIn : List ℕ → Component
+componentIn q = record {
   id = getD q 0 0;
   running = versionAt 1 q;
   region = regionIn 5 q;
@@ -84,19 +84,19 @@ partIn q = record {
 }
 
 -- the component in a slot; past the seven there is none, and none in bytes of another length
-abbrev pub partOf : (slot : ℕ) → List ℕ → Component
-partOf slot b = cond (eqb (length b) DEVICE-SIZE && ltb slot 7) (partIn (drop (PARTS-START + slot * PART-SIZE) b)) blankComponent
+abbrev pub componentOf : (slot : ℕ) → List ℕ → Component
+componentOf slot b = cond (eqb (length b) DEVICE-SIZE && ltb slot 7) (componentIn (drop (COMPONENTS-START + slot * COMPONENT-SIZE) b)) blankComponent
 
-unfoldable pub partsIn : ℕ → List ℕ → List Component
-partsIn zero q = []
-partsIn (suc n) q = partIn q ∷ partsIn n (drop PART-SIZE q)
+unfoldable pub componentsIn : ℕ → List ℕ → List Component
+componentsIn zero q = []
+componentsIn (suc n) q = componentIn q ∷ componentsIn n (drop COMPONENT-SIZE q)
 
 unfoldable pub deviceIn : List ℕ → Device
 deviceIn b = record {
   platform = number (bytesAt 2 0 b);
   «staging_len» = number (bytesAt 4 2 b);
   count = getD b 6 0;
-  parts = partsIn 7 (drop PARTS-START b);
+  components = componentsIn 7 (drop COMPONENTS-START b);
   stage = stageIn (getD b 7 0) (getD b 8 0) (getD b 9 0) (number (bytesAt 2 10 b));
   owed = owedIn (getD b 12 0) (getD b 13 0);
 }

@@ -3,29 +3,29 @@ ghost use mathlib.Core.Path.{_≡_};
 ghost use mathlib.Core.List.{_∷_, _++_};
 ghost use lib.ListN.{length, take, drop};
 ghost use Rattle.wire.specs.Bytes.{bytesOf};
-ghost use Rattle.device_bytes.specs.Layout.{DEVICE-SIZE, PARTS-START, stageBytes, owedBytes, partsBytes, partsIn, deviceBytes, deviceIn, readDevice, listIn};
+ghost use Rattle.device_bytes.specs.Layout.{DEVICE-SIZE, COMPONENTS-START, stageBytes, owedBytes, componentsBytes, componentsIn, deviceBytes, deviceIn, readDevice, listIn};
+use crate::component::component_bytes;
+use crate::component::component_of;
 use crate::list::listed_at;
-use crate::part::part_bytes;
-use crate::part::part_of;
 use crate::stage::owed_bytes;
 use crate::stage::owed_in;
 use crate::stage::stage_bytes;
 use crate::stage::stage_in;
-use component::record::Component;
-use component::record::Listed;
 use device::record::Device;
+use device_component::record::Component;
+use device_component::record::Listed;
 use wire::words;
 
-pub mod part; // part.rt: a component
+pub mod component; // component.rt: a component
 pub mod stage; // stage.rt: the stage, and the ready-reply that is owed
 mod list; // list.rt: a component of the list that set-up takes
 
 // The lengths of a record, of the part of it for each component and of what stands before these, of a list, and of the part of it for each component.
 pub const DEVICE_SIZE: usize = 140;
 
-pub const PART_SIZE: usize = 18;
+pub const COMPONENT_SIZE: usize = 18;
 
-pub const PARTS_START: usize = 14;
+pub const COMPONENTS_START: usize = 14;
 
 pub const LIST_SIZE: usize = 91;
 
@@ -60,15 +60,15 @@ fn head(d: Device) -> [u8; 14]
 }
 
 // The components, one after the other, from their start on.
-fn with_parts(mut out: [u8; 140], parts: [Component; 7]) -> [u8; 140]
-    ensures { λ r. ⌜ r ≡ take PARTS-START out ++ partsBytes parts ⌝ }
+fn with_components(mut out: [u8; 140], components: [Component; 7]) -> [u8; 140]
+    ensures { λ r. ⌜ r ≡ take COMPONENTS-START out ++ componentsBytes components ⌝ }
 {
     let mut i = 0;
     while i < 7 {
-        let part = parts[i];
-        let b = part_bytes(part);
-        let at = PARTS_START + i * PART_SIZE;
-        let end = at + PART_SIZE;
+        let component = components[i];
+        let b = component_bytes(component);
+        let at = COMPONENTS_START + i * COMPONENT_SIZE;
+        let end = at + COMPONENT_SIZE;
         words::copy(&mut out[at..end], &b);
         i += 1;
     }
@@ -80,23 +80,23 @@ pub fn device_bytes(d: Device) -> [u8; 140]
 {
     let mut out = [0u8; 140];
     let h = head(d);
-    words::copy(&mut out[0..PARTS_START], &h);
-    let parts = d.parts;
-    with_parts(out, parts)
+    words::copy(&mut out[0..COMPONENTS_START], &h);
+    let components = d.components;
+    with_components(out, components)
 }
 
-fn parts_in(b: &[u8]) -> [Component; 7]
+fn components_in(b: &[u8]) -> [Component; 7]
     requires { ⌜ length (now b) ≡ DEVICE-SIZE ⌝ }
-    ensures { λ r. ⌜ r ≡ partsIn 7 (drop PARTS-START (now (b .entry))) ⌝ }
+    ensures { λ r. ⌜ r ≡ componentsIn 7 (drop COMPONENTS-START (now (b .entry))) ⌝ }
 {
-    let first = part_of(b, 0);
-    let mut parts = [first; 7];
+    let first = component_of(b, 0);
+    let mut components = [first; 7];
     let mut i: u8 = 0;
     while i < 7 {
-        parts[i as usize] = part_of(b, i);
+        components[i as usize] = component_of(b, i);
         i += 1;
     }
-    parts
+    components
 }
 
 // The fields that stand in the bytes, unjudged.
@@ -104,14 +104,14 @@ fn device_in(b: &[u8]) -> Device
     requires { ⌜ length (now b) ≡ DEVICE-SIZE ⌝ }
     ensures { λ r. ⌜ r ≡ deviceIn (now (b .entry)) ⌝ }
 {
-    let parts = parts_in(b);
+    let components = components_in(b);
     let stage = stage_in(b[7], b[8], b[9], words::word16_at(b, 10));
     let owed = owed_in(b[12], b[13]);
     Device {
         platform: words::word16_at(b, 0),
         staging_len: words::word32_at(b, 2),
         count: b[6],
-        parts,
+        components,
         stage,
         owed,
     }

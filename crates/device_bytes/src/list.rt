@@ -2,9 +2,9 @@
 ghost use mathlib.Core.Path.{_≡_};
 ghost use lib.ListN.{drop};
 ghost use Rattle.device_bytes.specs.Layout.{listedIn};
-use crate::part::region_in;
-use crate::part::version_at;
-use component::record::Listed;
+use crate::component::region_in;
+use crate::component::version_at;
+use device_component::record::Listed;
 use wire::words;
 
 fn listed_in(q: &[u8]) -> Listed

@@ -1,10 +1,10 @@
 // The session of a device's record as seven bytes: the stage, and the ready-reply that is owed.
 ghost use mathlib.Core.Path.{_≡_};
 ghost use Rattle.device_bytes.specs.Layout.{stageBytes, owedBytes, stageIn, owedIn};
-use session::owed::Owed;
-use session::stage::Offered;
-use session::stage::Receiving;
-use session::stage::Stage;
+use device_session::owed::Owed;
+use device_session::stage::Offered;
+use device_session::stage::Receiving;
+use device_session::stage::Stage;
 use wire::words;
 
 pub fn stage_bytes(stage: Stage) -> [u8; 5]

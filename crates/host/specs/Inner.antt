@@ -5,22 +5,22 @@ use mathlib.Core.Path.{_≡_}
 use mathlib.Core.List.{List}
 use lib.ListN.{drop}
 use Rattle.wire.specs.Bytes.{Bytes}
-use Rattle.records.specs.declared.Next.{Next}
-use Rattle.records.specs.declared.Next.the-variants as next
-use Rattle.records.specs.Parse.{whole, recordsOf}
-use Rattle.records.specs.Walk.{between, nextOf}
-use Rattle.layout.specs.Rows as bundle
+use Rattle.bundle_records.specs.declared.Next.{Next}
+use Rattle.bundle_records.specs.declared.Next.the-variants as next
+use Rattle.bundle_records.specs.Parse.{whole, recordsOf}
+use Rattle.bundle_records.specs.Walk.{between, nextOf}
+use Rattle.bundle_layout.specs.Rows as bundle
 use Rattle.bundle.specs.Contents.{Contents, checkOf}
 use Rattle.host_record.specs.declared.record.Host.{Host}
 use Rattle.host_record.specs.declared.record.HostStage.{HostStage}
 use Rattle.host_record.specs.declared.record.HostStage.the-variants.{Fresh, Opening, Listing, Offering, Waiting, Sending, Closing, Ended}
 use Rattle.host_record.specs.declared.fits.Body.{Body}
 use Rattle.host_record.specs.Fits.{recordsOn, bodyOf, inHand}
-use Rattle.decide.specs.declared.Decided.{Decided}
-use Rattle.decide.specs.declared.Decided.the-variants as decided
-use Rattle.decide.specs.Decide.{entryOf, decisionOf}
-use Rattle.make.specs.Answer.{B, N, refusedBy}
-use Rattle.make.specs.Made.{InnerStep, madeOf}
+use Rattle.host_decide.specs.declared.Decided.{Decided}
+use Rattle.host_decide.specs.declared.Decided.the-variants as decided
+use Rattle.host_decide.specs.Decide.{entryOf, decisionOf}
+use Rattle.host_packet.specs.Answer.{B, N, refusedBy}
+use Rattle.host_packet.specs.Made.{InnerStep, madeOf}
 use Rattle.host.specs.Step.{blocksAt, stepOf}
 
 -- the inner step over accepted contents: N1, or the move

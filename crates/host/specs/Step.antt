@@ -5,22 +5,22 @@ use mathlib.Core.List.{List, [], _∷_}
 use lib.Dec.{eqb}
 use lib.ListN.{length, getD, set}
 use Rattle.wire.specs.Codes.{NOTIFY-ON-READY}
-use Rattle.offers.specs.Signal.{informationBytes, extendedBytes}
-use Rattle.records.specs.Record.{Block}
-use Rattle.layout.specs.Layout.{countIn, entriesIn, offerIn}
-use Rattle.layout.specs.Rows as bundle
+use Rattle.wire_offer.specs.Signal.{informationBytes, extendedBytes}
+use Rattle.bundle_records.specs.Record.{Block}
+use Rattle.bundle_layout.specs.Layout.{countIn, entriesIn, offerIn}
+use Rattle.bundle_layout.specs.Rows as bundle
 use Rattle.bundle.specs.Contents.{blocksIn}
 use Rattle.host_record.specs.declared.record.Host.{Host}
 use Rattle.host_record.specs.declared.record.Place.{Place}
 use Rattle.host_record.specs.declared.record.HostStage.{HostStage}
 use Rattle.host_record.specs.Fits.{stageBreaks, recordBreaks, isLastOf, lastOf, inHand}
-use Rattle.decide.specs.declared.Action.{Action}
-use Rattle.decide.specs.declared.Action.the-variants as action
-use Rattle.decide.specs.declared.Move.{Move}
-use Rattle.decide.specs.Decide.{decideOf}
-use Rattle.make.specs.Packet.{flagsOf, blockBytes}
-use Rattle.make.specs.Answer.{B, N, Step, filled, refusedBy}
-pub use Rattle.make.specs.Answer.{served}
+use Rattle.host_decide.specs.declared.Action.{Action}
+use Rattle.host_decide.specs.declared.Action.the-variants as action
+use Rattle.host_decide.specs.declared.Move.{Move}
+use Rattle.host_decide.specs.Decide.{decideOf}
+use Rattle.host_packet.specs.Packet.{flagsOf, blockBytes}
+use Rattle.host_packet.specs.Answer.{B, N, Step, filled, refusedBy}
+pub use Rattle.host_packet.specs.Answer.{served}
 
 -- an entry of a bundle's table, and the records of its body
 abbrev pub entryAt : (b : List ℕ) → ℕ → List ℕ

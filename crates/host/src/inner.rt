@@ -1,20 +1,20 @@
 // The inner step: over what the check answered for a bundle, and a cursor, the place of the record after the one in hand.
 ghost use mathlib.Core.Path.{_≡_};
 ghost use Rattle.bundle.specs.Contents.{toldChecked};
-ghost use Rattle.make.specs.Made.{toldInner};
+ghost use Rattle.host_packet.specs.Made.{toldInner};
 ghost use Rattle.host.specs.Inner.{innerOf};
-use decide::Decided;
-use decide::decision;
-use decide::entry_of;
+use bundle_layout::Checked;
+use bundle_layout::row_number;
+use host_decide::Decided;
+use host_decide::decision;
+use host_decide::entry_of;
+use host_packet::action::made;
+use host_packet::action::refused;
+use host_packet::answer::InnerAnswer;
+use host_packet::answer::StepRefusal;
 use host_record::fits::body_at;
 use host_record::fits::in_hand;
 use host_record::record::Host;
-use layout::Checked;
-use layout::row_number;
-use make::action::made;
-use make::action::refused;
-use make::answer::InnerAnswer;
-use make::answer::StepRefusal;
 
 // The bundle's row, N1, or the move.
 pub fn inner_step(

@@ -1,19 +1,19 @@
 // A step of the host over a bundle (document 01, "The host" and rows B, N1): the bundle is judged, then the record, then the reply. It is the inner step,
 // with the check made and the cursor found anew.
 ghost use mathlib.Core.Path.{_≡_};
-ghost use Rattle.make.specs.Answer.{told};
+ghost use Rattle.host_packet.specs.Answer.{told};
 ghost use Rattle.host.specs.Step.{stepOf};
 ghost use Rattle.host.specs.Inner.{placeAfter, cursorAt};
 use crate::inner::inner_step;
 use bundle::check;
+use bundle_records::Next;
+use bundle_records::walk::next_record;
+use host_packet::answer::StepAnswer;
 use host_record::fits::Body;
 use host_record::fits::body_at;
 use host_record::fits::in_hand;
 use host_record::record::Host;
 use host_record::record::HostStage;
-use make::answer::StepAnswer;
-use records::Next;
-use records::walk::next_record;
 
 // The place after the first `count` records that stand from `at` on; where there are fewer, the place after the last.
 fn place_after(b: &[u8], at: usize, end: u64, count: u64) -> usize

@@ -12,12 +12,12 @@ use lib.Seq.{take-all, take-at, drop-drop, getD-drop}
 use Rattle.wire.specs.Bytes.{number, bytesOf, bytesAt, copyOf}
 use Rattle.wire.proofs.Pieces.{put-more, piece-written, read-sized, read-at}
 use Rattle.wire.proofs.words.Laws.{round}
-use Rattle.offers.specs.Offer.{blankOffer}
-use Rattle.layout.specs.Layout.{blankEntry}
-use Rattle.layout.specs.Rows as bundle
-use Rattle.layout.specs.declared.BundleVerdict.{BundleVerdict}
-use Rattle.layout.specs.declared.BundleVerdict.the-variants.{Fine, B1, B2, B3, B4, B5, B6, B7, B8}
-use Rattle.layout.specs.declared.Entry.{Entry}
+use Rattle.wire_offer.specs.Offer.{blankOffer}
+use Rattle.bundle_layout.specs.Layout.{blankEntry}
+use Rattle.bundle_layout.specs.Rows as bundle
+use Rattle.bundle_layout.specs.declared.BundleVerdict.{BundleVerdict}
+use Rattle.bundle_layout.specs.declared.BundleVerdict.the-variants.{Fine, B1, B2, B3, B4, B5, B6, B7, B8}
+use Rattle.bundle_layout.specs.declared.Entry.{Entry}
 use Rattle.bundle.specs.Contents.{Contents}
 use Rattle.host_record.specs.Fits.{listedAt, bodyOf}
 use Rattle.host_record.specs.declared.fits.Body.{Body}

@@ -12,9 +12,9 @@ use Rattle.wire.specs.Bytes.{Bytes}
 use Rattle.wire.specs.Checks.{firstOf}
 use Rattle.wire.proofs.Bounds.{no-bytes, word-fits}
 use Rattle.wire.proofs.Tests.{both, neither}
-use Rattle.layout.specs.Layout.{OFFER-LIMIT, countIn, entriesIn, blankEntry}
-use Rattle.layout.specs.Rows as bundle
-use Rattle.layout.specs.declared.Entry.{Entry}
+use Rattle.bundle_layout.specs.Layout.{OFFER-LIMIT, countIn, entriesIn, blankEntry}
+use Rattle.bundle_layout.specs.Rows as bundle
+use Rattle.bundle_layout.specs.declared.Entry.{Entry}
 use Rattle.bundle.specs.Contents.{Contents, entryIn, contentsBy, checkOf}
 use Rattle.bundle.proofs.Accepted.{Accepted, accepted}
 use Rattle.host_record.specs.Fits.{BUSY-LIMIT, bodyOf, recordsOn, inHand}
@@ -23,13 +23,13 @@ use Rattle.host_record.specs.declared.record.Host.{Host}
 use Rattle.host_record.specs.declared.record.Place.{Place}
 use Rattle.host_record.specs.declared.record.HostStage.{HostStage}
 use Rattle.host_record.specs.declared.record.HostStage.the-variants.{Fresh, Opening, Listing, Offering, Waiting, Sending, Closing, Ended}
-use Rattle.decide.specs.declared.Decided.{Decided}
-use Rattle.decide.specs.declared.Decided.the-variants as decided
-use Rattle.decide.specs.declared.Move.{Move}
-use Rattle.decide.specs.Decide.{entryOf, decideIn, decisionOf, offerFrom, noted, completes}
-use Rattle.decide.proofs.Moves.{opening-cases, listing-cases, offering-cases, waiting-cases, closing-cases, sending-cases, offer-cases}
-use Rattle.make.specs.Answer.{Row, served, B, N, Step}
-use Rattle.make.specs.Made.{madeOf}
+use Rattle.host_decide.specs.declared.Decided.{Decided}
+use Rattle.host_decide.specs.declared.Decided.the-variants as decided
+use Rattle.host_decide.specs.declared.Move.{Move}
+use Rattle.host_decide.specs.Decide.{entryOf, decideIn, decisionOf, offerFrom, noted, completes}
+use Rattle.host_decide.proofs.Moves.{opening-cases, listing-cases, offering-cases, waiting-cases, closing-cases, sending-cases, offer-cases}
+use Rattle.host_packet.specs.Answer.{Row, served, B, N, Step}
+use Rattle.host_packet.specs.Made.{madeOf}
 use Rattle.host.specs.Step.{entryAt, badStage, breaksN1, lastIn, stepOf, stepOn}
 use Rattle.host.specs.Inner.{innerOn, innerBy, innerOf, CursorIn, cursorAt}
 use Rattle.host.proofs.inner.IsStep.{place-inside, agrees}

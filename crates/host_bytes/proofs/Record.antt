@@ -12,7 +12,7 @@ use Rattle.wire.specs.Bytes.{Bytes, number, bytesOf, bytesAt, same}
 use Rattle.wire.proofs.Bounds.{cons-bytes, join-bytes, no-bytes, word-bytes, word-fits}
 use Rattle.wire.proofs.words.Laws.{round, back, split}
 use Rattle.wire.proofs.words.Sames.{same-refl, same-eq, same-sized}
-use Rattle.layout.specs.Layout.{countIn}
+use Rattle.bundle_layout.specs.Layout.{countIn}
 use Rattle.host_record.specs.Record.{FitsEnd, FitsHostStage, FitsHost}
 use Rattle.host.specs.Step.{breaksN1}
 use Rattle.host_record.specs.declared.record.Host.{Host}

@@ -6,10 +6,10 @@ use mathlib.Core.List.{List, [], _∷_, _++_}
 use lib.Dec.{eqb, leb, ltb}
 use lib.ListN.{length, getD, take, drop}
 use Rattle.wire.specs.Bytes.{number, bytesOf, bytesAt, same}
-use Rattle.offers.specs.Offer.{blankOffer}
-use Rattle.layout.specs.Layout.{OFFER-LIMIT}
-use Rattle.layout.specs.Rows as bundle
-use Rattle.layout.specs.declared.Entry.{Entry}
+use Rattle.wire_offer.specs.Offer.{blankOffer}
+use Rattle.bundle_layout.specs.Layout.{OFFER-LIMIT}
+use Rattle.bundle_layout.specs.Rows as bundle
+use Rattle.bundle_layout.specs.declared.Entry.{Entry}
 use Rattle.bundle.specs.Contents.{Contents}
 use Rattle.host_record.specs.Fits.{bodyOf, inHand}
 use Rattle.host_record.specs.declared.fits.Body.{Body}
@@ -19,8 +19,8 @@ use Rattle.host_record.specs.declared.record.HostStage.{HostStage}
 use Rattle.host_record.specs.declared.record.HostStage.the-variants.{Fresh, Opening, Listing, Offering, Waiting, Sending, Closing, Ended}
 use Rattle.host_record.specs.declared.record.End.{End}
 use Rattle.host_record.specs.declared.record.End.the-variants as end
-use Rattle.make.specs.Answer.{Row, served, B, N}
-use Rattle.make.specs.Made.{InnerStep}
+use Rattle.host_packet.specs.Answer.{Row, served, B, N}
+use Rattle.host_packet.specs.Made.{InnerStep}
 use Rattle.host.specs.Inner.{cursorAt}
 
 -- the length of a record

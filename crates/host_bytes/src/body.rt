@@ -1,7 +1,7 @@
 // Where a body stands and how many records it has, as twelve bytes.
 ghost use mathlib.Core.Path.{_≡_};
 ghost use Rattle.host_bytes.specs.Layout.{bodyBytes};
-use layout::Entry;
+use bundle_layout::Entry;
 use wire::words;
 
 pub(crate) fn body_bytes(e: Entry) -> [u8; 12]

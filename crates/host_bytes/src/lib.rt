@@ -12,14 +12,14 @@ use crate::body::body_bytes;
 use crate::stage::numbered;
 use crate::stage::stage_bytes;
 use crate::stage::stage_in;
+use bundle_layout::Checked;
+use bundle_layout::Entry;
+use bundle_layout::limits::OFFER_LIMIT;
+use bundle_layout::row_number;
 use host_record::fits::Body;
 use host_record::record::Host;
 use host_record::record::HostStage;
 use host_record::record::Place;
-use layout::Checked;
-use layout::Entry;
-use layout::limits::OFFER_LIMIT;
-use layout::row_number;
 use wire::words;
 
 mod stage; // stage.rt: what the host awaits, and how a session ends

@@ -4,8 +4,8 @@ use mathlib.Core.Bool.{Bool, false, _||_}
 use mathlib.Core.List.{List}
 use lib.Dec.{ltb, leb, eqb}
 use lib.ListN.{getD}
-use Rattle.layout.specs.declared.Entry.{Entry}
-use Rattle.layout.specs.Layout.{OFFER-LIMIT, blankEntry}
+use Rattle.bundle_layout.specs.declared.Entry.{Entry}
+use Rattle.bundle_layout.specs.Layout.{OFFER-LIMIT, blankEntry}
 use Rattle.bundle.specs.Contents.{Contents}
 use Rattle.host_record.specs.declared.record.Host.{Host}
 use Rattle.host_record.specs.declared.record.Turn.{Turn}

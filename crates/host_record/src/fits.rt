@@ -9,8 +9,8 @@ use crate::record::HostStage;
 use crate::record::PACKET_LIMIT;
 use crate::record::Place;
 use crate::record::Turn;
-use layout::Entry;
-use layout::limits::OFFER_LIMIT;
+use bundle_layout::Entry;
+use bundle_layout::limits::OFFER_LIMIT;
 
 // The most BUSY replies that one offer survives in one pass.
 pub const BUSY_LIMIT: u32 = 8;

@@ -1,10 +1,10 @@
 // Reads a bundle from standard input and prints what it contains, or the row that refuses it (document 01, E14).
-use layout::Entry;
-use layout::row_number;
+use bundle_layout::Entry;
+use bundle_layout::row_number;
+use bundle_report::check_input;
+use bundle_report::line_of;
 use libc::STDIN_FILENO;
 use libc::STDOUT_FILENO;
-use report::check_input;
-use report::line_of;
 
 fn print(words: &[u8]) {
     io::write_all(STDOUT_FILENO, words);

@@ -1,15 +1,15 @@
 // A firmware's main loop around the device end (document 01, "The device"). Standard input stands for the bus: a frame is a channel, a length and a packet.
-use component::record::Listed;
 use device::answer::Channel;
 use device::record::Device;
 use device::setup::set_up;
+use device_component::record::Listed;
 use firmware::serve_in_place;
 use image::region::Region;
 use image::region::StagingOffset;
 use libc::STDIN_FILENO;
-use script::buffer::read_first;
-use script::tell;
-use show::text;
+use run_print::text;
+use run_script::buffer::read_first;
+use run_script::tell;
 use wire::version::Version;
 ghost use mathlib.Core.Path.{_≡_};
 ghost use mathlib.Core.Bool.{true};
@@ -108,7 +108,7 @@ fn tell_versions(device: Device) {
     let answer = device.version_reply();
     let packet = answer.packet;
     text(b"versions ");
-    show::bytes(&packet);
+    run_print::bytes(&packet);
     text(b"\n");
 }
 
@@ -159,7 +159,12 @@ fn serve(start: Device, staging: &mut [u8], packet: &mut [u8]) {
     let mut turns: u64 = 0;
     while more & (turns < TURNS) {
         let frame = next_frame(packet);
-        turn(&mut device, staging, frame, show::first(packet, frame.len));
+        turn(
+            &mut device,
+            staging,
+            frame,
+            run_print::first(packet, frame.len),
+        );
         more = frame.whole;
         turns += 1;
     }

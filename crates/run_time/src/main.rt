@@ -1,14 +1,14 @@
 // Runs the bundle of standard input as often as its argument says, each time against the same fresh device, and prints the last report (tests/time).
-use component::record::Listed;
 use device::setup::set_up;
+use device_component::record::Listed;
 use host_record::record::End;
 use host_record::report::Progress;
 use host_record::report::Report;
 use image::region::Region;
 use image::region::StagingOffset;
 use libc::STDIN_FILENO;
-use show::decimal;
-use show::text;
+use run_print::decimal;
+use run_print::text;
 use wire::version::Version;
 
 // A decimal number with one more digit; what is no digit, or too much, is passed over.

@@ -6,7 +6,7 @@ use mathlib.Core.List.{List, []}
 use lib.Dec.{eqb}
 use lib.ListN.{length}
 use Rattle.wire.specs.Checks.{firstOf}
-use Rattle.layout.specs.Rows as rows
+use Rattle.bundle_layout.specs.Rows as rows
 use Rattle.device.specs.Refusals.{breaksD1}
 use Rattle.device.specs.declared.record.Device.{Device}
 use Rattle.update.specs.Run.{lastOf}

@@ -9,12 +9,12 @@ use borrow.Author.Tests.{eqb-true, eqb-false, eq-eqb, ne-eqb}
 use lib.Count.{ones}
 use lib.Dec.{eqb}
 use lib.ListN.{length}
-use Rattle.layout.specs.Layout.{countIn, idIn}
-use Rattle.layout.specs.Rows as bundle
+use Rattle.bundle_layout.specs.Layout.{countIn, idIn}
+use Rattle.bundle_layout.specs.Rows as bundle
 use Rattle.bundle.proofs.Accepted.{Accepted, accepted}
 use Rattle.host_record.specs.Record.{hasBit, withBit}
-use Rattle.decide.specs.Decide.{sends, ends, list, offerFrom, noted, completes, decideIn}
-use Rattle.make.specs.Answer.{Step}
+use Rattle.host_decide.specs.Decide.{sends, ends, list, offerFrom, noted, completes, decideIn}
+use Rattle.host_packet.specs.Answer.{Step}
 use Rattle.host.specs.Step.{entryAt, blocksAt, isLast, lastIn, packetOf}
 use Rattle.host_record.specs.declared.record.Host.{Host}
 use Rattle.host_record.specs.declared.record.Turn.{Turn}
@@ -22,12 +22,12 @@ use Rattle.host_record.specs.declared.record.Place.{Place}
 use Rattle.host_record.specs.declared.record.HostStage.{HostStage}
 use Rattle.host_record.specs.declared.record.HostStage.the-variants.{Fresh, Opening, Listing, Offering, Waiting, Sending, Closing, Ended}
 use Rattle.host_record.specs.declared.record.End.{End}
-use Rattle.decide.specs.declared.Action.the-variants.{Notify, Offer, Block}
-use Rattle.decide.specs.declared.Move.{Move}
+use Rattle.host_decide.specs.declared.Action.the-variants.{Notify, Offer, Block}
+use Rattle.host_decide.specs.declared.Move.{Move}
 use Rattle.update.specs.Trace as trace
 use Rattle.update.specs.Trace.{Exchange, opensPass, passesIn, completedIn}
 use Rattle.update.specs.Ends.{heardAs, talk, completedOf, Masked, HostMasks, HostCounts, HostTallies}
-use Rattle.decide.proofs.Moves.{isTaken, opening-cases, listing-cases, offering-cases, waiting-cases, closing-cases, sending-cases, offer-cases}
+use Rattle.host_decide.proofs.Moves.{isTaken, opening-cases, listing-cases, offering-cases, waiting-cases, closing-cases, sending-cases, offer-cases}
 use Rattle.update.proofs.Mask.{no-bit, with-bit, onesBelow, ones-below}
 use Rattle.update.proofs.Packets.{offer-opens, offer-completes, offer-about, block-opens, block-about, block-completes}
 use Rattle.update.proofs.Ready.{ReadyAt}

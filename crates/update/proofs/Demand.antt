@@ -7,16 +7,16 @@ use mathlib.Core.List.{List}
 use lib.Dec.{T, T-not}
 use lib.ListN.{length}
 use Rattle.wire.specs.Bytes.{Bytes}
-use Rattle.offers.specs.declared.offer.OfferFields.{OfferFields}
-use Rattle.component.specs.Record.{isPending}
-use Rattle.component.specs.declared.record.Component.{Component}
-use Rattle.component.specs.declared.list.Found.the-variants.{At}
-use Rattle.passes.specs.Sets.{Set}
-use Rattle.passes.proofs.Tests.{bool-cases, both, and-l, and-r}
-use Rattle.layout.specs.Layout.{countIn}
-use Rattle.layout.specs.Rows as rows
+use Rattle.wire_offer.specs.declared.offer.OfferFields.{OfferFields}
+use Rattle.device_component.specs.Record.{isPending}
+use Rattle.device_component.specs.declared.record.Component.{Component}
+use Rattle.device_component.specs.declared.list.Found.the-variants.{At}
+use Rattle.update_passes.specs.Sets.{Set}
+use Rattle.update_passes.proofs.Tests.{bool-cases, both, and-l, and-r}
+use Rattle.bundle_layout.specs.Layout.{countIn}
+use Rattle.bundle_layout.specs.Rows as rows
 use Rattle.bundle.proofs.Accepted.{Accepted, accepted}
-use Rattle.device.specs.Record.{find, part, toIdle}
+use Rattle.device.specs.Record.{find, component, toIdle}
 use Rattle.device.specs.declared.record.Device.{Device}
 use Rattle.host_record.specs.Record as ending
 use Rattle.host_record.specs.Record.{reportOf}
@@ -47,16 +47,16 @@ landed-eligible d b X s i l t = and-r (X i) (isEligible (toIdle d) (offerAt b i)
 
 -- staged in this run: not pending before, and pending after
 state-form : (b : List ℕ) → Accepted b → (d : Device) (X : Set) (d′ : Device) → Smallest d b X → Leaves d b X d′ → (i k : ℕ) → i < countIn b → find d (offerAt b i .id) ≡ At k
-    → T (X i) ↔ ((isPending (part d k .staged) ≡ false) × (isPending (part d′ k .staged) ≡ true))
+    → T (X i) ↔ ((isPending (component d k .staged) ≡ false) × (isPending (component d′ k .staged) ≡ true))
 state-form b α d X d′ s h i k l f = (forth, back)
   where
-    forth : T (X i) → (isPending (part d k .staged) ≡ false) × (isPending (part d′ k .staged) ≡ true)
+    forth : T (X i) → (isPending (component d k .staged) ≡ false) × (isPending (component d′ k .staged) ≡ true)
     forth t =
         let w = eligible-says d (offerAt b i) (landed-eligible d b X s i l t) in
         let e : w .slot ≡ k = same-slot (find d (offerAt b i .id)) (w .slot) k (w .here) f in
-        (subst (λ (n : ℕ). isPending (part d n .staged) ≡ false) e (rw (w .free)), ap (λ (c : Component). isPending (c .staged)) (h .members i k l t f))
+        (subst (λ (n : ℕ). isPending (component d n .staged) ≡ false) e (rw (w .free)), ap (λ (c : Component). isPending (c .staged)) (h .members i k l t f))
 
-    back : (isPending (part d k .staged) ≡ false) × (isPending (part d′ k .staged) ≡ true) → T (X i)
+    back : (isPending (component d k .staged) ≡ false) × (isPending (component d′ k .staged) ≡ true) → T (X i)
     back p =
         bool-cases (X i) (λ t. t)
         (λ t. absurd (true≢false (sym (p .1) ∙ ap (λ (c : Component). isPending (c .staged))
@@ -89,8 +89,8 @@ reordered b b′ token token′ d staging P bytes small accept π =
       accepted = accept;
       good = λ j k l f. let m : j < countIn b = rw (π .count) at l in
           let o : offerAt b (π .back j) ≡ offerAt b′ j = same-offer b′ b (flip b b′ π) j l in
-          subst (Good (part d k) (offerAt b′ j)) (same-blocks b′ b (flip b b′ π) j l)
-          (subst (λ (x : OfferFields). Good (part d k) x (blocksAt b (π .back j))) o
+          subst (Good (component d k) (offerAt b′ j)) (same-blocks b′ b (flip b b′ π) j l)
+          (subst (λ (x : OfferFields). Good (component d k) x (blocksAt b (π .back j))) o
           (P .good (π .back j) k (π .back-listed j m) (ap (λ (x : OfferFields). find d (x .id)) o ∙ f)));
     }
 

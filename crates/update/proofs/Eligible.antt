@@ -7,27 +7,27 @@ use native.Mathlib.Omega.{arith}
 use lib.Dec.{T}
 use lib.Seq.{getD-take}
 use Rattle.wire.specs.Checks.{applies}
-use Rattle.offers.specs.Offer.{fieldsIn}
-use Rattle.offers.specs.declared.offer.OfferFields.{OfferFields}
-use Rattle.component.specs.Lists.{partAt}
-use Rattle.component.specs.Record.{isPending}
-use Rattle.component.specs.Versions.{offerVersion}
-use Rattle.component.specs.declared.record.Component.{Component}
-use Rattle.component.specs.declared.record.Staged.the-variants as staged
-use Rattle.component.specs.declared.rule.VersionVerdict.the-variants.{Fits}
-use Rattle.component.specs.declared.list.Found.{Found}
-use Rattle.component.specs.declared.list.Found.the-variants as found
-use Rattle.passes.proofs.Tests.{is-false}
-use Rattle.layout.specs.Layout.{countIn, idIn}
+use Rattle.wire_offer.specs.Offer.{fieldsIn}
+use Rattle.wire_offer.specs.declared.offer.OfferFields.{OfferFields}
+use Rattle.device_component.specs.Lists.{componentAt}
+use Rattle.device_component.specs.Record.{isPending}
+use Rattle.device_component.specs.Versions.{offerVersion}
+use Rattle.device_component.specs.declared.record.Component.{Component}
+use Rattle.device_component.specs.declared.record.Staged.the-variants as staged
+use Rattle.device_component.specs.declared.rule.VersionVerdict.the-variants.{Fits}
+use Rattle.device_component.specs.declared.list.Found.{Found}
+use Rattle.device_component.specs.declared.list.Found.the-variants as found
+use Rattle.update_passes.proofs.Tests.{is-false}
+use Rattle.bundle_layout.specs.Layout.{countIn, idIn}
 use Rattle.bundle.proofs.Accepted.{Accepted}
-use Rattle.slots.specs.Slots.{slotOf, isAbsent}
-use Rattle.slots.specs.Standing.{standingOf}
-use Rattle.offering.specs.Offer as offering
-use Rattle.offering.specs.Offer.{rejectionsAt}
-use Rattle.offering.specs.Eligible.{Eligible}
-use Rattle.offering.proofs.Eligible.{eligible-is}
+use Rattle.device_slots.specs.Slots.{slotOf, isAbsent}
+use Rattle.device_slots.specs.Standing.{standingOf}
+use Rattle.device_offering.specs.Offer as offering
+use Rattle.device_offering.specs.Offer.{rejectionsAt}
+use Rattle.device_offering.specs.Eligible.{Eligible}
+use Rattle.device_offering.proofs.Eligible.{eligible-is}
 use Rattle.device.specs.Offer.{rejections, needUnmet}
-use Rattle.device.specs.Record.{find, part, toIdle, idleWith}
+use Rattle.device.specs.Record.{find, component, toIdle, idleWith}
 use Rattle.device.specs.declared.record.Device.{Device}
 use Rattle.host.specs.Step.{entryAt}
 use Rattle.update.specs.Claim.{offerAt, isEligible}
@@ -44,21 +44,21 @@ ids-apart b α i j l m e = α .ids i j l m (sym (offer-id b i) ∙ e ∙ offer-i
 
 -- a check of 2 to 7 applies, of a slot and the component there
 abbrev pub rejected : (platform : ℕ) → OfferFields → Found → Component → Bool
-rejected platform o f c = applies (rejectionsAt platform (record { at = f; part = c }) o)
+rejected platform o f c = applies (rejectionsAt platform (record { at = f; component = c }) o)
 
 -- eligible is not rejected
-pub rejected-is : (d : Device) (parts : List Component) (o : OfferFields)
-    → isEligible (idleWith d parts) o ≡ not (rejected (d .platform) o (find (idleWith d parts) (o .id)) (partAt parts (slotOf (find (idleWith d parts) (o .id)))))
+pub rejected-is : (d : Device) (components : List Component) (o : OfferFields)
+    → isEligible (idleWith d components) o ≡ not (rejected (d .platform) o (find (idleWith d components) (o .id)) (componentAt components (slotOf (find (idleWith d components) (o .id)))))
 unfolding offering.rejections
-rejected-is d parts o = refl
+rejected-is d components o = refl
 
 -- an offer that cannot be eligible is rejected
-rejects : (platform : ℕ) (o : OfferFields) (f : Found) (c : Component) → (Eligible platform (record { at = f; part = c }) o → ⊥) → rejected platform o f c ≡ true
+rejects : (platform : ℕ) (o : OfferFields) (f : Found) (c : Component) → (Eligible platform (record { at = f; component = c }) o → ⊥) → rejected platform o f c ≡ true
 rejects platform o f c h = go (rejected platform o f c) refl
   where
     go : (x : Bool) → rejected platform o f c ≡ x → rejected platform o f c ≡ true
     go true e = e
-    go false e = absurd (h (eligible-is platform (record { at = f; part = c }) o .0 e))
+    go false e = absurd (h (eligible-is platform (record { at = f; component = c }) o .0 e))
 
 -- nothing is no slot
 no-slot : (k : ℕ) → found.Nothing ≡ found.At k → ⊥
@@ -76,22 +76,22 @@ pending-rejected platform o k c h = rejects platform o (found.At k) c (λ e. tru
 pub record Fresher (d : Device) (o : OfferFields) : Type 0 where
   pub slot : ℕ
   pub here : find d (o .id) ≡ found.At slot
-  pub free : part d slot .staged ≡ staged.Nothing
-  pub newer : offerVersion (part d slot) (o .version) ≡ Fits
+  pub free : component d slot .staged ≡ staged.Nothing
+  pub newer : offerVersion (component d slot) (o .version) ≡ Fits
 
 -- the component in the slot that was found
-in-slot : (d : Device) (o : OfferFields) → Eligible (d .platform) (standingOf (o .id) (d .count) (d .parts)) o → Fresher d o
+in-slot : (d : Device) (o : OfferFields) → Eligible (d .platform) (standingOf (o .id) (d .count) (d .components)) o → Fresher d o
 in-slot d o e = record {
   slot = e .slot;
   here = e .listed;
-  free = subst (λ (f : Found). part d (slotOf f) .staged ≡ staged.Nothing) (e .listed) (e .free);
-  newer = subst (λ (f : Found). offerVersion (part d (slotOf f)) (o .version) ≡ Fits) (e .listed) (e .newer);
+  free = subst (λ (f : Found). component d (slotOf f) .staged ≡ staged.Nothing) (e .listed) (e .free);
+  newer = subst (λ (f : Found). offerVersion (component d (slotOf f)) (o .version) ≡ Fits) (e .listed) (e .newer);
 }
 
 -- what eligibility says
 pub eligible-says : (d : Device) (o : OfferFields) → T (isEligible (toIdle d) o) → Fresher d o
 unfolding offering.rejections
-eligible-says d o t = in-slot d o (eligible-is (d .platform) (standingOf (o .id) (d .count) (d .parts)) o .0 (is-false _ t))
+eligible-says d o t = in-slot d o (eligible-is (d .platform) (standingOf (o .id) (d .count) (d .components)) o .0 (is-false _ t))
 
 -- the token plays no part in checks 2 to 7
 pub token-rejections : (d : Device) (o : OfferFields) (token : ℕ) → applies (rejections d (withToken o token)) ≡ applies (rejections d o)

@@ -6,19 +6,19 @@ use mathlib.Core.Bool.{Bool, true, false, false≢true}
 use mathlib.Core.List.{List}
 use Prim.Native.Nat.{ℕ, zero, suc, _+_, _<_}
 use native.Mathlib.Omega.{arith}
-use Rattle.layout.specs.Layout.{countIn}
-use Rattle.layout.specs.Rows as bundle
+use Rattle.bundle_layout.specs.Layout.{countIn}
+use Rattle.bundle_layout.specs.Rows as bundle
 use Rattle.bundle.proofs.Accepted.{Accepted, accepted}
 use Rattle.host_record.specs.Record.{hasEnded}
-use Rattle.decide.specs.Decide.{decideIn, decideOf}
-use Rattle.make.specs.Answer.{Step}
+use Rattle.host_decide.specs.Decide.{decideIn, decideOf}
+use Rattle.host_packet.specs.Answer.{Step}
 use Rattle.host.specs.Step.{lastIn, moved, stepOf}
 use Rattle.host_record.specs.declared.record.Host.{Host}
 use Rattle.host_record.specs.declared.record.HostStage.{HostStage}
 use Rattle.host_record.specs.declared.record.HostStage.the-variants.{Fresh, Opening, Listing, Offering, Waiting, Sending, Closing, Ended}
 use Rattle.host_record.specs.declared.record.End.{End}
-use Rattle.decide.specs.declared.Move.{Move}
-use Rattle.decide.specs.declared.Action.the-variants.{Nothing}
+use Rattle.host_decide.specs.declared.Move.{Move}
+use Rattle.host_decide.specs.declared.Action.the-variants.{Nothing}
 use Rattle.update.specs.Run.{boundOf}
 use Rattle.update.specs.Ends.{talk, AllBuilt, HostEnds}
 use Rattle.update.proofs.Packets.{all-built}

@@ -2,10 +2,10 @@
 use mathlib.Core.List.{List, [], _∷_}
 use Prim.Native.Nat.{ℕ, zero, suc, _<_, _^_}
 use native.Mathlib.Omega.{arith}
-use Rattle.component.specs.Record.{FitsComponent, FitsStaged, blankComponent}
-use Rattle.component.specs.Lists.{partAt}
-use Rattle.component.specs.declared.record.Component.{Component}
-use Rattle.component.specs.declared.record.Staged.{Staged}
+use Rattle.device_component.specs.Record.{FitsComponent, FitsStaged, blankComponent}
+use Rattle.device_component.specs.Lists.{componentAt}
+use Rattle.device_component.specs.declared.record.Component.{Component}
+use Rattle.device_component.specs.declared.record.Staged.{Staged}
 
 -- each of a list fits, and so does what stands past its end
 abbrev pub AllFit : List Component → Type 0
@@ -15,12 +15,12 @@ AllFit (c ∷ cs) = FitsComponent c × AllFit cs
 pub blank-fits : FitsComponent blankComponent
 blank-fits = record { id = omega arith; running = omega arith; region = record { base = omega arith; len = omega arith }; staged = tt }
 
-pub all-fit : (cs : List Component) → AllFit cs → (k : ℕ) → FitsComponent (partAt cs k)
+pub all-fit : (cs : List Component) → AllFit cs → (k : ℕ) → FitsComponent (componentAt cs k)
 all-fit [] h k = blank-fits
 all-fit (c ∷ cs) h zero = h .0
 all-fit (c ∷ cs) h (suc k) = all-fit cs (h .1) k
 
 -- a component by its parts
-pub part-fits : (id running base len : ℕ) (staged : Staged) → id < 256 → running < 256 ^ 4 → base < 256 ^ 4 → len < 256 ^ 4 → FitsStaged staged
+pub component-fits : (id running base len : ℕ) (staged : Staged) → id < 256 → running < 256 ^ 4 → base < 256 ^ 4 → len < 256 ^ 4 → FitsStaged staged
     → FitsComponent (record { id = id; running = record { 0 = running }; region = record { base = record { 0 = base }; len = len }; staged = staged })
-part-fits id running base len staged i r b l s = record { id = i; running = r; region = record { base = b; len = l }; staged = s }
+component-fits id running base len staged i r b l s = record { id = i; running = r; region = record { base = b; len = l }; staged = s }

@@ -10,14 +10,14 @@ use borrow.Author.Tests.{leb-true, eqb-true}
 use lib.Dec.{leb, eqb}
 use lib.ListN.{length}
 use Rattle.wire.proofs.Tests.{both}
-use Rattle.offers.specs.declared.offer.OfferFields.{OfferFields}
-use Rattle.records.specs.Record.{Block}
+use Rattle.wire_offer.specs.declared.offer.OfferFields.{OfferFields}
+use Rattle.bundle_records.specs.Record.{Block}
 use Rattle.image.specs.Judge.{isRight, imageId, imageVersion}
-use Rattle.component.specs.declared.record.Component.{Component}
-use Rattle.component.specs.declared.list.Found.{Found}
-use Rattle.component.specs.declared.list.Found.the-variants.{Nothing, At}
-use Rattle.layout.specs.Layout.{countIn}
-use Rattle.device.specs.Record.{find, part}
+use Rattle.device_component.specs.declared.record.Component.{Component}
+use Rattle.device_component.specs.declared.list.Found.{Found}
+use Rattle.device_component.specs.declared.list.Found.the-variants.{Nothing, At}
+use Rattle.bundle_layout.specs.Layout.{countIn}
+use Rattle.device.specs.Record.{find, component}
 use Rattle.device.specs.declared.record.Device.{Device}
 use Rattle.host.specs.Step.{blocksAt}
 use Rattle.update.specs.Claim.{imageOf, Inside, Good, offerAt}
@@ -56,7 +56,7 @@ good-of c o rs h =
 -- the body of an entry is good, where the device has its component
 abbrev pub goodIn : (b : List ℕ) → Device → ℕ → Found → Bool
 goodIn b d i Nothing = true
-goodIn b d i (At k) = goodTest (part d k) (offerAt b i) (blocksAt b i)
+goodIn b d i (At k) = goodTest (component d k) (offerAt b i) (blocksAt b i)
 
 -- so is that of each of the first n entries
 abbrev pub allGood : (b : List ℕ) → Device → (n : ℕ) → Bool
@@ -74,5 +74,5 @@ one-good b d (suc n) i h l = go (ℕ-discrete i n) (both (goodIn b d n (find d (
 
 -- every body of a bundle is good, by the test
 pub bodies-good : (b : List ℕ) (d : Device) → allGood b d (countIn b) ≡ true
-    → (i k : ℕ) → i < countIn b → find d (offerAt b i .id) ≡ At k → Good (part d k) (offerAt b i) (blocksAt b i)
-bodies-good b d h i k l e = good-of (part d k) (offerAt b i) (blocksAt b i) (rw e at (one-good b d (countIn b) i h l))
+    → (i k : ℕ) → i < countIn b → find d (offerAt b i .id) ≡ At k → Good (component d k) (offerAt b i) (blocksAt b i)
+bodies-good b d h i k l e = good-of (component d k) (offerAt b i) (blocksAt b i) (rw e at (one-good b d (countIn b) i h l))

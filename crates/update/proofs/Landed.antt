@@ -11,27 +11,27 @@ use lib.Dec.{T, T-not, not-T, ltb, leb, eqb, eqb-refl, eqb→eq, leb→le, le→
 use lib.ListN.{length, set, length-set}
 use lib.Seq.{getD-set-same, getD-set-other, map-set-same}
 use Rattle.wire.specs.Version.{releaseOf}
-use Rattle.offers.specs.declared.offer.OfferFields.{OfferFields}
-use Rattle.component.specs.Lists.{partAt}
-use Rattle.component.specs.Record.{isPending, withStaged, blankComponent}
-use Rattle.component.specs.Versions.{imageVersionFits}
-use Rattle.component.specs.declared.record.Component.{Component}
-use Rattle.component.specs.declared.record.Staged.the-variants as staged
-use Rattle.component.specs.declared.list.Found.{Found}
-use Rattle.component.specs.declared.list.Found.the-variants as found
-use Rattle.component.proofs.list.Laws.{find-at, find-same}
-use Rattle.component.proofs.rule.Laws.{offer-release}
-use Rattle.passes.specs.Sets.{Set, In, ins, none, from, some}
-use Rattle.passes.specs.Passes.{Offers, needMet}
-use Rattle.passes.proofs.Tests.{bool-cases, or-inl, or-inr, or-cases, both, and-l, and-r, is-true, holds, fails, T-ext, and-false}
-use Rattle.passes.proofs.Sets.{ins-old, ins-new, in-from, from-in, some-out, some-in}
-use Rattle.layout.specs.Layout.{countIn}
+use Rattle.wire_offer.specs.declared.offer.OfferFields.{OfferFields}
+use Rattle.device_component.specs.Lists.{componentAt}
+use Rattle.device_component.specs.Record.{isPending, withStaged, blankComponent}
+use Rattle.device_component.specs.Versions.{imageVersionFits}
+use Rattle.device_component.specs.declared.record.Component.{Component}
+use Rattle.device_component.specs.declared.record.Staged.the-variants as staged
+use Rattle.device_component.specs.declared.list.Found.{Found}
+use Rattle.device_component.specs.declared.list.Found.the-variants as found
+use Rattle.device_component.proofs.list.Laws.{find-at, find-same}
+use Rattle.device_component.proofs.rule.Laws.{offer-release}
+use Rattle.update_passes.specs.Sets.{Set, In, ins, none, from, some}
+use Rattle.update_passes.specs.Passes.{Offers, needMet}
+use Rattle.update_passes.proofs.Tests.{bool-cases, or-inl, or-inr, or-cases, both, and-l, and-r, is-true, holds, fails, T-ext, and-false}
+use Rattle.update_passes.proofs.Sets.{ins-old, ins-new, in-from, from-in, some-out, some-in}
+use Rattle.bundle_layout.specs.Layout.{countIn}
 use Rattle.bundle.proofs.Accepted.{Accepted}
-use Rattle.slots.specs.Slots.{slotOf, isAbsent}
-use Rattle.offering.specs.Offer as offering
-use Rattle.offering.specs.Offer.{below}
+use Rattle.device_slots.specs.Slots.{slotOf, isAbsent}
+use Rattle.device_offering.specs.Offer as offering
+use Rattle.device_offering.specs.Offer.{below}
 use Rattle.device.specs.Offer.{needUnmet}
-use Rattle.device.specs.Record.{find, part, toIdle, idleWith}
+use Rattle.device.specs.Record.{find, component, toIdle, idleWith}
 use Rattle.device.specs.Refusals.{breaksD1}
 use Rattle.device.specs.declared.record.Device.{Device}
 use Rattle.device.proofs.Opened.{staged-passes}
@@ -103,8 +103,8 @@ module _ (b : List ℕ) (α : Accepted b) (d : Device) where
       for j = S j && isSlot (find d (offerAt b j .id)) k
 
   -- what is found of an offer's component
-  pub at-slot : (i k : ℕ) → find d (offerAt b i .id) ≡ found.At k → (k < d .count) × (k < length (d .parts)) × (part d k .id ≡ offerAt b i .id)
-  at-slot i k e = find-at (offerAt b i .id) (d .count) (d .parts) k e
+  pub at-slot : (i k : ℕ) → find d (offerAt b i .id) ≡ found.At k → (k < d .count) × (k < length (d .components)) × (component d k .id ≡ offerAt b i .id)
+  at-slot i k e = find-at (offerAt b i .id) (d .count) (d .components) k e
 
   -- two offers for one slot are one
   pub one-offer : (i j k : ℕ) → i < countIn b → j < countIn b → find d (offerAt b i .id) ≡ found.At k → find d (offerAt b j .id) ≡ found.At k → i ≡ j
@@ -112,20 +112,20 @@ module _ (b : List ℕ) (α : Accepted b) (d : Device) where
 
   -- the components of a device on which a set has landed
   pub record Holding (S : Set) (ps : List Component) : Type 0 where
-    pub slots : length ps ≡ length (d .parts)
-    pub ids : map (λ c. c .id) ps ≡ map (λ c. c .id) (d .parts)
-    pub members : (i k : ℕ) → i < countIn b → T (S i) → find d (offerAt b i .id) ≡ found.At k → partAt ps k ≡ withStaged (part d k) (offerAt b i .version)
-    pub others : (k : ℕ) → Spared d b S k → partAt ps k ≡ part d k
+    pub slots : length ps ≡ length (d .components)
+    pub ids : map (λ c. c .id) ps ≡ map (λ c. c .id) (d .components)
+    pub members : (i k : ℕ) → i < countIn b → T (S i) → find d (offerAt b i .id) ≡ found.At k → componentAt ps k ≡ withStaged (component d k) (offerAt b i .version)
+    pub others : (k : ℕ) → Spared d b S k → componentAt ps k ≡ component d k
     pub d1 : breaksD1 (idleWith d ps) ≡ false
 
   -- at the start
-  pub holding-none : breaksD1 (toIdle d) ≡ false → Holding none (d .parts)
+  pub holding-none : breaksD1 (toIdle d) ≡ false → Holding none (d .components)
   holding-none h = record { slots = refl; ids = refl; members = λ i k l m. absurd m; others = λ k s. refl; d1 = h }
 
   module _ (S : Set) (ps : List Component) (h : Holding S ps) where
     -- ids have not changed
     pub same-find : (id : ℕ) → find (idleWith d ps) id ≡ find d id
-    same-find id = find-same id (d .count) ps (d .parts) (h .ids)
+    same-find id = find-same id (d .count) ps (d .components) (h .ids)
 
     module _ (e : ℕ) (l : e < countIn b) where
       -- the slot of an offer that has not landed is spared
@@ -134,8 +134,8 @@ module _ (b : List ℕ) (α : Accepted b) (d : Device) where
 
       -- one landing more
       pub holding-more : (k : ℕ) → S e ≡ false → find d (offerAt b e .id) ≡ found.At k
-          → imageVersionFits (part d k) (offerAt b e .version) ≡ true
-          → Holding (ins S e) (set ps k (withStaged (partAt ps k) (offerAt b e .version)))
+          → imageVersionFits (component d k) (offerAt b e .version) ≡ true
+          → Holding (ins S e) (set ps k (withStaged (componentAt ps k) (offerAt b e .version)))
       holding-more k out f new =
           record {
             slots = length-set ps k _ ∙ h .slots;
@@ -145,11 +145,11 @@ module _ (b : List ℕ) (α : Accepted b) (d : Device) where
             d1 = staged-passes d ps k (at-slot e k f .0) (h .d1) (offerAt b e .version) (rw was new);
           }
         where
-          was : partAt ps k ≡ part d k
+          was : componentAt ps k ≡ component d k
           was = h .others k (spared k out f)
 
           by : (i j : ℕ) → i < countIn b → T (ins S e i) → find d (offerAt b i .id) ≡ found.At j → Dec (i ≡ e)
-              → partAt (set ps k (withStaged (partAt ps k) (offerAt b e .version))) j ≡ withStaged (part d j) (offerAt b i .version)
+              → componentAt (set ps k (withStaged (componentAt ps k) (offerAt b e .version))) j ≡ withStaged (component d j) (offerAt b i .version)
           by i j m t g (yes q) =
               let z : j ≡ k = same-slot (find d (offerAt b e .id)) j k (subst (λ (n : ℕ). find d (offerAt b n .id) ≡ found.At j) q g) f in
               rw (q, z) (getD-set-same ps k _ blankComponent (omega (arith, at-slot e k f .1, h .slots)) ∙ ap (λ (c : Component). withStaged c (offerAt b e .version)) was)
@@ -160,19 +160,19 @@ module _ (b : List ℕ) (α : Accepted b) (d : Device) where
       -- L8: an offer is eligible where it was at the start and has not landed
       pub eligible-now : isEligible (idleWith d ps) (offerAt b e) ≡ (not (S e) && isEligible (toIdle d) (offerAt b e))
       eligible-now =
-          rejected-is d ps o ∙ ap (λ (f : Found). not (rejected (d .platform) o f (partAt ps (slotOf f)))) (same-find (o .id))
+          rejected-is d ps o ∙ ap (λ (f : Found). not (rejected (d .platform) o f (componentAt ps (slotOf f)))) (same-find (o .id))
           ∙ go (find d (o .id)) refl (S e) refl
-          ∙ ap (λ (x : Bool). not (S e) && x) (sym (rejected-is d (d .parts) o))
+          ∙ ap (λ (x : Bool). not (S e) && x) (sym (rejected-is d (d .components) o))
         where
           -- the offer
           o : OfferFields
           o = offerAt b e
 
           go : (f : Found) → find d (o .id) ≡ f → (x : Bool) → S e ≡ x
-              → not (rejected (d .platform) o f (partAt ps (slotOf f))) ≡ (not (S e) && not (rejected (d .platform) o f (part d (slotOf f))))
-          go found.Nothing f x z = rw (absent-rejected (d .platform) o (partAt ps 0), absent-rejected (d .platform) o (part d 0)) (sym (and-false (not (S e))))
+              → not (rejected (d .platform) o f (componentAt ps (slotOf f))) ≡ (not (S e) && not (rejected (d .platform) o f (component d (slotOf f))))
+          go found.Nothing f x z = rw (absent-rejected (d .platform) o (componentAt ps 0), absent-rejected (d .platform) o (component d 0)) (sym (and-false (not (S e))))
           go (found.At k) f true z =
-              rw (pending-rejected (d .platform) o k (partAt ps k) (ap (λ (c : Component). isPending (c .staged)) (h .members e k l (holds (S e) z) f)), z)
+              rw (pending-rejected (d .platform) o k (componentAt ps k) (ap (λ (c : Component). isPending (c .staged)) (h .members e k l (holds (S e) z) f)), z)
           go (found.At k) f false z = rw (h .others k (spared k z f), z)
 
       -- a member that meets the need
@@ -211,7 +211,7 @@ module _ (b : List ℕ) (α : Accepted b) (d : Device) where
 
         -- L9: where there is a need, the two ways to meet it agree
         meets-slot : (f : Found) → find d (o .need) ≡ f → eqb (o .need) 0 ≡ false
-            → not (isAbsent f || below (partAt ps (slotOf f)) (o .least)) ≡ (not (isAbsent f || below (part d (slotOf f)) (o .least)) || some os fed)
+            → not (isAbsent f || below (componentAt ps (slotOf f)) (o .least)) ≡ (not (isAbsent f || below (component d (slotOf f)) (o .least)) || some os fed)
         meets-slot found.Nothing g z =
             sym (fails (some os fed)
             (λ t. let x = some-out os fed t in let y = feeding (x .j) (x .has) in let w = fed-slot (x .j) (below-count b (x .j) (x .listed)) y in
@@ -222,16 +222,16 @@ module _ (b : List ℕ) (α : Accepted b) (d : Device) where
         meets-slot (found.At k) g z = go (decide S k)
           where
             was : Bool
-            was = not (below (part d k) (o .least))
+            was = not (below (component d k) (o .least))
 
-            its-id : part d k .id ≡ o .need
-            its-id = find-at (o .need) (d .count) (d .parts) k g .2
+            its-id : component d k .id ≡ o .need
+            its-id = find-at (o .need) (d .count) (d .components) k g .2
 
             -- a member that feeds is for slot k
             fed-here : (j : ℕ) → j < countIn b → (y : Feeding j) → find d (offerAt b j .id) ≡ found.At k
             fed-here j m y = ap (find d) (y .for) ∙ g
 
-            go : Source S k ⊎ Spared d b S k → not (below (partAt ps k) (o .least)) ≡ (not (below (part d k) (o .least)) || some os fed)
+            go : Source S k ⊎ Spared d b S k → not (below (componentAt ps k) (o .least)) ≡ (not (below (component d k) (o .least)) || some os fed)
             go (inr s) =
                 rw (h .others k s)
                 (T-ext was (was || some os fed) (or-inl was (some os fed))
@@ -253,11 +253,11 @@ module _ (b : List ℕ) (α : Accepted b) (d : Device) where
                 here : w .slot ≡ k
                 here = same-slot (find d (offerAt b (x .j) .id)) (w .slot) k (w .here) (x .here)
 
-                free : part d k .staged ≡ staged.Nothing
-                free = subst (λ (n : ℕ). part d n .staged ≡ staged.Nothing) here (w .free)
+                free : component d k .staged ≡ staged.Nothing
+                free = subst (λ (n : ℕ). component d n .staged ≡ staged.Nothing) here (w .free)
 
-                older : releaseOf (part d k .running) ≤ releaseOf (offerAt b (x .j) .version)
-                older = subst (λ (n : ℕ). releaseOf (part d n .running) ≤ releaseOf (offerAt b (x .j) .version)) here (offer-release (part d (w .slot)) (offerAt b (x .j) .version) (w .newer))
+                older : releaseOf (component d k .running) ≤ releaseOf (offerAt b (x .j) .version)
+                older = subst (λ (n : ℕ). releaseOf (component d n .running) ≤ releaseOf (offerAt b (x .j) .version)) here (offer-release (component d (w .slot)) (offerAt b (x .j) .version) (w .newer))
 
                 other : eqb (x .j) e ≡ false
                 other = fails (eqb (x .j) e) (λ t. true≢false (sym (is-true (S (x .j)) (x .member)) ∙ ap S (eqb→eq (x .j) e t) ∙ out))
@@ -270,9 +270,9 @@ module _ (b : List ℕ) (α : Accepted b) (d : Device) where
                     (holds _ (eq-eqb (offerAt b (x .j) .id) (o .need) (sym (at-slot (x .j) k (x .here) .2) ∙ its-id)))
                     (le→leb (o .least) (releaseOf (offerAt b (x .j) .version)) c)))
 
-                stays : T (not (below (part d k) (o .least))) → T (not (ltb (releaseOf (offerAt b (x .j) .version)) (o .least)))
+                stays : T (not (below (component d k) (o .least))) → T (not (ltb (releaseOf (offerAt b (x .j) .version)) (o .least)))
                 stays t =
-                    let a : o .least ≤ releaseOf (part d k .running) = nltb→le (releaseOf (part d k .running)) (o .least) (rw free at t) in
+                    let a : o .least ≤ releaseOf (component d k .running) = nltb→le (releaseOf (component d k .running)) (o .least) (rw free at t) in
                     at-least (releaseOf (offerAt b (x .j) .version)) (o .least) (omega (arith, older))
 
         -- the need, as the device judges it
@@ -281,11 +281,11 @@ module _ (b : List ℕ) (α : Accepted b) (d : Device) where
         meets-now = go (eqb (o .need) 0) refl
           where
             go : (x : Bool) → eqb (o .need) 0 ≡ x
-                → not (not (eqb (o .need) 0) && (isAbsent (find (idleWith d ps) (o .need)) || below (partAt ps (slotOf (find (idleWith d ps) (o .need)))) (o .least)))
-                ≡ (not (not (eqb (o .need) 0) && (isAbsent (find d (o .need)) || below (part d (slotOf (find d (o .need)))) (o .least))) || some os fed)
+                → not (not (eqb (o .need) 0) && (isAbsent (find (idleWith d ps) (o .need)) || below (componentAt ps (slotOf (find (idleWith d ps) (o .need)))) (o .least)))
+                ≡ (not (not (eqb (o .need) 0) && (isAbsent (find d (o .need)) || below (component d (slotOf (find d (o .need)))) (o .least))) || some os fed)
             go true z = rw z
             go false z =
-                ap (λ (x : Bool). not (not x && (isAbsent (find (idleWith d ps) (o .need)) || below (partAt ps (slotOf (find (idleWith d ps) (o .need)))) (o .least)))) z
-                ∙ ap (λ (f : Found). not (isAbsent f || below (partAt ps (slotOf f)) (o .least))) (same-find (o .need))
+                ap (λ (x : Bool). not (not x && (isAbsent (find (idleWith d ps) (o .need)) || below (componentAt ps (slotOf (find (idleWith d ps) (o .need)))) (o .least)))) z
+                ∙ ap (λ (f : Found). not (isAbsent f || below (componentAt ps (slotOf f)) (o .least))) (same-find (o .need))
                 ∙ meets-slot (find d (o .need)) refl z
-                ∙ ap (λ (x : Bool). not (not x && (isAbsent (find d (o .need)) || below (part d (slotOf (find d (o .need)))) (o .least))) || some os fed) (sym z)
+                ∙ ap (λ (x : Bool). not (not x && (isAbsent (find d (o .need)) || below (component d (slotOf (find d (o .need)))) (o .least))) || some os fed) (sym z)

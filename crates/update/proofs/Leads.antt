@@ -6,14 +6,14 @@ use native.Mathlib.Nat.{zero-add, suc-add, not-suc-le-zero, le-of-suc-le-suc}
 use native.Mathlib.Decide.{decLt}
 use native.Mathlib.Omega.{arith}
 use lib.ListN.{length, length-append}
-use Rattle.layout.specs.Layout.{countIn}
+use Rattle.bundle_layout.specs.Layout.{countIn}
 use Rattle.device.specs.Entries.{serveStaging}
 use Rattle.device.proofs.Calls.{answeredWith}
 use Rattle.device.specs.declared.record.Device.{Device}
-use Rattle.session.specs.declared.owed.Owed.the-variants as owed
+use Rattle.device_session.specs.declared.owed.Owed.the-variants as owed
 use Rattle.device.proofs.Calls.{Answered}
-use Rattle.decide.specs.Decide.{decideOf}
-use Rattle.make.specs.Answer.{Step}
+use Rattle.host_decide.specs.Decide.{decideOf}
+use Rattle.host_packet.specs.Answer.{Step}
 use Rattle.host.specs.Step.{lastIn, moved}
 use Rattle.host_record.specs.declared.record.Host.{Host}
 use Rattle.update.specs.Trace.{Exchange}

@@ -5,17 +5,17 @@ use mathlib.Core.Logic.{_⊎_, inl, inr}
 use mathlib.Core.List.{List}
 use lib.Dec.{T}
 use lib.Seq.{ext-getD}
-use Rattle.offers.specs.Offer.{fieldsIn}
-use Rattle.offers.specs.declared.offer.OfferFields.{OfferFields}
-use Rattle.records.specs.Parse.{recordsOf, blocksOf}
-use Rattle.component.specs.Lists.{partAt}
-use Rattle.component.specs.Record.{blankComponent, withStaged}
-use Rattle.component.specs.declared.list.Found.the-variants.{At}
-use Rattle.passes.specs.Sets.{Set}
-use Rattle.passes.proofs.Tests.{T-ext}
-use Rattle.layout.specs.Layout.{countIn, offerIn, bodyIn}
+use Rattle.wire_offer.specs.Offer.{fieldsIn}
+use Rattle.wire_offer.specs.declared.offer.OfferFields.{OfferFields}
+use Rattle.bundle_records.specs.Parse.{recordsOf, blocksOf}
+use Rattle.device_component.specs.Lists.{componentAt}
+use Rattle.device_component.specs.Record.{blankComponent, withStaged}
+use Rattle.device_component.specs.declared.list.Found.the-variants.{At}
+use Rattle.update_passes.specs.Sets.{Set}
+use Rattle.update_passes.proofs.Tests.{T-ext}
+use Rattle.bundle_layout.specs.Layout.{countIn, offerIn, bodyIn}
 use Rattle.bundle.proofs.Accepted.{Accepted}
-use Rattle.device.specs.Record.{find, part, toIdle, idleWith}
+use Rattle.device.specs.Record.{find, component, toIdle, idleWith}
 use Rattle.device.specs.declared.record.Device.{Device}
 use Rattle.host.specs.Step.{entryAt, blocksAt}
 use Rattle.update.specs.Claim.{offerAt, imageOf, isEligible, isMet, feeds, Fed, Closed, Smallest, Spared, Leaves, Fills}
@@ -99,7 +99,7 @@ module _ (b b′ : List ℕ) (π : Reordered b b′) (d : Device) (X X′ : Set)
         slots = h .slots;
         members = λ i k l t f.
             h .members (π .to i) k (rw (π .count) (π .to-listed i l)) (there i l t) (finds i k l f)
-            ∙ ap (λ (o : OfferFields). withStaged (part d k) (o .version)) (same-offer b b′ π i l);
+            ∙ ap (λ (o : OfferFields). withStaged (component d k) (o .version)) (same-offer b b′ π i l);
         others = λ k s. h .others k (λ j l t f. let m : j < countIn b = rw (π .count) at l in s (π .back j) (π .back-listed j m) (here j m t) (finds-back j k m f));
       }
 
@@ -110,15 +110,15 @@ module _ (b b′ : List ℕ) (π : Reordered b b′) (d : Device) (X X′ : Set)
         long = h .long;
         images = λ i k l t f.
             h .images (π .to i) k (rw (π .count) (π .to-listed i l)) (there i l t) (finds i k l f)
-            ∙ ap (imageOf (part d k .region .len)) (same-blocks b b′ π i l);
+            ∙ ap (imageOf (component d k .region .len)) (same-blocks b b′ π i l);
         rest = λ j u. h .rest j (λ i k l t f. let m : i < countIn b = rw (π .count) at l in u (π .back i) k (π .back-listed i m) (here i m t) (finds-back i k m f));
       }
 
 -- the set decides the device
 pub leaves-same : (b : List ℕ) → Accepted b → (d : Device) (X : Set) (d′ d″ : Device) → Leaves d b X d′ → Leaves d b X d″ → d′ ≡ d″
 leaves-same b α d X d′ d″ h h′ =
-    h .same ∙ ap (idleWith d) (ext-getD blankComponent (d′ .parts) (d″ .parts) (h .slots ∙ sym (h′ .slots)) (λ k l. at k (decide b α d X k))) ∙ sym (h′ .same)
+    h .same ∙ ap (idleWith d) (ext-getD blankComponent (d′ .components) (d″ .components) (h .slots ∙ sym (h′ .slots)) (λ k l. at k (decide b α d X k))) ∙ sym (h′ .same)
   where
-    at : (k : ℕ) → Source b α d X k ⊎ Spared d b X k → partAt (d′ .parts) k ≡ partAt (d″ .parts) k
+    at : (k : ℕ) → Source b α d X k ⊎ Spared d b X k → componentAt (d′ .components) k ≡ componentAt (d″ .components) k
     at k (inl x) = h .members (x .j) k (x .listed) (x .member) (x .here) ∙ sym (h′ .members (x .j) k (x .listed) (x .member) (x .here))
     at k (inr s) = h .others k s ∙ sym (h′ .others k s)

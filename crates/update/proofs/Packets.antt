@@ -14,21 +14,21 @@ use Rattle.wire.specs.Codes.{KIND-INFORMATION, KIND-EXTENDED}
 use Rattle.wire.specs.Rows as packet
 use Rattle.wire.specs.Rows.{Told}
 use Rattle.wire.proofs.words.Laws.{round, split}
-use Rattle.offers.specs.Offer as offer
-use Rattle.offers.proofs.offer.Laws.{read-allowed, fields-bytes}
-use Rattle.contents.specs.Content as content
-use Rattle.contents.specs.declared.content.ContentFields.{ContentFields}
-use Rattle.layout.specs.Layout.{countIn, offerIn, idIn}
+use Rattle.wire_offer.specs.Offer as offer
+use Rattle.wire_offer.proofs.offer.Laws.{read-allowed, fields-bytes}
+use Rattle.wire_content.specs.Content as content
+use Rattle.wire_content.specs.declared.content.ContentFields.{ContentFields}
+use Rattle.bundle_layout.specs.Layout.{countIn, offerIn, idIn}
 use Rattle.bundle.proofs.Accepted.{Accepted, take-bytes}
 use Rattle.host_record.specs.Record.{sequenceOf}
 use Rattle.host.specs.Step.{entryAt, blocksAt, isLast, noBlock, blockAt, blockPacket, packetOf}
 use Rattle.host_record.specs.declared.record.Place.{Place}
-use Rattle.decide.specs.declared.Action.{Action}
-use Rattle.decide.specs.declared.Action.the-variants.{Nothing, Information, Notify, Offer, Block}
+use Rattle.host_decide.specs.declared.Action.{Action}
+use Rattle.host_decide.specs.declared.Action.the-variants.{Nothing, Information, Notify, Offer, Block}
 use Rattle.update.specs.Trace.{opensPass, about, completes}
 use Rattle.update.specs.Ends.{Built, anInformation, anExtended, anOffer, aContent, AllBuilt}
-use Rattle.decide.proofs.Moves.{isTaken}
-use Rattle.make.proofs.Flags.{flags-sound, flags-last}
+use Rattle.host_decide.proofs.Moves.{isTaken}
+use Rattle.host_packet.proofs.Flags.{flags-sound, flags-last}
 
 -- an action that the bundle has the bytes for
 abbrev pub Has : (b : List ℕ) → Action → Type 0

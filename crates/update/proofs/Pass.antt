@@ -9,29 +9,29 @@ use lib.ListN.{length, set, length-append}
 use Rattle.wire.specs.Checks.{applies}
 use Rattle.wire.specs.Codes.{OFFER-SKIP, OFFER-ACCEPT, OFFER-REJECT}
 use Rattle.image.specs.Region.{within}
-use Rattle.component.specs.Lists.{partAt}
-use Rattle.component.specs.Record.{isPending, withStaged}
-use Rattle.component.specs.Setup.{setupVerdict}
-use Rattle.component.specs.Versions.{offerVersion}
-use Rattle.component.specs.declared.record.Component.{Component}
-use Rattle.component.specs.declared.rule.VersionVerdict.the-variants.{Fits}
-use Rattle.component.specs.declared.setup.SetupVerdict.the-variants.{Fine}
-use Rattle.component.specs.declared.list.Found.the-variants as found
-use Rattle.component.proofs.rule.Laws.{offer-image}
-use Rattle.passes.specs.Sets.{Set, ins, from}
-use Rattle.passes.specs.Passes.{Pass, answered, passOver}
-use Rattle.passes.proofs.Tests.{or-cases, holds}
-use Rattle.passes.proofs.Pass.{answer-cases}
-use Rattle.layout.specs.Layout.{countIn}
+use Rattle.device_component.specs.Lists.{componentAt}
+use Rattle.device_component.specs.Record.{isPending, withStaged}
+use Rattle.device_component.specs.Setup.{setupVerdict}
+use Rattle.device_component.specs.Versions.{offerVersion}
+use Rattle.device_component.specs.declared.record.Component.{Component}
+use Rattle.device_component.specs.declared.rule.VersionVerdict.the-variants.{Fits}
+use Rattle.device_component.specs.declared.setup.SetupVerdict.the-variants.{Fine}
+use Rattle.device_component.specs.declared.list.Found.the-variants as found
+use Rattle.device_component.proofs.rule.Laws.{offer-image}
+use Rattle.update_passes.specs.Sets.{Set, ins, from}
+use Rattle.update_passes.specs.Passes.{Pass, answered, passOver}
+use Rattle.update_passes.proofs.Tests.{or-cases, holds}
+use Rattle.update_passes.proofs.Pass.{answer-cases}
+use Rattle.bundle_layout.specs.Layout.{countIn}
 use Rattle.bundle.proofs.Accepted.{Accepted}
 use Rattle.device.specs.Offer.{rejections, needUnmet}
-use Rattle.device.specs.Record.{find, part, toIdle, idleWith}
+use Rattle.device.specs.Record.{find, component, toIdle, idleWith}
 use Rattle.device.specs.Refusals.{breaksD1}
-use Rattle.offering.specs.declared.verdict.OfferVerdict.{OfferVerdict}
-use Rattle.offering.specs.declared.verdict.OfferVerdict.the-variants.{Busy, Reject, Skip, Accept}
+use Rattle.device_offering.specs.declared.verdict.OfferVerdict.{OfferVerdict}
+use Rattle.device_offering.specs.declared.verdict.OfferVerdict.the-variants.{Busy, Reject, Skip, Accept}
 use Rattle.device.specs.declared.record.Device.{Device}
 use Rattle.device.proofs.Calls.{Sound}
-use Rattle.offering.proofs.checks.Laws.{Ruling, rules}
+use Rattle.device_offering.proofs.checks.Laws.{Ruling, rules}
 use Rattle.device.proofs.Offering.{offerVerdict}
 use Rattle.device.proofs.Opened.{open-passes}
 use Rattle.host_record.specs.Record.{hasBit, withBit}
@@ -53,12 +53,12 @@ use Rattle.update.proofs.Filled.{image-length, region-inside, fills-mor
 pub record Given (b : List ℕ) (t : ℕ) (d : Device) (s : List ℕ) : Type 0 where
   pub small : t < 256
   pub accepted : Accepted b
-  pub slots : length (d .parts) ≡ 7
-  pub fine : setupVerdict (d .«staging_len») (d .count) (d .parts) ≡ Fine
+  pub slots : length (d .components) ≡ 7
+  pub fine : setupVerdict (d .«staging_len») (d .count) (d .components) ≡ Fine
   pub d1 : breaksD1 d ≡ false
   pub d2 : length s ≡ d .«staging_len»
-  pub len : (k : ℕ) → part d k .region .len < 256 ^ 4
-  pub good : (i k : ℕ) → i < countIn b → find d (offerAt b i .id) ≡ found.At k → Good (part d k) (offerAt b i) (blocksAt b i)
+  pub len : (k : ℕ) → component d k .region .len < 256 ^ 4
+  pub good : (i k : ℕ) → i < countIn b → find d (offerAt b i .id) ≡ found.At k → Good (component d k) (offerAt b i) (blocksAt b i)
 
 module _ (b : List ℕ) (t : ℕ) (d : Device) (s : List ℕ) (G : Given b t d s) where
   -- what is known of the bundle
@@ -72,18 +72,18 @@ module _ (b : List ℕ) (t : ℕ) (d : Device) (s : List ℕ) (G : Given b t d s
   -- a set has landed: the mask, the components and the staging buffer
   pub record Landed (S : Set) (m : ℕ) (ps : List Component) (r : List ℕ) : Type 0 where
     pub bits : (j : ℕ) → hasBit m j ≡ S j
-    pub parts : Holding b (G .accepted) d S ps
+    pub components : Holding b (G .accepted) d S ps
     pub bytes : Fills d b S s r
 
   -- from x the run comes to entry e; c packets were sent beside the contents
   pub record Gets (x : System) (e : ℕ) (p : Pass) (q c : ℕ) : Type 0 where
     pub mask : ℕ
     pub packets : ℕ
-    pub parts : List Component
+    pub components : List Component
     pub staging : List ℕ
     pub trace : List Exchange
-    pub leads : Leads b x (due e p mask packets q parts staging trace)
-    pub landed : Landed (p .set) mask parts staging
+    pub leads : Leads b x (due e p mask packets q components staging trace)
+    pub landed : Landed (p .set) mask components staging
     pub count : length trace ≡ c + p .sent
 
   -- what has landed was eligible
@@ -92,7 +92,7 @@ module _ (b : List ℕ) (t : ℕ) (d : Device) (s : List ℕ) (G : Given b t d s
 
   -- D1 and D2 let pass
   pub sound-now : (S : Set) (m : ℕ) (ps : List Component) (r : List ℕ) → Landed S m ps r → Sound (idleWith d ps) r
-  sound-now S m ps r h = record { d1 = h .parts .d1; d2 = h .bytes .long ∙ G .d2 }
+  sound-now S m ps r h = record { d1 = h .components .d1; d2 = h .bytes .long ∙ G .d2 }
 
   -- an offer with its answer
   abbrev offered : (e reason status : ℕ) → Exchange
@@ -101,23 +101,23 @@ module _ (b : List ℕ) (t : ℕ) (d : Device) (s : List ℕ) (G : Given b t d s
   module _ (e : ℕ) (l : e < countIn b) (S : Set) (m : ℕ) (ps : List Component) (r : List ℕ) (h : Landed S m ps r) where
     module _ (k : ℕ) (out : S e ≡ false) (f : find d (offerAt b e .id) ≡ found.At k) (w : Fresher d (offerAt b e)) where
       -- the slot is as it was at the start
-      was : partAt ps k ≡ part d k
-      was = h .parts .others k (spared b α d S ps (h .parts) e l k out f)
+      was : componentAt ps k ≡ component d k
+      was = h .components .others k (spared b α d S ps (h .components) e l k out f)
 
       -- it is the slot that eligibility found
       here : w .slot ≡ k
       here = same-slot (find d (offerAt b e .id)) (w .slot) k (w .here) f
 
       -- the offered version fits
-      newer : offerVersion (part d k) (offerAt b e .version) ≡ Fits
-      newer = subst (λ (n : ℕ). offerVersion (part d n) (offerAt b e .version) ≡ Fits) here (w .newer)
+      newer : offerVersion (component d k) (offerAt b e .version) ≡ Fits
+      newer = subst (λ (n : ℕ). offerVersion (component d n) (offerAt b e .version) ≡ Fits) here (w .newer)
 
       -- nothing is staged there
-      free : isPending (partAt ps k .staged) ≡ false
-      free = rw was (subst (λ (n : ℕ). isPending (part d n .staged) ≡ false) here (rw (w .free)))
+      free : isPending (componentAt ps k .staged) ≡ false
+      free = rw was (subst (λ (n : ℕ). isPending (component d n .staged) ≡ false) here (rw (w .free)))
 
       -- its body is good
-      abbrev g : Good (part d k) (offerAt b e) (blocksAt b e)
+      abbrev g : Good (component d k) (offerAt b e) (blocksAt b e)
       g = G .good e k l f
 
       -- the session may open
@@ -126,37 +126,37 @@ module _ (b : List ℕ) (t : ℕ) (d : Device) (s : List ℕ) (G : Given b t d s
           record {
             len = rw was (G .len k);
             room = rw was (region-inside b α d (G .slots) (G .fine) s (G .d2) k (at-slot b α d e k f .0));
-            d1 = λ j. open-passes d ps k (at-slot b α d e k f .0) (h .parts .d1) t j free;
+            d1 = λ j. open-passes d ps k (at-slot b α d e k f .0) (h .components .d1) t j free;
           }
 
       -- what has landed after it
-      pub lands-more : Landed (ins S e) (withBit m e) (set ps k (withStaged (partAt ps k) (offerAt b e .version)))
-          (within (part d k .region .base .0) (part d k .region .len) (λ (old : List ℕ). imageOf (part d k .region .len) (blocksAt b e)) r)
+      pub lands-more : Landed (ins S e) (withBit m e) (set ps k (withStaged (componentAt ps k) (offerAt b e .version)))
+          (within (component d k .region .base .0) (component d k .region .len) (λ (old : List ℕ). imageOf (component d k .region .len) (blocksAt b e)) r)
       lands-more =
           record {
             bits = λ j. with-bit m e j ∙ ap (λ (x : Bool). eqb j e || x) (h .bits j);
-            parts = holding-more b α d S ps (h .parts) e l k out f (offer-image (part d k) (offerAt b e .version) newer);
+            components = holding-more b α d S ps (h .components) e l k out f (offer-image (component d k) (offerAt b e .version) newer);
             bytes = fills-more b α d (G .slots) (G .fine) s (G .d2) S r e k (h .bytes) l f (g .inside);
           }
 
       module _ (p q : ℕ) (sk la : Bool) (trace : List Exchange) where
         -- the image is right
-        right : Right b α t (G .small) d ps k e l opens m q sk la (imageOf (part d k .region .len) (blocksAt b e)) (offerAt b e .version)
+        right : Right b α t (G .small) d ps k e l opens m q sk la (imageOf (component d k .region .len) (blocksAt b e)) (offerAt b e .version)
         right =
             record {
-              size = rw was (image-length (part d k .region .len) (blocksAt b e) (g .inside));
+              size = rw was (image-length (component d k .region .len) (blocksAt b e) (g .inside));
               crc = g .crc;
               id = g .id ∙ sym (at-slot b α d e k f .2) ∙ ap (λ (c : Component). c .id) (sym was);
               version = g .version;
-              new = rw was (offer-image (part d k) (offerAt b e .version) newer);
-              d1 = lands-more .parts .d1;
+              new = rw was (offer-image (component d k) (offerAt b e .version) newer);
+              d1 = lands-more .components .d1;
             }
 
         -- an offer that is accepted, up to the next: the trace is longer by the offer and the blocks of the body
         pub accepts : offerVerdict (idleWith d ps) (withToken (offerAt b e) t) ≡ Accept k
             → Leads b (turning b α t (G .small) d e m p q sk la ps r trace)
-            (turning b α t (G .small) d (suc e) (withBit m e) (p + 1 + length (blocksAt b e)) q sk true (set ps k (withStaged (partAt ps k) (offerAt b e .version)))
-            (within (part d k .region .base .0) (part d k .region .len) (λ (old : List ℕ). imageOf (part d k .region .len) (blocksAt b e)) r)
+            (turning b α t (G .small) d (suc e) (withBit m e) (p + 1 + length (blocksAt b e)) q sk true (set ps k (withStaged (componentAt ps k) (offerAt b e .version)))
+            (within (component d k .region .base .0) (component d k .region .len) (λ (old : List ℕ). imageOf (component d k .region .len) (blocksAt b e)) r)
             ((trace ++ (offered e 0 OFFER-ACCEPT ∷ [])) ++ contents b α t (G .small) d ps k e l 0 (length (blocksAt b e))))
         accepts v =
             let d2 : length r ≡ d .«staging_len» = h .bytes .long ∙ G .d2 in
@@ -165,11 +165,11 @@ module _ (b : List ℕ) (t : ℕ) (d : Device) (s : List ℕ) (G : Given b t d s
             (block-answered b α t (G .small) d ps k e l opens m q sk la 0 (α .records e l) r d2))
             (subst
             (λ (c : Component). Leads b (blocking b α t (G .small) d ps k e l opens m q sk la 0 (p + 1) r (trace ++ (offered e 0 OFFER-ACCEPT ∷ [])))
-            (turning b α t (G .small) d (suc e) (withBit m e) (p + 1 + length (blocksAt b e)) q sk true (set ps k (withStaged (partAt ps k) (offerAt b e .version)))
-            (within (c .region .base .0) (c .region .len) (λ (old : List ℕ). imageOf (part d k .region .len) (blocksAt b e)) r)
+            (turning b α t (G .small) d (suc e) (withBit m e) (p + 1 + length (blocksAt b e)) q sk true (set ps k (withStaged (componentAt ps k) (offerAt b e .version)))
+            (within (c .region .base .0) (c .region .len) (λ (old : List ℕ). imageOf (component d k .region .len) (blocksAt b e)) r)
             ((trace ++ (offered e 0 OFFER-ACCEPT ∷ [])) ++ contents b α t (G .small) d ps k e l 0 (length (blocksAt b e)))))
             was
-            (transmits b α t (G .small) d ps k e l opens m q sk la (imageOf (part d k .region .len) (blocksAt b e)) (offerAt b e .version) right (p + 1) (p + 1 + length (blocksAt b e)) r
+            (transmits b α t (G .small) d ps k e l opens m q sk la (imageOf (component d k .region .len) (blocksAt b e)) (offerAt b e .version) right (p + 1) (p + 1 + length (blocksAt b e)) r
             (trace ++ (offered e 0 OFFER-ACCEPT ∷ [])) (α .records e l) (rw was (g .inside)) d2 (ap (λ (c : Component). imageOf (c .region .len) (blocksAt b e)) was) refl))
 
   -- what it says of an offer that it is not eligible now
@@ -196,7 +196,7 @@ module _ (b : List ℕ) (t : ℕ) (d : Device) (s : List ℕ) (G : Given b t d s
   offer-sim e l p fair q c m n ps r trace h count = go (offerVerdict (idleWith d ps) (withToken (offerAt b e) t)) refl (rules (d .platform) (d .count) ps (withToken (offerAt b e) t))
     where
       elig : isEligible (idleWith d ps) (offerAt b e) ≡ (not (p .set e) && isEligible (toIdle d) (offerAt b e))
-      elig = eligible-now b α d (p .set) ps (h .parts) e l
+      elig = eligible-now b α d (p .set) ps (h .components) e l
 
       go : (v : OfferVerdict) → offerVerdict (idleWith d ps) (withToken (offerAt b e) t) ≡ v
           → Ruling (applies (rejections (idleWith d ps) (withToken (offerAt b e) t))) (needUnmet (idleWith d ps) (withToken (offerAt b e) t)) (find (idleWith d ps) (offerAt b e .id)) v
@@ -208,7 +208,7 @@ module _ (b : List ℕ) (t : ℕ) (d : Device) (s : List ℕ) (G : Given b t d s
           (record {
             mask = m;
             packets = n + 1;
-            parts = ps;
+            components = ps;
             staging = r;
             trace = trace ++ (offered e x OFFER-REJECT ∷ []);
             leads = leads-step b (x-reject b α t (G .small) d ps r (sound-now (p .set) m ps r h) trace e l m n q (p .skipped) (p .landed) x v) (leads-none b _);
@@ -218,12 +218,12 @@ module _ (b : List ℕ) (t : ℕ) (d : Device) (s : List ℕ) (G : Given b t d s
       go Skip v w =
           let z = is-eligible (p .set e) (isEligible (toIdle d) (offerAt b e)) (ap not (sym (w .0) ∙ token-rejections (idleWith d ps) (offerAt b e) t) ∙ elig) in
           let met : offers b α d .met (p .set) e ≡ false
-          = sym (meets-now b α d (p .set) ps (h .parts) e l fair (z .0)) ∙ ap not (sym (token-need (idleWith d ps) (offerAt b e) t) ∙ w .1) in
+          = sym (meets-now b α d (p .set) ps (h .components) e l fair (z .0)) ∙ ap not (sym (token-need (idleWith d ps) (offerAt b e) t) ∙ w .1) in
           rw (z .0, z .1, met)
           (record {
             mask = m;
             packets = n + 1;
-            parts = ps;
+            components = ps;
             staging = r;
             trace = trace ++ (offered e 0 OFFER-SKIP ∷ []);
             leads = leads-step b (x-skip b α t (G .small) d ps r (sound-now (p .set) m ps r h) trace e l m n q (p .skipped) (p .landed) v) (leads-none b _);
@@ -233,16 +233,16 @@ module _ (b : List ℕ) (t : ℕ) (d : Device) (s : List ℕ) (G : Given b t d s
       go (Accept k) v w =
           let z = is-eligible (p .set e) (isEligible (toIdle d) (offerAt b e)) (ap not (sym (w .0) ∙ token-rejections (idleWith d ps) (offerAt b e) t) ∙ elig) in
           let met : offers b α d .met (p .set) e ≡ true
-          = sym (meets-now b α d (p .set) ps (h .parts) e l fair (z .0)) ∙ ap not (sym (token-need (idleWith d ps) (offerAt b e) t) ∙ w .1) in
-          let f : find d (offerAt b e .id) ≡ found.At k = sym (same-find b α d (p .set) ps (h .parts) (offerAt b e .id)) ∙ w .2 in
+          = sym (meets-now b α d (p .set) ps (h .components) e l fair (z .0)) ∙ ap not (sym (token-need (idleWith d ps) (offerAt b e) t) ∙ w .1) in
+          let f : find d (offerAt b e .id) ≡ found.At k = sym (same-find b α d (p .set) ps (h .components) (offerAt b e .id)) ∙ w .2 in
           let x = eligible-says d (offerAt b e) (holds _ (z .1)) in
           let blocks = contents b α t (G .small) d ps k e l 0 (length (blocksAt b e)) in
           rw (z .0, z .1, met)
           (record {
             mask = withBit m e;
             packets = n + 1 + length (blocksAt b e);
-            parts = set ps k (withStaged (partAt ps k) (offerAt b e .version));
-            staging = within (part d k .region .base .0) (part d k .region .len) (λ (old : List ℕ). imageOf (part d k .region .len) (blocksAt b e)) r;
+            components = set ps k (withStaged (componentAt ps k) (offerAt b e .version));
+            staging = within (component d k .region .base .0) (component d k .region .len) (λ (old : List ℕ). imageOf (component d k .region .len) (blocksAt b e)) r;
             trace = (trace ++ (offered e 0 OFFER-ACCEPT ∷ [])) ++ blocks;
             leads = accepts e l (p .set) m ps r h k (z .0) f x n q (p .skipped) (p .landed) trace v;
             landed = lands-more e l (p .set) m ps r h k (z .0) f x;
@@ -256,11 +256,11 @@ module _ (b : List ℕ) (t : ℕ) (d : Device) (s : List ℕ) (G : Given b t d s
       → ((m n : ℕ) (ps : List Component) (r : List ℕ) (trace : List Exchange) → Landed (p .set) m ps r → length trace ≡ c + p .sent → Gets (due e p m n q ps r trace) e′ p′ q c′)
       → Gets x e′ p′ q c′
   gets-then x e e′ p p′ q c c′ g h =
-      let k = h (g .mask) (g .packets) (g .parts) (g .staging) (g .trace) (g .landed) (g .count) in
+      let k = h (g .mask) (g .packets) (g .components) (g .staging) (g .trace) (g .landed) (g .count) in
       record {
         mask = k .mask;
         packets = k .packets;
-        parts = k .parts;
+        components = k .components;
         staging = k .staging;
         trace = k .trace;
         leads = leads-then b (g .leads) (k .leads);
@@ -277,7 +277,7 @@ module _ (b : List ℕ) (t : ℕ) (d : Device) (s : List ℕ) (G : Given b t d s
       record {
         mask = m;
         packets = n;
-        parts = ps;
+        components = ps;
         staging = r;
         trace = trace;
         leads = subst (λ (i : ℕ). Leads b (due e p m n q ps r trace) (due i p m n q ps r trace)) (omega arith) (leads-none b (due e p m n q ps r trace));

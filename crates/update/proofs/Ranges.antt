@@ -7,21 +7,21 @@ use mir.Val.{Val}
 use denote.Array.{each}
 use denote.Laws.{Is}
 use denote.Shadow.{shadow}
-use Rattle.component.specs.Record.{FitsStaged, FitsComponent}
-use Rattle.component.specs.Lists.{partAt}
-use Rattle.component.specs.declared.record.Component.{Component}
-use Rattle.component.specs.declared.record.Staged.{Staged}
-use Rattle.component.specs.declared.record.Staged.the-variants as staged
-use Rattle.component.proofs.record.Component as C
-use Rattle.component.proofs.record.Staged as P
-use Rattle.session.specs.Stage.{FitsStage}
-use Rattle.session.specs.Owed.{FitsOwed}
-use Rattle.session.specs.declared.stage.Stage.{Stage}
-use Rattle.session.specs.declared.stage.Stage.the-variants.{Idle, Offered, Receiving}
-use Rattle.session.specs.declared.owed.Owed.{Owed}
-use Rattle.session.specs.declared.owed.Owed.the-variants as owed
-use Rattle.session.proofs.stage.Stage as S
-use Rattle.session.proofs.owed.Owed as O
+use Rattle.device_component.specs.Record.{FitsStaged, FitsComponent}
+use Rattle.device_component.specs.Lists.{componentAt}
+use Rattle.device_component.specs.declared.record.Component.{Component}
+use Rattle.device_component.specs.declared.record.Staged.{Staged}
+use Rattle.device_component.specs.declared.record.Staged.the-variants as staged
+use Rattle.device_component.proofs.record.Component as C
+use Rattle.device_component.proofs.record.Staged as P
+use Rattle.device_session.specs.Stage.{FitsStage}
+use Rattle.device_session.specs.Owed.{FitsOwed}
+use Rattle.device_session.specs.declared.stage.Stage.{Stage}
+use Rattle.device_session.specs.declared.stage.Stage.the-variants.{Idle, Offered, Receiving}
+use Rattle.device_session.specs.declared.owed.Owed.{Owed}
+use Rattle.device_session.specs.declared.owed.Owed.the-variants as owed
+use Rattle.device_session.proofs.stage.Stage as S
+use Rattle.device_session.proofs.owed.Owed as O
 use Rattle.device.specs.Record.{FitsDevice}
 use Rattle.device.specs.declared.record.Device.{Device}
 use Rattle.device.proofs.record.Device as D
@@ -45,7 +45,7 @@ component-fits c vs h =
 
 -- each component of a list
 components-fit : (cs : List Component) (us : List Val) → shadow (each (C.the-field .row .Denot) (C.the-field .row .own) (map (C.the-field .into) cs) us)
-    → (k : ℕ) → FitsComponent (partAt cs k)
+    → (k : ℕ) → FitsComponent (componentAt cs k)
 components-fit [] us h k = blank-fits
 components-fit (c ∷ cs) [] h k = absurd h
 components-fit (c ∷ cs) (u ∷ us) h zero = component-fits c (u ∷ []) (h .0)
@@ -71,8 +71,8 @@ device-fits d vs h =
       platform = f .0 .1;
       staging = f .1 .0 .1;
       count = f .1 .1 .0 .1;
-      slots = sym (length-map (d .parts) (C.the-field .into)) ∙ a .1 .0 .1;
-      each = components-fit (d .parts) (a .0) (a .1 .1);
+      slots = sym (length-map (d .components) (C.the-field .into)) ∙ a .1 .0 .1;
+      each = components-fit (d .components) (a .0) (a .1 .1);
       stage = stage-fits (d .stage) _ (f .1 .1 .1 .1 .0);
       owed = owed-fits (d .owed) _ (f .1 .1 .1 .1 .1 .0);
     }

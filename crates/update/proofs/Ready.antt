@@ -12,22 +12,22 @@ use lib.ListN.{length, drop}
 use lib.Seq.{drop-cons}
 use lib.Pow.{pow-pos}
 use Rattle.wire.proofs.Tests.{both}
-use Rattle.layout.specs.Layout.{BUNDLE-LIMIT, OFFER-LIMIT, countIn, entriesIn}
-use Rattle.layout.specs.Rows as bundle
+use Rattle.bundle_layout.specs.Layout.{BUNDLE-LIMIT, OFFER-LIMIT, countIn, entriesIn}
+use Rattle.bundle_layout.specs.Rows as bundle
 use Rattle.bundle.proofs.Accepted.{Accepted}
 use Rattle.host_record.specs.Record.{freshHost, hasEnded}
 use Rattle.host_record.specs.Fits.{BUSY-LIMIT}
-use Rattle.decide.specs.Decide.{newPass, sends, ends, list, offerFrom, noted, completes, decideIn, decideOf}
+use Rattle.host_decide.specs.Decide.{newPass, sends, ends, list, offerFrom, noted, completes, decideIn, decideOf}
 use Rattle.host_record.specs.Fits.{PACKET-LIMIT}
 use Rattle.host.specs.Step.{blocksAt, badStage, breaksN1, isLast, lastIn, moved, stepOn, stepOf}
 use Rattle.host_record.specs.declared.record.Host.{Host}
 use Rattle.host_record.specs.declared.record.HostStage.{HostStage}
 use Rattle.host_record.specs.declared.record.HostStage.the-variants.{Fresh, Opening, Listing, Offering, Waiting, Sending, Closing, Ended}
 use Rattle.host_record.specs.declared.record.End.{End}
-use Rattle.decide.specs.declared.Action.{Action}
-use Rattle.decide.specs.declared.Move.{Move}
+use Rattle.host_decide.specs.declared.Action.{Action}
+use Rattle.host_decide.specs.declared.Move.{Move}
 use Rattle.update.specs.Run.{recordsFrom, recordsIn, boundOf}
-use Rattle.decide.proofs.Moves.{opening-cases, listing-cases, offering-cases, waiting-cases, closing-cases, sending-cases, offer-cases}
+use Rattle.host_decide.proofs.Moves.{opening-cases, listing-cases, offering-cases, waiting-cases, closing-cases, sending-cases, offer-cases}
 use Rattle.update.proofs.Mask.{with-bit-below}
 use Rattle.update.proofs.Packets.{Has}
 

@@ -9,13 +9,13 @@ use borrow.Author.Tests.{lt-ltb, le-ltb}
 use lib.Dec.{ltb}
 use lib.ListN.{length}
 use Rattle.wire.specs.Codes.{OFFER-ACCEPT}
-use Rattle.component.specs.declared.record.Component.{Component}
-use Rattle.passes.specs.Sets.{Set, from}
-use Rattle.passes.specs.Passes.{Pass, opened, Passes, unpassed, onePass, onward, again, repeat, passesOf}
-use Rattle.passes.proofs.Pass.{pass-keeps}
-use Rattle.passes.proofs.Tests.{and-false}
-use Rattle.passes.proofs.Sets.{length-from}
-use Rattle.layout.specs.Layout.{countIn}
+use Rattle.device_component.specs.declared.record.Component.{Component}
+use Rattle.update_passes.specs.Sets.{Set, from}
+use Rattle.update_passes.specs.Passes.{Pass, opened, Passes, unpassed, onePass, onward, again, repeat, passesOf}
+use Rattle.update_passes.proofs.Pass.{pass-keeps}
+use Rattle.update_passes.proofs.Tests.{and-false}
+use Rattle.update_passes.proofs.Sets.{length-from}
+use Rattle.bundle_layout.specs.Layout.{countIn}
 use Rattle.device.specs.Record.{idleWith}
 use Rattle.device.specs.declared.record.Device.{Device}
 use Rattle.device.proofs.Calls.{Sound}
@@ -53,8 +53,8 @@ module _ (b : List ℕ) (t : ℕ) (d : Device) (s : List ℕ) (G : Given b t d s
     pub last : System
     pub leads : Leads b x last
     pub done : last .host .stage ≡ Ended Done
-    pub device : last .device ≡ idleWith d (last .device .parts)
-    pub landed : Landed b t d s G (ρ .set) (last .host .mask) (last .device .parts) (last .staging)
+    pub device : last .device ≡ idleWith d (last .device .components)
+    pub landed : Landed b t d s G (ρ .set) (last .host .mask) (last .device .components) (last .staging)
     pub passes : last .host .passes ≡ ρ .passes
     pub count : length (last .trace) ≡ sentBy ρ
 
@@ -92,7 +92,7 @@ module _ (b : List ℕ) (t : ℕ) (d : Device) (s : List ℕ) (G : Given b t d s
       record {
         mask = g .mask;
         packets = g .packets;
-        parts = g .parts;
+        components = g .components;
         staging = g .staging;
         trace = g .trace;
         leads = leads-step b (x-first b (G .accepted) t (G .small) d ps r (sound-now b t d s G S m ps r h) trace m n q) (g .leads);
@@ -116,8 +116,8 @@ module _ (b : List ℕ) (t : ℕ) (d : Device) (s : List ℕ) (G : Given b t d s
     past = le-ltb (countIn b) (countIn b) (omega arith)
 
     -- D1 and D2 let the device pass after it
-    sound : Sound (idleWith d (g .parts)) (g .staging)
-    sound = sound-now b t d s G (once (ρ .set) .set) (g .mask) (g .parts) (g .staging) (g .landed)
+    sound : Sound (idleWith d (g .components)) (g .staging)
+    sound = sound-now b t d s G (once (ρ .set) .set) (g .mask) (g .components) (g .staging) (g .landed)
 
     -- the packets up to code 2 are counted
     counted : length (g .trace ++ (coded 2 ∷ [])) ≡ sentBy (next ρ)
@@ -133,7 +133,7 @@ module _ (b : List ℕ) (t : ℕ) (d : Device) (s : List ℕ) (G : Given b t d s
           leads =
               leads-then b (g .leads)
               (leads-step b
-              (x-done b (G .accepted) t (G .small) d (g .parts) (g .staging) sound (g .trace) (countIn b) past (g .mask) (g .packets) q (once (ρ .set) .skipped) (once (ρ .set) .landed) z)
+              (x-done b (G .accepted) t (G .small) d (g .components) (g .staging) sound (g .trace) (countIn b) past (g .mask) (g .packets) q (once (ρ .set) .skipped) (once (ρ .set) .landed) z)
               (leads-none b _));
           done = refl;
           device = refl;
@@ -144,13 +144,13 @@ module _ (b : List ℕ) (t : ℕ) (d : Device) (s : List ℕ) (G : Given b t d s
 
     -- a pass that is followed by another
     follow : (ρ′ : Passes) → ((once (ρ .set) .skipped && once (ρ .set) .landed) && ltb q (countIn b)) ≡ true
-        → Comes (list (g .mask) (g .packets + 1) (q + 1) (g .parts) (g .staging) (g .trace ++ (coded 2 ∷ []))) ρ′
+        → Comes (list (g .mask) (g .packets + 1) (q + 1) (g .components) (g .staging) (g .trace ++ (coded 2 ∷ []))) ρ′
         → Comes (list m n q ps r trace) ρ′
     follow ρ′ z rest =
-        comes-after (list m n q ps r trace) (list (g .mask) (g .packets + 1) (q + 1) (g .parts) (g .staging) (g .trace ++ (coded 2 ∷ []))) ρ′
+        comes-after (list m n q ps r trace) (list (g .mask) (g .packets + 1) (q + 1) (g .components) (g .staging) (g .trace ++ (coded 2 ∷ []))) ρ′
         (leads-then b (g .leads)
         (leads-step b
-        (x-again b (G .accepted) t (G .small) d (g .parts) (g .staging) sound (g .trace) (countIn b) past (g .mask) (g .packets) q (once (ρ .set) .skipped) (once (ρ .set) .landed) z)
+        (x-again b (G .accepted) t (G .small) d (g .components) (g .staging) sound (g .trace) (countIn b) past (g .mask) (g .packets) q (once (ρ .set) .skipped) (once (ρ .set) .landed) z)
         (leads-none b _)))
         rest
 
@@ -170,14 +170,14 @@ module _ (b : List ℕ) (t : ℕ) (d : Device) (s : List ℕ) (G : Given b t d s
       go false = last
   rounds-sim (suc f) ρ e fair m n q ps r trace h count passes =
       go (again (offers b (G .accepted) d) (from 0 (countIn b)) ρ) refl
-      (rounds-sim f (next ρ) (omega arith) (fair-once (ρ .set) fair) (k .mask) (k .packets + 1) (q + 1) (k .parts) (k .staging) (k .trace ++ (coded 2 ∷ [])) (k .landed)
+      (rounds-sim f (next ρ) (omega arith) (fair-once (ρ .set) fair) (k .mask) (k .packets + 1) (q + 1) (k .components) (k .staging) (k .trace ++ (coded 2 ∷ [])) (k .landed)
       (counted ρ fair m n q ps r trace h count passes) (omega arith))
     where
       k : Gets b t d s G (list m n q ps r trace) (countIn b) (once (ρ .set)) q (suc (sentBy ρ) + countIn b)
       k = g ρ fair m n q ps r trace h count passes
 
       go : (x : Bool) → again (offers b (G .accepted) d) (from 0 (countIn b)) ρ ≡ x
-          → Comes (list (k .mask) (k .packets + 1) (q + 1) (k .parts) (k .staging) (k .trace ++ (coded 2 ∷ []))) (rounds (suc f) (next ρ))
+          → Comes (list (k .mask) (k .packets + 1) (q + 1) (k .components) (k .staging) (k .trace ++ (coded 2 ∷ []))) (rounds (suc f) (next ρ))
           → Comes (list m n q ps r trace) (cond x (rounds (suc f) (next ρ)) (next ρ))
       go true z rest = follow ρ fair m n q ps r trace h count passes (rounds (suc f) (next ρ)) (rw (z, lt-ltb q (countIn b) (omega arith))) rest
       go false z rest = finish ρ fair m n q ps r trace h count passes (rw z)
@@ -193,18 +193,18 @@ module _ (b : List ℕ) (t : ℕ) (d : Device) (s : List ℕ) (G : Given b t d s
       (subst (λ (n : ℕ). Comes hello (rounds n unpassed)) (sym (length-from 0 (countIn b))) (go (countIn b) refl))
     where
       hello : System
-      hello = list 0 2 1 (d .parts) s (coded 0 ∷ [])
+      hello = list 0 2 1 (d .components) s (coded 0 ∷ [])
 
       no-bit : (j : ℕ) → hasBit 0 j ≡ false
       no-bit j = rw zero-div
 
-      go : (n : ℕ) → countIn b ≡ n → Comes (list 0 2 1 (d .parts) s (coded 0 ∷ [])) (rounds n unpassed)
+      go : (n : ℕ) → countIn b ≡ n → Comes (list 0 2 1 (d .components) s (coded 0 ∷ [])) (rounds n unpassed)
       go zero z = absurd (omega (arith, G .accepted .some))
       go (suc f) z =
-          rounds-sim f unpassed (omega arith) (λ j l w. absurd w) 0 2 1 (d .parts) s (coded 0 ∷ [])
+          rounds-sim f unpassed (omega arith) (λ j l w. absurd w) 0 2 1 (d .components) s (coded 0 ∷ [])
           (record {
             bits = no-bit;
-            parts = holding-none b (G .accepted) d (idle-passes d (G .d1));
+            components = holding-none b (G .accepted) d (idle-passes d (G .d1));
             bytes = fills-none b (G .accepted) d (G .slots) (G .fine) s (G .d2);
           })
           (omega arith) refl

@@ -10,23 +10,23 @@ use lib.Dec.{leb, eqb}
 use lib.ListN.{length, getD, set, take, drop, length-set}
 use lib.Seq.{take-append-seam}
 use Rattle.wire.specs.Codes.{KIND-INFORMATION, KIND-EXTENDED, FLAG-FIRST-BLOCK, FLAG-LAST-BLOCK}
-use Rattle.offers.specs.Offer.{fieldsIn}
-use Rattle.offers.specs.Kind.{offer, kindIn}
-use Rattle.offers.specs.declared.offer.OfferFields.{OfferFields}
+use Rattle.wire_offer.specs.Offer.{fieldsIn}
+use Rattle.wire_offer.specs.Kind.{offer, kindIn}
+use Rattle.wire_offer.specs.declared.offer.OfferFields.{OfferFields}
 use Rattle.wire.proofs.words.Laws.{round}
-use Rattle.contents.specs.Content.{cleared, contentBytes}
-use Rattle.contents.specs.Head.{headIn}
-use Rattle.contents.specs.declared.head.ContentHead.{ContentHead}
+use Rattle.wire_content.specs.Content.{cleared, contentBytes}
+use Rattle.wire_content.specs.Head.{headIn}
+use Rattle.wire_content.specs.declared.head.ContentHead.{ContentHead}
 use Rattle.image.specs.declared.region.Region.{Region}
-use Rattle.layout.specs.Layout.{countIn, offerIn}
+use Rattle.bundle_layout.specs.Layout.{countIn, offerIn}
 use Rattle.bundle.proofs.Accepted.{Accepted}
-use Rattle.receiving.specs.Content as device
+use Rattle.device_receiving.specs.Content as device
 use Rattle.device.proofs.Blocks.{Fitting}
 use Rattle.host_record.specs.Record.{sequenceOf}
 use Rattle.host.specs.Step.{entryAt, isLast, flagsAt, blockAt, blockPacket}
 use Rattle.host_record.specs.declared.record.Place.{Place}
 use Rattle.update.specs.Claim.{offerAt}
-use Rattle.make.proofs.Flags.{flags-sound, flags-last}
+use Rattle.host_packet.proofs.Flags.{flags-sound, flags-last}
 use Rattle.update.proofs.Packets.{offerPacket, offer-packet, offer-id}
 
 -- an offer with another token

@@ -5,16 +5,16 @@ use mathlib.Core.Path.{_≡_, refl, sym, ap, subst, _∙_}
 use mathlib.Core.Bool.{Bool, true, false, cond}
 use mathlib.Core.List.{List, [], _∷_, _++_, append-nil}
 use native.Mathlib.Nat.{zero-add, suc-add, add-comm}
-use Rattle.layout.specs.Layout.{countIn}
-use Rattle.layout.specs.Rows as bundle
+use Rattle.bundle_layout.specs.Layout.{countIn}
+use Rattle.bundle_layout.specs.Rows as bundle
 use Rattle.bundle.proofs.Accepted.{accepted}
 use Rattle.wire.specs.Bytes.{Bytes}
 use Rattle.device.specs.declared.record.Device.{Device}
 use Rattle.host_record.specs.Record.{hasEnded}
-use Rattle.make.specs.Answer.{Step, N, refusedBy}
+use Rattle.host_packet.specs.Answer.{Step, N, refusedBy}
 use Rattle.host.specs.Step.{stepOf, stepBy, stepOn, breaksN1, moved, packetOf, lastIn}
 use Rattle.host_record.specs.declared.record.Host.{Host}
-use Rattle.decide.specs.declared.Move.{Move}
+use Rattle.host_decide.specs.declared.Move.{Move}
 use Rattle.update.specs.Trace.{Exchange}
 use Rattle.update.specs.Run.{System, boundOf, deliver, exchange, run, start}
 use Rattle.update.specs.Ends.{talk, heardAs, Counted, RunEnds}

@@ -11,36 +11,36 @@ use lib.Dec.{eqb, eqb·suc-zero}
 use lib.ListN.{length, getD, set, drop}
 use Rattle.wire.specs.Codes.{SUCCESS}
 use Rattle.wire.specs.declared.version.Version.{Version}
-use Rattle.contents.specs.Head.{headIn}
-use Rattle.contents.specs.Reply.{replyBytes}
-use Rattle.records.specs.Record.{Block}
+use Rattle.wire_content.specs.Head.{headIn}
+use Rattle.wire_content.specs.Reply.{replyBytes}
+use Rattle.bundle_records.specs.Record.{Block}
 use Rattle.image.specs.Region.{within, regionBytes, blank, put}
 use Rattle.image.specs.Judge.{isRight, imageId, imageVersion}
 use Rattle.image.specs.declared.region.Region.{Region}
 use Rattle.image.proofs.region.Within.{region-length, blank-length, put-length, within-same, within-length, within-own, within-twice, lies-inside}
-use Rattle.component.specs.Lists.{partAt}
-use Rattle.component.specs.Record.{withStaged}
-use Rattle.component.specs.Versions.{imageVersionFits}
-use Rattle.component.specs.declared.record.Component.{Component}
-use Rattle.layout.specs.Layout.{countIn}
+use Rattle.device_component.specs.Lists.{componentAt}
+use Rattle.device_component.specs.Record.{withStaged}
+use Rattle.device_component.specs.Versions.{imageVersionFits}
+use Rattle.device_component.specs.declared.record.Component.{Component}
+use Rattle.bundle_layout.specs.Layout.{countIn}
 use Rattle.bundle.proofs.Accepted.{Accepted, Carried}
-use Rattle.receiving.specs.Content.{takeBlock}
+use Rattle.device_receiving.specs.Content.{takeBlock}
 use Rattle.device.specs.Entries.{serveStaging}
 use Rattle.device.specs.Record.{idleWith}
 use Rattle.device.specs.Refusals.{breaksD1}
 use Rattle.device.specs.declared.record.Device.{Device}
-use Rattle.session.proofs.sound.Laws.{passes, staging-most}
-use Rattle.session.specs.declared.owed.Owed.the-variants as owed
+use Rattle.device_session.proofs.sound.Laws.{passes, staging-most}
+use Rattle.device_session.specs.declared.owed.Owed.the-variants as owed
 use Rattle.device.proofs.Calls.{Sound, Answered, answers-block}
 use Rattle.device.proofs.Blocks.{held, awaits, groundOf, Fitting, puts, block-staging, block-next, block-last}
 use Rattle.host_record.specs.Record.{sequenceOf}
-use Rattle.decide.specs.Decide.{goesOn, decideOf}
+use Rattle.host_decide.specs.Decide.{goesOn, decideOf}
 use Rattle.host_record.specs.Record.{withBit}
 use Rattle.host.specs.Step.{entryAt, blocksAt, isLast, noBlock, blockAt, blockPacket, moved, packetOf}
 use Rattle.host_record.specs.declared.record.HostStage.the-variants.{Sending}
 use Rattle.host_record.specs.declared.record.Place.{Place}
-use Rattle.decide.specs.declared.Move.{Move}
-use Rattle.decide.proofs.Heard.{hears-taken}
+use Rattle.host_decide.specs.declared.Move.{Move}
+use Rattle.host_decide.proofs.Heard.{hears-taken}
 use Rattle.update.specs.Trace.{Exchange}
 use Rattle.update.specs.Run.{System, channelOf, answerTo, flight}
 use Rattle.update.specs.Claim.{writes, imageOf, Inside}
@@ -73,7 +73,7 @@ drop-rest (a ∷ l) (suc k) x xs e = drop-rest l k x xs e
 module _ (b : List ℕ) (α : Accepted b) (t : ℕ) (small : t < 256) (d : Device) (ps : List Component) (slot e : ℕ) (l : e < countIn b) where
   -- the region of the slot
   abbrev r : Region
-  r = partAt ps slot .region
+  r = componentAt ps slot .region
 
   -- block k of the body
   abbrev pub spot : ℕ → Place
@@ -100,8 +100,8 @@ module _ (b : List ℕ) (α : Accepted b) (t : ℕ) (small : t < 256) (d : Devic
 
   -- what is known of the slot: its region is one of the buffer, and D1 lets the session pass
   pub record Opens : Type 0 where
-    pub len : partAt ps slot .region .len < 256 ^ 4
-    pub room : partAt ps slot .region .base .0 + partAt ps slot .region .len ≤ d .«staging_len»
+    pub len : componentAt ps slot .region .len < 256 ^ 4
+    pub room : componentAt ps slot .region .base .0 + componentAt ps slot .region .len ≤ d .«staging_len»
     pub d1 : (k : ℕ) → breaksD1 (held d ps (awaits slot t k)) ≡ false
 
   module _ (o : Opens) (m q : ℕ) (sk la : Bool) where
@@ -178,14 +178,14 @@ module _ (b : List ℕ) (α : Accepted b) (t : ℕ) (small : t < 256) (d : Devic
 
         -- the last block of a right image
         x-last : (p : ℕ) (trace : List Exchange) (img : List ℕ) (v : Version) → isLast b (spot k) ≡ true → regionBytes r s′ ≡ img → isRight img ≡ true
-            → imageId img ≡ partAt ps slot .id → imageVersion img ≡ v → imageVersionFits (partAt ps slot) v ≡ true
-            → Sound (idleWith d (set ps slot (withStaged (partAt ps slot) v))) s′
+            → imageId img ≡ componentAt ps slot .id → imageVersion img ≡ v → imageVersionFits (componentAt ps slot) v ≡ true
+            → Sound (idleWith d (set ps slot (withStaged (componentAt ps slot) v))) s′
             → Goes b (blocking k p s trace)
-            (turning b α t small d (suc e) (withBit m e) (p + 1) q sk true (set ps slot (withStaged (partAt ps slot) v)) s′ (trace ++ (said (blockPacket b (spot k)) (taken k) ∷ [])))
+            (turning b α t small d (suc e) (withBit m e) (p + 1) q sk true (set ps slot (withStaged (componentAt ps slot) v)) s′ (trace ++ (said (blockPacket b (spot k)) (taken k) ∷ [])))
         x-last p trace img v z w right id version new sound′ =
             turn b (blockPacket b (spot k)) (turnPacket b α t small (suc e)) (hostAs t (Sending (spot k)) m p q sk la)
             (hostAs t (turnStage b α t small (suc e)) (withBit m e) (p + 1) q sk true)
-            (held d ps (awaits slot t k)) (idleWith d (set ps slot (withStaged (partAt ps slot) v))) s s′ (taken k) trace
+            (held d ps (awaits slot t k)) (idleWith d (set ps slot (withStaged (componentAt ps slot) v))) s s′ (taken k) trace
             (rw (ne-eqb (length (blockPacket b (spot k))) 16 (λ y. omega (arith, size)))
             (block-last d ps slot t (headAt b (spot k)) s (blockPacket b (spot k)) size reads k fits sound img v (block-is-last b (spot k) ∙ z) (ap (regionBytes r) puts-it ∙ w) right id version new))
             staging-is
@@ -193,7 +193,7 @@ module _ (b : List ℕ) (α : Accepted b) (t : ℕ) (small : t < 256) (d : Devic
             ∙ ap (λ (n : ℕ). turnPacket b α t small n ∷ []) (add-one e))
             (ap (λ (x : Move). x .host) (heard-by p true z) ∙ turn-host b α t small (e + 1) (Sending (spot k)) (withBit m e) p q sk true
             ∙ ap (λ (n : ℕ). hostAs t (turnStage b α t small n) (withBit m e) (p + 1) q sk true) (add-one e))
-            (turn-answered b α t small (suc e) (idleWith d (set ps slot (withStaged (partAt ps slot) v))) s′ sound′)
+            (turn-answered b α t small (suc e) (idleWith d (set ps slot (withStaged (componentAt ps slot) v))) s′ sound′)
 
     -- the region before a block, and after it
     ground-length : (k : ℕ) (s : List ℕ) → length s ≡ d .«staging_len» → length (groundOf k (r .len) (regionBytes r s)) ≡ r .len
@@ -209,18 +209,18 @@ module _ (b : List ℕ) (α : Accepted b) (t : ℕ) (small : t < 256) (d : Devic
 
     -- a right image for the slot, which leaves a device that D1 lets pass
     pub record Right (img : List ℕ) (v : Version) : Type 0 where
-      pub size : length img ≡ partAt ps slot .region .len
+      pub size : length img ≡ componentAt ps slot .region .len
       pub crc : isRight img ≡ true
-      pub id : imageId img ≡ partAt ps slot .id
+      pub id : imageId img ≡ componentAt ps slot .id
       pub version : imageVersion img ≡ v
-      pub new : imageVersionFits (partAt ps slot) v ≡ true
-      pub d1 : breaksD1 (idleWith d (set ps slot (withStaged (partAt ps slot) v))) ≡ false
+      pub new : imageVersionFits (componentAt ps slot) v ≡ true
+      pub d1 : breaksD1 (idleWith d (set ps slot (withStaged (componentAt ps slot) v))) ≡ false
 
     module _ (img : List ℕ) (v : Version) (right : Right img v) where
       -- the session is over, with the image in the region
       abbrev done : (packets : ℕ) → (s : List ℕ) → List Exchange → System
       done p s trace =
-          turning b α t small d (suc e) (withBit m e) p q sk true (set ps slot (withStaged (partAt ps slot) v))
+          turning b α t small d (suc e) (withBit m e) p q sk true (set ps slot (withStaged (componentAt ps slot) v))
           (within (r .base .0) (r .len) (λ (old : List ℕ). img) s) trace
 
       -- the last block
@@ -256,7 +256,7 @@ module _ (b : List ℕ) (α : Accepted b) (t : ℕ) (small : t < 256) (d : Devic
           leads-step b
           (x-mid k (omega arith) s d2 (rw y inside) (next k x s) (ap (λ (u : Block). next k u s) y)
           p trace (ne-eqb (k + 1) (length (blocksAt b e)) (λ u. omega arith)) (block-answered (suc k) more (next k x s) d2′))
-          (subst (λ (u : List ℕ). Leads b (blocking (suc k) (p + 1) (next k x s) (trace ++ (said (blockPacket b (spot k)) (taken k) ∷ []))) (turning b α t small d (suc e) (withBit m e) p′ q sk true (set ps slot (withStaged (partAt ps slot) v)) u (trace ++ (said (blockPacket b (spot k)) (taken k) ∷ contents (suc k) j))))
+          (subst (λ (u : List ℕ). Leads b (blocking (suc k) (p + 1) (next k x s) (trace ++ (said (blockPacket b (spot k)) (taken k) ∷ []))) (turning b α t small d (suc e) (withBit m e) p′ q sk true (set ps slot (withStaged (componentAt ps slot) v)) u (trace ++ (said (blockPacket b (spot k)) (taken k) ∷ contents (suc k) j))))
           (within-twice r f s room now (λ (old : List ℕ). img))
           (subst (λ (u : List Exchange). Leads b (blocking (suc k) (p + 1) (next k x s) (trace ++ (said (blockPacket b (spot k)) (taken k) ∷ []))) (done p′ (next k x s) u))
           (append-assoc trace (said (blockPacket b (spot k)) (taken k) ∷ []) (contents (suc k) j)) rest))
@@ -283,8 +283,8 @@ module _ (b : List ℕ) (α : Accepted b) (t : ℕ) (small : t < 256) (d : Devic
           (transfer x′ xs (suc k) (p + 1) p′ (next k x s) (trace ++ (said (blockPacket b (spot k)) (taken k) ∷ [])) (drop-rest (blocksAt b e) k x (x′ ∷ xs) z) (inside .1) (g .0) (g .1) (omega arith))
 
       -- L5: a body, from its first block on its way: the image is in the region, and all else of the buffer is as it was
-      pub transmits : (p p′ : ℕ) (s : List ℕ) (trace : List Exchange) → 1 ≤ length (blocksAt b e) → Inside (partAt ps slot .region .len) (blocksAt b e)
-          → length s ≡ d .«staging_len» → imageOf (partAt ps slot .region .len) (blocksAt b e) ≡ img → p + length (blocksAt b e) ≡ p′
+      pub transmits : (p p′ : ℕ) (s : List ℕ) (trace : List Exchange) → 1 ≤ length (blocksAt b e) → Inside (componentAt ps slot .region .len) (blocksAt b e)
+          → length s ≡ d .«staging_len» → imageOf (componentAt ps slot .region .len) (blocksAt b e) ≡ img → p + length (blocksAt b e) ≡ p′
           → Leads b (blocking 0 p s trace) (done p′ s (trace ++ contents 0 (length (blocksAt b e))))
       unfolding imageOf
       transmits p p′ s trace some inside d2 w c = go (blocksAt b e) refl inside w c

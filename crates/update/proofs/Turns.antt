@@ -9,34 +9,34 @@ use borrow.Author.Tests.{eq-eqb, ltb-true, lt-ltb}
 use lib.Dec.{ltb}
 use lib.ListN.{length}
 use Rattle.wire.specs.Codes.{OFFER-SKIP, OFFER-ACCEPT, OFFER-REJECT, INFO-END-OFFER-LIST}
-use Rattle.offers.specs.Signal.{informationBytes}
-use Rattle.offers.specs.Kind.{kindIn}
-use Rattle.offers.specs.Reply.{replyBytes}
-use Rattle.component.specs.declared.record.Component.{Component}
-use Rattle.passes.proofs.Tests.{or-true, or-false}
-use Rattle.layout.specs.Layout.{countIn}
+use Rattle.wire_offer.specs.Signal.{informationBytes}
+use Rattle.wire_offer.specs.Kind.{kindIn}
+use Rattle.wire_offer.specs.Reply.{replyBytes}
+use Rattle.device_component.specs.declared.record.Component.{Component}
+use Rattle.update_passes.proofs.Tests.{or-true, or-false}
+use Rattle.bundle_layout.specs.Layout.{countIn}
 use Rattle.bundle.proofs.Accepted.{Accepted}
 use Rattle.device.specs.Entries.{serveEntry, serveStaging}
 use Rattle.device.specs.declared.answer.Channel.the-variants.{Offer as OfferChannel}
-use Rattle.offering.specs.Offer.{statusOf, reasonOf}
+use Rattle.device_offering.specs.Offer.{statusOf, reasonOf}
 use Rattle.device.specs.Record.{toIdle, idleWith}
 use Rattle.device.proofs.Calls.{answeredWith}
-use Rattle.offering.specs.declared.verdict.OfferVerdict.{OfferVerdict}
-use Rattle.offering.specs.declared.verdict.OfferVerdict.the-variants.{Reject, Skip, Accept}
+use Rattle.device_offering.specs.declared.verdict.OfferVerdict.{OfferVerdict}
+use Rattle.device_offering.specs.declared.verdict.OfferVerdict.the-variants.{Reject, Skip, Accept}
 use Rattle.device.specs.declared.record.Device.{Device}
-use Rattle.session.specs.declared.owed.Owed.the-variants as owed
+use Rattle.device_session.specs.declared.owed.Owed.the-variants as owed
 use Rattle.device.proofs.Calls.{Sound, Answered, code-opens, code-accepted, answers-offer, answers-code}
 use Rattle.device.proofs.Offering.{offerVerdict, afterOffer, answers}
 use Rattle.device.proofs.Blocks.{held, awaits}
-use Rattle.decide.specs.Decide.{sends, offerFrom, noted, decideIn, decideOf}
+use Rattle.host_decide.specs.Decide.{sends, offerFrom, noted, decideIn, decideOf}
 use Rattle.host.specs.Step.{moved, packetOf, blockPacket}
 use Rattle.host_record.specs.declared.record.Host.{Host}
 use Rattle.host_record.specs.declared.record.HostStage.{HostStage}
 use Rattle.host_record.specs.declared.record.HostStage.the-variants.{Opening, Listing, Offering, Sending, Closing, Ended}
 use Rattle.host_record.specs.declared.record.End.the-variants.{Done}
-use Rattle.decide.specs.declared.Action.the-variants.{Information, Offer}
-use Rattle.decide.specs.declared.Move.{Move}
-use Rattle.decide.proofs.Heard.{hears-opening, hears-listing, hears-accept, hears-skip, hears-reject, hears-closing}
+use Rattle.host_decide.specs.declared.Action.the-variants.{Information, Offer}
+use Rattle.host_decide.specs.declared.Move.{Move}
+use Rattle.host_decide.proofs.Heard.{hears-opening, hears-listing, hears-accept, hears-skip, hears-reject, hears-closing}
 use Rattle.update.specs.Trace.{Exchange}
 use Rattle.update.specs.Run.{System, channelOf, answerTo, flight, deliver, start}
 use Rattle.update.proofs.Leads.{said, goes, Goes, turn, stop}
@@ -137,7 +137,7 @@ module _ (b : List ℕ) (α : Accepted b) (t : ℕ) (small : t < 256) where
     -- its answer opens the first pass
     pub x-list : (m p q : ℕ) (sk la : Bool) (s : List ℕ) (trace : List Exchange) → Sound d s → Sound (toIdle d) s
         → Goes b (flight (codeBytes 0 t) (hostAs t Opening m p q sk la) d s trace)
-        (listing m (p + 1) (q + 1) (d .parts) s (trace ++ (said (codeBytes 0 t) (replied t 0 OFFER-ACCEPT) ∷ [])))
+        (listing m (p + 1) (q + 1) (d .components) s (trace ++ (said (codeBytes 0 t) (replied t 0 OFFER-ACCEPT) ∷ [])))
     unfolding packetOf serveStaging
     x-list m p q sk la s trace h k =
         let e = hears-opening (countIn b) false (hostAs t Opening m p q sk la) in

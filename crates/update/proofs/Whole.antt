@@ -9,20 +9,20 @@ use native.Mathlib.Omega.{arith}
 use lib.Dec.{T, T-not, not-T, eqb, eqb→eq, eqb-refl}
 use lib.ListN.{length, getD, drop, drop-of-length-le}
 use lib.Seq.{drop-cons}
-use Rattle.passes.specs.Sets.{Set, from, some, weight, all}
-use Rattle.passes.specs.Passes as passes
-use Rattle.passes.specs.Passes.{Reached, Monotone, passesOf}
-use Rattle.passes.proofs.Tests.{or-inl, or-inr, or-cases, both, and-l, and-r}
-use Rattle.passes.proofs.Sets.{length-from, some-out, some-in}
-use Rattle.passes.proofs.Passes.{passes-reach, need-monotone}
-use Rattle.layout.specs.Layout.{countIn, entriesIn}
+use Rattle.update_passes.specs.Sets.{Set, from, some, weight, all}
+use Rattle.update_passes.specs.Passes as passes
+use Rattle.update_passes.specs.Passes.{Reached, Monotone, passesOf}
+use Rattle.update_passes.proofs.Tests.{or-inl, or-inr, or-cases, both, and-l, and-r}
+use Rattle.update_passes.proofs.Sets.{length-from, some-out, some-in}
+use Rattle.update_passes.proofs.Passes.{passes-reach, need-monotone}
+use Rattle.bundle_layout.specs.Layout.{countIn, entriesIn}
 use Rattle.bundle.specs.Contents.{blocksIn}
 use Rattle.bundle.proofs.Accepted.{accepted}
 use Rattle.device.specs.Record.{toIdle}
 use Rattle.device.specs.declared.record.Device.{Device}
 use Rattle.host_record.specs.Record.{hasEnded}
 use Rattle.host.specs.Step as hostStep
-use Rattle.make.specs.Answer.{Step}
+use Rattle.host_packet.specs.Answer.{Step}
 use Rattle.host.specs.Step.{stepOf}
 use Rattle.host_record.specs.declared.record.HostStage.the-variants.{Ended}
 use Rattle.host_record.specs.declared.record.End.the-variants.{Done}
@@ -193,9 +193,9 @@ module _ (b : List ℕ) (token : ℕ) (d : Device) (staging reply : List ℕ) (P
   leaves =
       record {
         same = c .device;
-        slots = c .landed .parts .slots;
-        members = λ i k l t f. c .landed .parts .members i k l (to-set i l t) f;
-        others = λ k h. c .landed .parts .others k (λ i l t. h i l (from-set i l t));
+        slots = c .landed .components .slots;
+        members = λ i k l t f. c .landed .components .members i k l (to-set i l t) f;
+        others = λ k h. c .landed .components .others k (λ i l t. h i l (from-set i l t));
       }
 
   -- it decides the staging buffer

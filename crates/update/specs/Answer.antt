@@ -5,7 +5,7 @@ use mathlib.Core.List.{List, [], _∷_}
 use lib.Dec.{eqb}
 use lib.ListN.{length}
 use Rattle.wire.specs.Checks.{firstOf}
-use Rattle.layout.specs.Rows as bundle
+use Rattle.bundle_layout.specs.Rows as bundle
 use Rattle.device.specs.Refusals.{breaksD1}
 use Rattle.device.specs.declared.record.Device.{Device}
 use Rattle.host_record.specs.Record.{freshHost, Reported, reportOf, toldReport}

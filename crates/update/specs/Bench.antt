@@ -10,14 +10,14 @@ use Rattle.wire.specs.Codes.{KIND-INFORMATION, OFFER-SKIP, OFFER-ACCEPT, OFFER-
 use Rattle.wire.specs.Version.{versionBytes, versionOf}
 use Rattle.wire.specs.declared.version.Version.{Version}
 use Rattle.crc16.specs.Crc.{crcOf}
-use Rattle.records.specs.Record.{Block}
-use Rattle.layout.specs.Rows as rows
+use Rattle.bundle_records.specs.Record.{Block}
+use Rattle.bundle_layout.specs.Rows as rows
 use Rattle.bundle.specs.Contents.{Part, bundleBytes}
-use Rattle.component.specs.Record.{withStaged, blankComponent}
-use Rattle.device.specs.Record.{part, idleWith}
+use Rattle.device_component.specs.Record.{withStaged, blankComponent}
+use Rattle.device.specs.Record.{component, idleWith}
 use Rattle.device.specs.Bench.{bench}
 use Rattle.device.specs.declared.record.Device.{Device}
-use Rattle.session.specs.declared.stage.Stage.the-variants.{Idle}
+use Rattle.device_session.specs.declared.stage.Stage.the-variants.{Idle}
 use Rattle.host_record.specs.declared.record.HostStage.the-variants.{Ended}
 use Rattle.host_record.specs.declared.record.End.the-variants.{Done}
 use Rattle.update.specs.Trace.{Exchange, passesIn}
@@ -80,8 +80,8 @@ comesTo b = lastOf b 0xA5 (bench Idle) (replicate 128 0) []
 abbrev pub updated : Device
 updated =
     idleWith (bench Idle) (
-    withStaged (part (bench Idle) 0) (versionOf 1 3 0)
-    ∷ withStaged (part (bench Idle) 1) (versionOf 1 2 0)
+    withStaged (component (bench Idle) 0) (versionOf 1 3 0)
+    ∷ withStaged (component (bench Idle) 1) (versionOf 1 2 0)
     ∷ replicate 5 blankComponent)
 
 -- a run on the bench: the bundle of 204 bytes is accepted, demand 3's premise holds, and the run says this and is done

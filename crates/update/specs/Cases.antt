@@ -7,14 +7,14 @@ use mathlib.Core.List.{List, [], _∷_, _++_, map}
 use lib.ListN.{length, take, drop, replicate}
 use Rattle.wire.specs.Codes.{OFFER-SKIP, OFFER-ACCEPT, OFFER-REJECT, REJECT-INV-COMPONENT, REJECT-SWAP-PENDING, SUCCESS}
 use Rattle.wire.specs.Version.{versionBytes, versionOf}
-use Rattle.component.specs.Record.{isPending, withStaged, blankComponent}
-use Rattle.component.specs.declared.record.Component.{Component}
-use Rattle.component.specs.declared.record.Staged.the-variants as staged
-use Rattle.layout.specs.Layout.{countIn}
+use Rattle.device_component.specs.Record.{isPending, withStaged, blankComponent}
+use Rattle.device_component.specs.declared.record.Component.{Component}
+use Rattle.device_component.specs.declared.record.Staged.the-variants as staged
+use Rattle.bundle_layout.specs.Layout.{countIn}
 use Rattle.bundle.specs.Contents.{Part, bundleBytes}
 use Rattle.device.specs.declared.record.Device.{Device}
-use Rattle.session.specs.declared.stage.Stage.the-variants.{Idle, Receiving}
-use Rattle.session.specs.declared.owed.Owed.the-variants as owed
+use Rattle.device_session.specs.declared.stage.Stage.the-variants.{Idle, Receiving}
+use Rattle.device_session.specs.declared.owed.Owed.the-variants as owed
 use Rattle.host_record.specs.declared.record.HostStage.the-variants.{Ended}
 use Rattle.host_record.specs.declared.record.End.the-variants.{Done}
 use Rattle.update.specs.Trace.{passesIn}
@@ -52,7 +52,7 @@ seven = record {
   platform = 0x0042;
   «staging_len» = 112;
   count = 7;
-  parts = at100 1 ∷ at100 2 ∷ at100 3 ∷ at100 4 ∷ at100 5 ∷ at100 6 ∷ at100 7 ∷ [];
+  components = at100 1 ∷ at100 2 ∷ at100 3 ∷ at100 4 ∷ at100 5 ∷ at100 6 ∷ at100 7 ∷ [];
   stage = Idle;
   owed = owed.Nothing;
 }
@@ -78,7 +78,7 @@ mixed = record {
   platform = 0x0042;
   «staging_len» = 64;
   count = 4;
-  parts = at100 1 ∷ withStaged (at100 2) (versionOf 1 1 0) ∷ at100 3 ∷ at100 4 ∷ replicate 3 blankComponent;
+  components = at100 1 ∷ withStaged (at100 2) (versionOf 1 1 0) ∷ at100 3 ∷ at100 4 ∷ replicate 3 blankComponent;
   stage = Receiving (record { slot = 0; token = 3; next = 5 });
   owed = owed.Token 9;
 }
@@ -88,7 +88,7 @@ tangle = bundleBytes (needing 1 3 ∷ needing 3 1 ∷ alone 9 ∷ alone 2 ∷ al
 
 -- only component 4 lands
 abbrev pub MixedDevice : Type 0
-MixedDevice = map (λ c. isPending (c .staged)) (comes tangle mixed .device .parts) ≡ false ∷ true ∷ false ∷ true ∷ replicate 3 false
+MixedDevice = map (λ c. isPending (c .staged)) (comes tangle mixed .device .components) ≡ false ∷ true ∷ false ∷ true ∷ replicate 3 false
 
 abbrev pub MixedStaging : Type 0
 MixedStaging = comes tangle mixed .staging ≡ replicate 48 0 ++ image16 4

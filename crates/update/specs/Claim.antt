@@ -9,16 +9,16 @@ use lib.Dec.{T, leb, eqb}
 use lib.ListN.{length, getD}
 use Rattle.wire.specs.Checks.{applies}
 use Rattle.wire.specs.Version.{releaseOf}
-use Rattle.offers.specs.Offer.{fieldsIn}
-use Rattle.offers.specs.declared.offer.OfferFields.{OfferFields}
-use Rattle.records.specs.Record.{Block}
+use Rattle.wire_offer.specs.Offer.{fieldsIn}
+use Rattle.wire_offer.specs.declared.offer.OfferFields.{OfferFields}
+use Rattle.bundle_records.specs.Record.{Block}
 use Rattle.image.specs.Region.{blank, put, regionBytes}
 use Rattle.image.specs.Judge.{isRight, imageId, imageVersion}
-use Rattle.component.specs.Record.{withStaged}
-use Rattle.component.specs.declared.record.Component.{Component}
-use Rattle.component.specs.declared.list.Found.the-variants.{At}
-use Rattle.layout.specs.Layout.{countIn, offerIn}
-use Rattle.device.specs.Record.{find, part, toIdle, idleWith}
+use Rattle.device_component.specs.Record.{withStaged}
+use Rattle.device_component.specs.declared.record.Component.{Component}
+use Rattle.device_component.specs.declared.list.Found.the-variants.{At}
+use Rattle.bundle_layout.specs.Layout.{countIn, offerIn}
+use Rattle.device.specs.Record.{find, component, toIdle, idleWith}
 use Rattle.device.specs.Offer.{rejections, needUnmet}
 use Rattle.device.specs.declared.record.Device.{Device}
 use Rattle.host.specs.Step.{entryAt, blocksAt}
@@ -92,19 +92,19 @@ Spared d b X k = (i : ℕ) → i < countIn b → T (X i) → find d (offerAt b i
 
 -- the device that a set leaves: each member's component is pending with the offered version, no other differs; idle, nothing owed, all else as before
 pub record Leaves (d : Device) (b : List ℕ) (X : Set) (d′ : Device) : Type 0 where
-  pub same : d′ ≡ idleWith d (d′ .parts)
-  pub slots : length (d′ .parts) ≡ length (d .parts)
-  pub members : (i k : ℕ) → i < countIn b → T (X i) → find d (offerAt b i .id) ≡ At k → part d′ k ≡ withStaged (part d k) (offerAt b i .version)
-  pub others : (k : ℕ) → Spared d b X k → part d′ k ≡ part d k
+  pub same : d′ ≡ idleWith d (d′ .components)
+  pub slots : length (d′ .components) ≡ length (d .components)
+  pub members : (i k : ℕ) → i < countIn b → T (X i) → find d (offerAt b i .id) ≡ At k → component d′ k ≡ withStaged (component d k) (offerAt b i .version)
+  pub others : (k : ℕ) → Spared d b X k → component d′ k ≡ component d k
 
 -- place j lies outside the regions of the members
 abbrev pub Untouched : Device → (b : List ℕ) → Set → (j : ℕ) → Type 0
 Untouched d b X j = (i k : ℕ) → i < countIn b → T (X i) → find d (offerAt b i .id) ≡ At k
-    → (j < part d k .region .base .0) ⊎ (part d k .region .base .0 + part d k .region .len ≤ j)
+    → (j < component d k .region .base .0) ⊎ (component d k .region .base .0 + component d k .region .len ≤ j)
 
 -- the staging buffer that a set leaves: each member's region is its image, and every other byte is as it was
 pub record Fills (d : Device) (b : List ℕ) (X : Set) (s s′ : List ℕ) : Type 0 where
   pub long : length s′ ≡ length s
   pub images : (i k : ℕ) → i < countIn b → T (X i) → find d (offerAt b i .id) ≡ At k
-      → regionBytes (part d k .region) s′ ≡ imageOf (part d k .region .len) (blocksAt b i)
+      → regionBytes (component d k .region) s′ ≡ imageOf (component d k .region .len) (blocksAt b i)
   pub rest : (j : ℕ) → Untouched d b X j → getD s′ j 0 ≡ getD s j 0

@@ -7,11 +7,11 @@ use mathlib.Core.List.{List, [], _∷_}
 use lib.Dec.{T}
 use lib.ListN.{length}
 use Rattle.wire.specs.Bytes.{Bytes}
-use Rattle.component.specs.Record.{isPending}
-use Rattle.component.specs.declared.list.Found.the-variants.{At}
-use Rattle.layout.specs.Layout.{countIn, offerIn, idIn, bodyIn}
-use Rattle.layout.specs.Rows as rows
-use Rattle.device.specs.Record.{FitsDevice, find, part}
+use Rattle.device_component.specs.Record.{isPending}
+use Rattle.device_component.specs.declared.list.Found.the-variants.{At}
+use Rattle.bundle_layout.specs.Layout.{countIn, offerIn, idIn, bodyIn}
+use Rattle.bundle_layout.specs.Rows as rows
+use Rattle.device.specs.Record.{FitsDevice, find, component}
 use Rattle.device.specs.Refusals as deviceRows
 use Rattle.device.specs.declared.record.Device.{Device}
 use Rattle.host_record.specs.Record as ending
@@ -29,7 +29,7 @@ use Rattle.update.specs.Claim.{offerAt, Set, Good, Smallest, Leaves, Fil
 
 -- every body for a component that the device has is good
 abbrev pub GoodBodies : (b : List ℕ) → Device → Type 0
-GoodBodies b d = (i k : ℕ) → i < countIn b → find d (offerAt b i .id) ≡ At k → Good (part d k) (offerAt b i) (blocksAt b i)
+GoodBodies b d = (i k : ℕ) → i < countIn b → find d (offerAt b i .id) ≡ At k → Good (component d k) (offerAt b i) (blocksAt b i)
 
 -- the premise: a device state and a staging buffer that pass D1 and D2, a bundle that the check accepts, and a good body for each component that the
 -- device has
@@ -96,7 +96,7 @@ pub record Demand (b : List ℕ) (token : ℕ) (d : Device) (staging reply : Lis
   pub bytes : Fills d b (stagedIn b s) staging (s .staging)
   -- the state tells the same: staged in this run means not pending before and pending after
   pub pending : (i k : ℕ) → i < countIn b → find d (offerAt b i .id) ≡ At k
-      → T (stagedIn b s i) ↔ ((isPending (part d k .staged) ≡ false) × (isPending (part (s .device) k .staged) ≡ true))
+      → T (stagedIn b s i) ↔ ((isPending (component d k .staged) ≡ false) × (isPending (component (s .device) k .staged) ≡ true))
   -- another order of the same offers comes to the same
   pub order : (b′ : List ℕ) (token′ : ℕ) (reply′ : List ℕ) → Bytes b′ → token′ < 256 → rows.bundleRow b′ ≡ rows.served
       → (π : Reordered b b′) → Same b b′ π s (lastOf b′ token′ d staging reply′)

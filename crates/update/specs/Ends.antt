@@ -7,17 +7,17 @@ use lib.Count.{ones}
 use lib.ListN.{length}
 use Rattle.wire.specs.Bytes.{Bytes}
 use Rattle.wire.specs.Rows as packet
-use Rattle.offers.specs.Offer as offer
-use Rattle.offers.specs.Signal.{informationBytes, extendedBytes}
-use Rattle.offers.specs.declared.offer.OfferFields.{OfferFields}
-use Rattle.offers.specs.declared.signal.Signal.{Signal}
-use Rattle.contents.specs.Content as content
-use Rattle.contents.specs.declared.content.ContentFields.{ContentFields}
-use Rattle.layout.specs.Layout.{countIn, idIn}
-use Rattle.layout.specs.Rows as bundle
+use Rattle.wire_offer.specs.Offer as offer
+use Rattle.wire_offer.specs.Signal.{informationBytes, extendedBytes}
+use Rattle.wire_offer.specs.declared.offer.OfferFields.{OfferFields}
+use Rattle.wire_offer.specs.declared.signal.Signal.{Signal}
+use Rattle.wire_content.specs.Content as content
+use Rattle.wire_content.specs.declared.content.ContentFields.{ContentFields}
+use Rattle.bundle_layout.specs.Layout.{countIn, idIn}
+use Rattle.bundle_layout.specs.Rows as bundle
 use Rattle.device.specs.declared.record.Device.{Device}
 use Rattle.host_record.specs.Record.{freshHost, hasBit, hasEnded}
-use Rattle.make.specs.Answer.{served}
+use Rattle.host_packet.specs.Answer.{served}
 use Rattle.host.specs.Step.{entryAt, stepOf}
 use Rattle.host_record.specs.declared.record.Host.{Host}
 use Rattle.update.specs.Trace.{Exchange, passesIn, completedIn}

@@ -4,7 +4,7 @@ use mathlib.Core.Bool.{cond}
 use mathlib.Core.List.{List, [], _∷_, _++_}
 use lib.Dec.{eqb}
 use lib.ListN.{length}
-use Rattle.layout.specs.Layout.{countIn, entriesIn}
+use Rattle.bundle_layout.specs.Layout.{countIn, entriesIn}
 use Rattle.bundle.specs.Contents.{blocksIn}
 use Rattle.device.specs.Entries.{serveEntry, serveStaging}
 use Rattle.device.specs.Refusals.{Outcome}

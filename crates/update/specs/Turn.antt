@@ -4,7 +4,7 @@ use mathlib.Core.Path.{_≡_}
 use mathlib.Core.Bool.{cond}
 use mathlib.Core.List.{List, []}
 use Rattle.bundle.specs.Contents.{Contents}
-use Rattle.make.specs.Made.{InnerStep}
+use Rattle.host_packet.specs.Made.{InnerStep}
 use Rattle.host.specs.Inner.{innerOf}
 use Rattle.host_record.specs.declared.record.Host.{Host}
 use Rattle.update.specs.declared.turn.BothEnds.{BothEnds}

@@ -6,11 +6,11 @@ ghost use Rattle.update.specs.Answer.{rowOf, refusedBy, runOf, told};
 ghost use Rattle.update.specs.Demand.{DemandOf};
 use crate::turn::run_to_end;
 use bundle::check;
+use bundle_layout::BundleVerdict;
+use bundle_layout::row_number;
 use device::record::Device;
 use host_record::record::Host;
 use host_record::report::Report;
-use layout::BundleVerdict;
-use layout::row_number;
 
 pub mod turn; // turn.rt: one turn, and the turns until the host has ended
 

@@ -1,21 +1,21 @@
 // A fresh host and a device in turn, over the contents of a bundle that was checked once, so that the work is linear in the packets.
 ghost use mathlib.Core.Path.{_≡_};
 ghost use mathlib.Core.List.{[]};
-ghost use Rattle.layout.specs.Rows as rows;
+ghost use Rattle.bundle_layout.specs.Rows as rows;
 ghost use Rattle.bundle.specs.Contents.{toldChecked, checkOf};
 ghost use Rattle.host_record.specs.Record.{hasEnded};
-ghost use Rattle.make.specs.Answer.{sentBy};
-ghost use Rattle.make.specs.Made.{toldInner};
+ghost use Rattle.host_packet.specs.Answer.{sentBy};
+ghost use Rattle.host_packet.specs.Made.{toldInner};
 ghost use Rattle.update.specs.Run.{lastOf};
 ghost use Rattle.update.specs.Turn.{stepFrom, Comes, Delivered, Turned};
+use bundle_layout::Checked;
 use device::answer::Answer;
 use device::record::Device;
 use host::inner::inner_step;
+use host_packet::answer::InnerAnswer;
+use host_packet::answer::Sent;
 use host_record::record::Host;
 use host_record::record::HostStage;
-use layout::Checked;
-use make::answer::InnerAnswer;
-use make::answer::Sent;
 
 // Both ends between two turns.
 pub struct BothEnds {

@@ -5,6 +5,10 @@ use Prim.Native.Nat.{ℕ}
 abbrev pub PROTOCOL : ℕ
 PROTOCOL = 2
 
+-- The most components that a device has: as many as a version reply holds.
+abbrev pub COMPONENT-LIMIT : ℕ
+COMPONENT-LIMIT = 7
+
 -- Byte 2 of a 16-byte packet on the offer channel that is no offer.
 abbrev pub KIND-INFORMATION : ℕ
 KIND-INFORMATION = 0xFF

@@ -3,6 +3,9 @@
 // Protocol: the only one spoken.
 pub const PROTOCOL: u8 = 2;
 
+// The most components that a device has: as many as a version reply holds.
+pub const COMPONENT_LIMIT: usize = 7;
+
 // Byte 2 of a 16-byte packet on the offer channel that is no offer.
 pub const KIND_INFORMATION: u8 = 0xFF;
 

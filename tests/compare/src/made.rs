@@ -1,28 +1,28 @@
 //! The crate that tools/rust_crate makes from the proved source. Rows C1 to C3 and bytes that are no record are judged here, as include/cfu.h says.
 
 use cfu_updater::bundle;
-use cfu_updater::layout::{self, BundleVerdict, Checked};
-use cfu_updater::component::record::{Component, Listed, Staged};
-use cfu_updater::component::setup::SetupVerdict;
-use cfu_updater::contents::content::{build_content, read_content, ContentFields};
-use cfu_updater::contents::reply::{build_content_reply, read_content_reply, ContentReply as MadeContentReply};
+use cfu_updater::bundle_layout::{self, BundleVerdict, Checked};
+use cfu_updater::device_component::record::{Component, Listed, Staged};
+use cfu_updater::device_component::setup::SetupVerdict;
+use cfu_updater::wire_content::content::{build_content, read_content, ContentFields};
+use cfu_updater::wire_content::reply::{build_content_reply, read_content_reply, ContentReply as MadeContentReply};
 use cfu_updater::device::answer::{Answer, Refusal};
 use cfu_updater::device::record::Device;
-use cfu_updater::session::owed::Owed;
-use cfu_updater::session::stage::{Offered, Receiving, Stage as DeviceStage};
+use cfu_updater::device_session::owed::Owed;
+use cfu_updater::device_session::stage::{Offered, Receiving, Stage as DeviceStage};
 use cfu_updater::device::setup::set_up;
 use cfu_updater::host_record::fits::{body_at, in_hand};
 use cfu_updater::host_record::report::Progress;
-use cfu_updater::make::answer::{Sent, StepAnswer, StepRefusal};
+use cfu_updater::host_packet::answer::{Sent, StepAnswer, StepRefusal};
 use cfu_updater::host::inner::inner_step;
 use cfu_updater::host::step::{cursor_for, step};
 use cfu_updater::host_record::record::{End, Host, HostStage, Place, Turn};
 use cfu_updater::image::region::{Region, StagingOffset};
-use cfu_updater::offers::kind::{read_offer_packet, OfferPacket as MadeOfferPacket};
-use cfu_updater::offers::offer::{build_offer, OfferFields};
-use cfu_updater::offers::reply::{build_offer_reply, read_offer_reply, OfferReply as MadeOfferReply};
-use cfu_updater::offers::signal::{build_extended, build_information, Signal as MadeSignal};
-use cfu_updater::versions::{build_version_reply, read_version_reply, Running, VersionReply as MadeVersionReply};
+use cfu_updater::wire_offer::kind::{read_offer_packet, OfferPacket as MadeOfferPacket};
+use cfu_updater::wire_offer::offer::{build_offer, OfferFields};
+use cfu_updater::wire_offer::reply::{build_offer_reply, read_offer_reply, OfferReply as MadeOfferReply};
+use cfu_updater::wire_offer::signal::{build_extended, build_information, Signal as MadeSignal};
+use cfu_updater::wire_version::{build_version_reply, read_version_reply, Running, VersionReply as MadeVersionReply};
 use cfu_updater::wire::address::RegionAddress;
 use cfu_updater::wire::codes;
 use cfu_updater::wire::verdict::Verdict;
@@ -200,7 +200,7 @@ fn read_host(bytes: &[u8]) -> Host {
 /// The contents of the crate's answer to a check.
 fn contents_of(checked: &Checked) -> Contents {
     let body = |entry: &layout::Entry| Body { offset: entry.offset, length: entry.length, records: entry.records };
-    let row = layout::row_number(checked.verdict);
+    let row = bundle_layout::row_number(checked.verdict);
     Contents { row, place: checked.place, count: checked.count, bodies: checked.table.each_ref().map(body), ..Contents::default() }
 }
 

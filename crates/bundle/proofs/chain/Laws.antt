@@ -9,8 +9,8 @@ use native.Mathlib.Omega.{arith}
 use borrow.Author.Tests.{eqb-true}
 use lib.Dec.{eqb}
 use lib.ListN.{length, getD, drop}
-use Rattle.layout.specs.Layout.{countIn, tableEnd, entriesIn, offsetIn, lengthIn}
-use Rattle.layout.specs.Rows.{gap, rowB7}
+use Rattle.bundle_layout.specs.Layout.{countIn, tableEnd, entriesIn, offsetIn, lengthIn}
+use Rattle.bundle_layout.specs.Rows.{gap, rowB7}
 use Rattle.bundle.proofs.table.Laws.{entryAt, length-entries, entry-is, from-here, from-end}
 
 module _ (b : List ℕ) (size at i : ℕ) where

@@ -7,9 +7,9 @@ use native.Mathlib.Omega.{arith}
 use borrow.Author.Tests.{ltb-false, ne-eqb}
 use lib.ListN.{length}
 use Rattle.wire.specs.Checks.{firstOf}
-use Rattle.layout.specs.declared.Entry.{Entry}
-use Rattle.layout.specs.Layout.{BUNDLE-LIMIT, OFFER-LIMIT, HEAD, countIn, tableEnd}
-use Rattle.layout.specs.Rows.{served, badLength, badHead, badCount, cutTable, rowB5, rowB6, rowB7, bundleRow}
+use Rattle.bundle_layout.specs.declared.Entry.{Entry}
+use Rattle.bundle_layout.specs.Layout.{BUNDLE-LIMIT, OFFER-LIMIT, HEAD, countIn, tableEnd}
+use Rattle.bundle_layout.specs.Rows.{served, badLength, badHead, badCount, cutTable, rowB5, rowB6, rowB7, bundleRow}
 use Rattle.bundle.specs.Contents.{checkOf}
 use Rattle.bundle.proofs.Limits.{inside}
 use borrow.Author.Needs.{needs}
@@ -68,21 +68,9 @@ sized c = inside HEAD BUNDLE-LIMIT (length (b1 c)) (s1 c)
 listed : (c : tie.Else4) → (countIn (b4 c) ≤ OFFER-LIMIT) × (tableEnd (countIn (b4 c)) ≤ length (b4 c))
 listed c = (inside 1 OFFER-LIMIT (countIn (b4 c)) (s3 (c .before .before)) .1, ltb-false _ _ (s4 c))
 
-bad-length-requires : tie.Need-bad-length-requires
-bad-length-requires c κs = search needs
-
-refused-requires : tie.Need-refused-requires
-refused-requires c κs = search needs
-
 returns : tie.Need-returns
 unfolding checkOf bundleRow firstOf
 returns c = rw (c .refused .ensures, sym (c .before .before .bad-length .ensures) ∙ c .before .if1 .taken)
-
-bad-head-requires : tie.Need-bad-head-requires
-bad-head-requires c κs = search needs
-
-refused-requires-2 : tie.Need-refused-requires-2
-refused-requires-2 c κs = search needs
 
 returns-2 : tie.Need-returns-2
 unfolding checkOf bundleRow firstOf
@@ -90,23 +78,11 @@ returns-2 c =
     let e = c .before .before .before in
     rw (c .refused2 .ensures, s1 (e), sym (c .before .before .bad-head .ensures) ∙ c .before .if2 .taken)
 
-bad-count-requires : tie.Need-bad-count-requires
-bad-count-requires c κs = search needs
-
-refused-requires-3 : tie.Need-refused-requires-3
-refused-requires-3 c κs = search needs
-
 returns-3 : tie.Need-returns-3
 unfolding checkOf bundleRow firstOf
 returns-3 c =
     let e = c .before .before .before in
     rw (c .refused3 .ensures, s1 (e .before .before), s2 (e), sym (c .before .before .bad-count .ensures) ∙ c .before .if3 .taken)
-
-cut-table-requires : tie.Need-cut-table-requires
-cut-table-requires c κs = search needs
-
-refused-requires-4 : tie.Need-refused-requires-4
-refused-requires-4 c κs = search needs
 
 returns-4 : tie.Need-returns-4
 unfolding checkOf bundleRow firstOf
@@ -117,9 +93,6 @@ returns-4 c =
 bad-offer-place-requires : tie.Need-bad-offer-place-requires
 bad-offer-place-requires c κs = listed c
 
-refused-requires-5 : tie.Need-refused-requires-5
-refused-requires-5 c κs = search needs
-
 returns-5 : tie.Need-returns-5
 unfolding checkOf bundleRow firstOf
 returns-5 c =
@@ -129,9 +102,6 @@ returns-5 c =
 repeated-place-requires : tie.Need-repeated-place-requires
 repeated-place-requires c κs = listed (c .before .before)
 
-refused-requires-6 : tie.Need-refused-requires-6
-refused-requires-6 c κs = search needs
-
 returns-6 : tie.Need-returns-6
 unfolding checkOf bundleRow firstOf
 returns-6 c =
@@ -140,9 +110,6 @@ returns-6 c =
 
 gap-place-requires : tie.Need-gap-place-requires
 gap-place-requires c κs = listed (c .before .before .before .before)
-
-refused-requires-7 : tie.Need-refused-requires-7
-refused-requires-7 c κs = search needs
 
 returns-7 : tie.Need-returns-7
 unfolding checkOf bundleRow firstOf
@@ -155,9 +122,6 @@ contents-of-requires c κs =
     let e = c .before .before .before .before .before .before in
     let l = listed e in
     ((l .0, l .1, sized (e .before .before .before .before .before .before) .1), (s5 (c .before .before .before .before), s7 c))
-
-refused-requires-8 : tie.Need-refused-requires-8
-refused-requires-8 c κs = search needs
 
 returns-8 : tie.Need-returns-8
 unfolding checkOf bundleRow firstOf
@@ -182,29 +146,29 @@ pub check-spec : {M : Type 1} → statement M
 check-spec =
     tie.close
     (tie.spec
-    bad-length-requires
-    refused-requires
+    (λ c κs. search needs)
+    (λ c κs. search needs)
     returns
-    bad-head-requires
-    refused-requires-2
+    (λ c κs. search needs)
+    (λ c κs. search needs)
     returns-2
-    bad-count-requires
-    refused-requires-3
+    (λ c κs. search needs)
+    (λ c κs. search needs)
     returns-3
-    cut-table-requires
-    refused-requires-4
+    (λ c κs. search needs)
+    (λ c κs. search needs)
     returns-4
     bad-offer-place-requires
-    refused-requires-5
+    (λ c κs. search needs)
     returns-5
     repeated-place-requires
-    refused-requires-6
+    (λ c κs. search needs)
     returns-6
     gap-place-requires
-    refused-requires-7
+    (λ c κs. search needs)
     returns-7
     contents-of-requires
-    refused-requires-8
+    (λ c κs. search needs)
     returns-8
     shared-slice-read-t22
     returns-9)

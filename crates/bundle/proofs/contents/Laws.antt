@@ -12,19 +12,19 @@ use lib.Seq.{set-at, length-take-le}
 use Rattle.wire.specs.Checks.{any}
 use Rattle.wire.specs.Codes.{PROTOCOL}
 use Rattle.wire.specs.Rows.{served, Told}
-use Rattle.offers.specs.declared.offer.OfferFields.{OfferFields}
-use Rattle.offers.specs.declared.kind.OfferPacket.{OfferPacket}
-use Rattle.offers.specs.declared.kind.OfferPacket.the-variants.{Refused, Offer, Information, Extended}
-use Rattle.offers.specs.Offer.{fieldsIn}
-use Rattle.offers.specs.Kind.{Kind, offer, kindIn, readOf, toldRead}
-use Rattle.records.specs.declared.Tally.{Tally}
-use Rattle.records.specs.declared.Tally.the-variants.{Broken, Records}
-use Rattle.records.specs.Parse.{Parsed, whole, broken, recordsOf, blocksOf, tallyFrom}
-use Rattle.records.specs.Walk.{tallyOf}
-use Rattle.records.proofs.Parsing.{few-records}
-use Rattle.layout.specs.Layout.{countIn, entriesIn, idIn}
-use Rattle.layout.specs.Rows.{badOffer, isBad}
-use Rattle.layout.specs.Layout.{blankEntry}
+use Rattle.wire_offer.specs.declared.offer.OfferFields.{OfferFields}
+use Rattle.wire_offer.specs.declared.kind.OfferPacket.{OfferPacket}
+use Rattle.wire_offer.specs.declared.kind.OfferPacket.the-variants.{Refused, Offer, Information, Extended}
+use Rattle.wire_offer.specs.Offer.{fieldsIn}
+use Rattle.wire_offer.specs.Kind.{Kind, offer, kindIn, readOf, toldRead}
+use Rattle.bundle_records.specs.declared.Tally.{Tally}
+use Rattle.bundle_records.specs.declared.Tally.the-variants.{Broken, Records}
+use Rattle.bundle_records.specs.Parse.{Parsed, whole, broken, recordsOf, blocksOf, tallyFrom}
+use Rattle.bundle_records.specs.Walk.{tallyOf}
+use Rattle.bundle_records.proofs.Parsing.{few-records}
+use Rattle.bundle_layout.specs.Layout.{countIn, entriesIn, idIn}
+use Rattle.bundle_layout.specs.Rows.{badOffer, isBad}
+use Rattle.bundle_layout.specs.Layout.{blankEntry}
 use Rattle.bundle.specs.Contents.{entryIn}
 use Rattle.wire.proofs.Tests.{neither}
 use Rattle.bundle.proofs.Limits.{inside}

@@ -10,8 +10,8 @@ use lib.Dec.{eqb}
 use lib.ListN.{length, getD, take, drop, length-take, length-drop, drop-of-length-le}
 use lib.Seq.{take-suc, drop-cons, drop-drop, getD-take, length-take-le}
 use Rattle.wire.specs.Checks.{any}
-use Rattle.layout.specs.Layout.{HEAD, ENTRY, countIn, tableEnd, entriesFrom, entriesIn, idIn}
-use Rattle.layout.specs.Rows.{firstEntry, repeated}
+use Rattle.bundle_layout.specs.Layout.{HEAD, ENTRY, countIn, tableEnd, entriesFrom, entriesIn, idIn}
+use Rattle.bundle_layout.specs.Rows.{firstEntry, repeated}
 
 -- entry i of a bundle
 abbrev pub entryAt : List ℕ → ℕ → List ℕ

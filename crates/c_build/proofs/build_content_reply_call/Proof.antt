@@ -4,18 +4,6 @@ use borrow.Author.Needs.{needs}
 use Rattle.c_build.proofs.build_content_reply_call.Statement.{statement}
 use Rattle.c_build.proofs.build_content_reply_call.Tie as tie
 
-build-content-reply-requires : tie.Need-build-content-reply-requires
-build-content-reply-requires c κs = search needs
-
-slice-aggregate-leave : tie.Need-slice-aggregate-leave
-slice-aggregate-leave c = search needs
-
-leave-requires : tie.Need-leave-requires
-leave-requires c κs = search needs
-
-same-length : tie.Need-same-length
-same-length c = search needs
-
 returns : tie.Need-returns
 unfolding buildContentReplyCall
 returns c = rw (c .before .before .before .before .before .build-content-reply .ensures) at (c .before .before .leave .ensures)
@@ -24,8 +12,8 @@ pub build-content-reply-call-spec : {M : Type 1} → statement M
 build-content-reply-call-spec =
     tie.close
     (tie.spec
-    build-content-reply-requires
-    slice-aggregate-leave
-    leave-requires
-    same-length
+    (λ c κs. search needs)
+    (λ c. search needs)
+    (λ c κs. search needs)
+    (λ c. search needs)
     returns)

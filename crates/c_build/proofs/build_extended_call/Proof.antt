@@ -4,18 +4,6 @@ use borrow.Author.Needs.{needs}
 use Rattle.c_build.proofs.build_extended_call.Statement.{statement}
 use Rattle.c_build.proofs.build_extended_call.Tie as tie
 
-build-extended-requires : tie.Need-build-extended-requires
-build-extended-requires c κs = search needs
-
-slice-aggregate-leave : tie.Need-slice-aggregate-leave
-slice-aggregate-leave c = search needs
-
-leave-requires : tie.Need-leave-requires
-leave-requires c κs = search needs
-
-same-length : tie.Need-same-length
-same-length c = search needs
-
 returns : tie.Need-returns
 unfolding buildExtendedCall
 returns c = rw (c .before .before .before .before .before .build-extended .ensures) at (c .before .before .leave .ensures)
@@ -23,4 +11,4 @@ returns c = rw (c .before .before .before .before .before .build-extended .ensur
 pub build-extended-call-spec : {M : Type 1} → statement M
 build-extended-call-spec =
     tie.close
-    (tie.spec build-extended-requires slice-aggregate-leave leave-requires same-length returns)
+    (tie.spec (λ c κs. search needs) (λ c. search needs) (λ c κs. search needs) (λ c. search needs) returns)

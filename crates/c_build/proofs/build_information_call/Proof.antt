@@ -4,18 +4,6 @@ use borrow.Author.Needs.{needs}
 use Rattle.c_build.proofs.build_information_call.Statement.{statement}
 use Rattle.c_build.proofs.build_information_call.Tie as tie
 
-build-information-requires : tie.Need-build-information-requires
-build-information-requires c κs = search needs
-
-slice-aggregate-leave : tie.Need-slice-aggregate-leave
-slice-aggregate-leave c = search needs
-
-leave-requires : tie.Need-leave-requires
-leave-requires c κs = search needs
-
-same-length : tie.Need-same-length
-same-length c = search needs
-
 returns : tie.Need-returns
 unfolding buildInformationCall
 returns c = rw (c .before .before .before .before .before .build-information .ensures) at (c .before .before .leave .ensures)
@@ -23,4 +11,4 @@ returns c = rw (c .before .before .before .before .before .build-information .en
 pub build-information-call-spec : {M : Type 1} → statement M
 build-information-call-spec =
     tie.close
-    (tie.spec build-information-requires slice-aggregate-leave leave-requires same-length returns)
+    (tie.spec (λ c κs. search needs) (λ c. search needs) (λ c κs. search needs) (λ c. search needs) returns)

@@ -5,21 +5,6 @@ use borrow.Author.Needs.{needs}
 use Rattle.c_build.proofs.build_offer_call.Statement.{statement}
 use Rattle.c_build.proofs.build_offer_call.Tie as tie
 
-built-offer-requires : tie.Need-built-offer-requires
-built-offer-requires c κs = search needs
-
-packet-number-requires : tie.Need-packet-number-requires
-packet-number-requires c κs = search needs
-
-slice-aggregate-leave : tie.Need-slice-aggregate-leave
-slice-aggregate-leave c = search needs
-
-leave-requires : tie.Need-leave-requires
-leave-requires c κs = search needs
-
-same-length : tie.Need-same-length
-same-length c = search needs
-
 returns : tie.Need-returns
 unfolding buildOfferCall
 returns c = built-left (c .before .before .before .before .before .before .before .before .before .args .packet .now) 16 (c .before .before .leave .ensures) (c .before .before .before .before .packet-number .ensures) (c .before .before .before .before .before .before .before .built-offer .ensures) (search needs)
@@ -28,9 +13,9 @@ pub build-offer-call-spec : {M : Type 1} → statement M
 build-offer-call-spec =
     tie.close
     (tie.spec
-    built-offer-requires
-    packet-number-requires
-    slice-aggregate-leave
-    leave-requires
-    same-length
+    (λ c κs. search needs)
+    (λ c κs. search needs)
+    (λ c. search needs)
+    (λ c κs. search needs)
+    (λ c. search needs)
     returns)

@@ -4,18 +4,6 @@ use borrow.Author.Needs.{needs}
 use Rattle.c_build.proofs.build_offer_reply_call.Statement.{statement}
 use Rattle.c_build.proofs.build_offer_reply_call.Tie as tie
 
-build-offer-reply-requires : tie.Need-build-offer-reply-requires
-build-offer-reply-requires c κs = search needs
-
-slice-aggregate-leave : tie.Need-slice-aggregate-leave
-slice-aggregate-leave c = search needs
-
-leave-requires : tie.Need-leave-requires
-leave-requires c κs = search needs
-
-same-length : tie.Need-same-length
-same-length c = search needs
-
 returns : tie.Need-returns
 unfolding buildOfferReplyCall
 returns c = rw (c .before .before .before .before .before .build-offer-reply .ensures) at (c .before .before .leave .ensures)
@@ -23,4 +11,4 @@ returns c = rw (c .before .before .before .before .before .build-offer-reply .en
 pub build-offer-reply-call-spec : {M : Type 1} → statement M
 build-offer-reply-call-spec =
     tie.close
-    (tie.spec build-offer-reply-requires slice-aggregate-leave leave-requires same-length returns)
+    (tie.spec (λ c κs. search needs) (λ c. search needs) (λ c κs. search needs) (λ c. search needs) returns)

@@ -12,24 +12,6 @@ returns : tie.Need-returns
 unfolding buildVersionReplyCall
 returns c = rw (ne-eqb _ _ (c .if1 .taken))
 
-read-components-requires : tie.Need-read-components-requires
-read-components-requires c κs = search needs
-
-build-version-reply-requires : tie.Need-build-version-reply-requires
-build-version-reply-requires c κs = search needs
-
-packet-number-requires : tie.Need-packet-number-requires
-packet-number-requires c κs = search needs
-
-slice-aggregate-leave : tie.Need-slice-aggregate-leave
-slice-aggregate-leave c = search needs
-
-leave-requires : tie.Need-leave-requires
-leave-requires c κs = search needs
-
-same-length : tie.Need-same-length
-same-length c = search needs
-
 returns-2 : tie.Need-returns-2
 unfolding buildVersionReplyCall
 returns-2 c =
@@ -43,10 +25,10 @@ build-version-reply-call-spec =
     tie.close
     (tie.spec
     returns
-    read-components-requires
-    build-version-reply-requires
-    packet-number-requires
-    slice-aggregate-leave
-    leave-requires
-    same-length
+    (λ c κs. search needs)
+    (λ c κs. search needs)
+    (λ c κs. search needs)
+    (λ c. search needs)
+    (λ c κs. search needs)
+    (λ c. search needs)
     returns-2)

@@ -3,11 +3,8 @@ use borrow.Author.Needs.{needs}
 use Rattle.c_build.proofs.fields.Statement.{statement}
 use Rattle.c_build.proofs.fields.Tie as tie
 
-new-requires : tie.Need-new-requires
-new-requires c κs = search needs
-
 returns : tie.Need-returns
 returns c = simp (c .new .ensures)
 
 pub fields-spec : {M : Type 1} → statement M
-fields-spec = tie.close (tie.spec new-requires returns)
+fields-spec = tie.close (tie.spec (λ c κs. search needs) returns)

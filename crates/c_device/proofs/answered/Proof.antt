@@ -6,24 +6,6 @@ use Rattle.wire.proofs.words.Copies.{copy-same}
 use Rattle.c_device.proofs.answered.Statement.{statement}
 use Rattle.c_device.proofs.answered.Tie as tie
 
-replies-of-requires : tie.Need-replies-of-requires
-replies-of-requires c κs = search needs
-
-slice-aggregate-copy : tie.Need-slice-aggregate-copy
-slice-aggregate-copy c = search needs
-
-copy-requires : tie.Need-copy-requires
-copy-requires c κs = search needs
-
-device-number-requires : tie.Need-device-number-requires
-device-number-requires c κs = search needs
-
-count-of-requires : tie.Need-count-of-requires
-count-of-requires c κs = search needs
-
-same-length : tie.Need-same-length
-same-length c = search needs
-
 returns : tie.Need-returns
 returns c =
     let o = c .before .before .before .before .before .before .before .replies-of in
@@ -36,10 +18,10 @@ pub answered-spec : {M : Type 1} → statement M
 answered-spec =
     tie.close
     (tie.spec
-    replies-of-requires
-    slice-aggregate-copy
-    copy-requires
-    device-number-requires
-    count-of-requires
-    same-length
+    (λ c κs. search needs)
+    (λ c. search needs)
+    (λ c κs. search needs)
+    (λ c κs. search needs)
+    (λ c κs. search needs)
+    (λ c. search needs)
     returns)

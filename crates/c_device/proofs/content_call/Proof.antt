@@ -18,21 +18,6 @@ returns-2 c =
     let e = eq-eqb _ _ (c .before .if1 .left) in
     let f = ne-eqb _ _ (c .if2 .taken) in (rw (e, f), rw (e, f))
 
-content-in-place-requires : tie.Need-content-in-place-requires
-content-in-place-requires c κs = search needs
-
-answered-requires : tie.Need-answered-requires
-answered-requires c κs = search needs
-
-same-length : tie.Need-same-length
-same-length c = search needs
-
-same-length-2 : tie.Need-same-length-2
-same-length-2 c = search needs
-
-same-length-3 : tie.Need-same-length-3
-same-length-3 c = search needs
-
 returns-3 : tie.Need-returns-3
 unfolding contentCall contentCallStaging
 returns-3 c =
@@ -51,9 +36,9 @@ content-call-spec =
     (tie.spec
     returns
     returns-2
-    content-in-place-requires
-    answered-requires
-    same-length
-    same-length-2
-    same-length-3
+    (λ c κs. search needs)
+    (λ c κs. search needs)
+    (λ c. search needs)
+    (λ c. search needs)
+    (λ c. search needs)
     returns-3)

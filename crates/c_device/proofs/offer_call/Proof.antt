@@ -17,18 +17,6 @@ returns-2 : tie.Need-returns-2
 unfolding offerCall
 returns-2 c = rw (eq-eqb _ _ (c .before .if1 .left), ne-eqb _ _ (c .if2 .taken))
 
-offer-in-place-requires : tie.Need-offer-in-place-requires
-offer-in-place-requires c κs = search needs
-
-answered-requires : tie.Need-answered-requires
-answered-requires c κs = search needs
-
-same-length : tie.Need-same-length
-same-length c = search needs
-
-same-length-2 : tie.Need-same-length-2
-same-length-2 c = search needs
-
 returns-3 : tie.Need-returns-3
 unfolding offerCall
 returns-3 c =
@@ -46,8 +34,8 @@ offer-call-spec =
     (tie.spec
     returns
     returns-2
-    offer-in-place-requires
-    answered-requires
-    same-length
-    same-length-2
+    (λ c κs. search needs)
+    (λ c κs. search needs)
+    (λ c. search needs)
+    (λ c. search needs)
     returns-3)

@@ -10,24 +10,6 @@ use Rattle.c_device.proofs.replies_of.Tie as tie
 enum-told : tie.Need-enum-told
 enum-told c = search needs
 
-joined-requires : tie.Need-joined-requires
-joined-requires c κs = search needs
-
-joined-requires-2 : tie.Need-joined-requires-2
-joined-requires-2 c κs = search needs
-
-enum-known-ready : tie.Need-enum-known-ready
-enum-known-ready c = search needs
-
-ready-reply-requires : tie.Need-ready-reply-requires
-ready-reply-requires c κs = search needs
-
-joined-requires-3 : tie.Need-joined-requires-3
-joined-requires-3 c κs = search needs
-
-joined-requires-4 : tie.Need-joined-requires-4
-joined-requires-4 c κs = search needs
-
 returns : tie.Need-returns
 returns c =
     let p = c .before .before .before .before .args .reply in
@@ -53,12 +35,12 @@ replies-of-spec =
     tie.close
     (tie.spec
     enum-told
-    joined-requires
-    joined-requires-2
-    enum-known-ready
-    ready-reply-requires
-    joined-requires-3
-    joined-requires-4
+    (λ c κs. search needs)
+    (λ c κs. search needs)
+    (λ c. search needs)
+    (λ c κs. search needs)
+    (λ c κs. search needs)
+    (λ c κs. search needs)
     returns
     returns-2
     returns-3

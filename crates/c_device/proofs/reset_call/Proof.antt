@@ -12,27 +12,6 @@ returns : tie.Need-returns
 unfolding resetCall
 returns c = rw (ne-eqb _ _ (c .if1 .taken))
 
-read-device-requires : tie.Need-read-device-requires
-read-device-requires c κs = search needs
-
-reset-requires : tie.Need-reset-requires
-reset-requires c κs = search needs
-
-device-bytes-requires : tie.Need-device-bytes-requires
-device-bytes-requires c κs = search needs
-
-device-number-requires : tie.Need-device-number-requires
-device-number-requires c κs = search needs
-
-slice-aggregate-store : tie.Need-slice-aggregate-store
-slice-aggregate-store c = search needs
-
-store-requires : tie.Need-store-requires
-store-requires c κs = search needs
-
-same-length : tie.Need-same-length
-same-length c = search needs
-
 returns-2 : tie.Need-returns-2
 unfolding resetCall
 returns-2 c =
@@ -49,11 +28,11 @@ reset-call-spec =
     tie.close
     (tie.spec
     returns
-    read-device-requires
-    reset-requires
-    device-bytes-requires
-    device-number-requires
-    slice-aggregate-store
-    store-requires
-    same-length
+    (λ c κs. search needs)
+    (λ c κs. search needs)
+    (λ c κs. search needs)
+    (λ c κs. search needs)
+    (λ c. search needs)
+    (λ c κs. search needs)
+    (λ c. search needs)
     returns-2)

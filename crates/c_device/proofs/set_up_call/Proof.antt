@@ -16,27 +16,6 @@ returns-2 : tie.Need-returns-2
 unfolding setUpCall
 returns-2 c = rw (eq-eqb _ _ (c .before .if1 .left), ne-eqb _ _ (c .if2 .taken))
 
-read-list-requires : tie.Need-read-list-requires
-read-list-requires c κs = search needs
-
-set-up-requires : tie.Need-set-up-requires
-set-up-requires c κs = search needs
-
-device-bytes-requires : tie.Need-device-bytes-requires
-device-bytes-requires c κs = search needs
-
-setup-number-requires : tie.Need-setup-number-requires
-setup-number-requires c κs = search needs
-
-slice-aggregate-store : tie.Need-slice-aggregate-store
-slice-aggregate-store c = search needs
-
-store-requires : tie.Need-store-requires
-store-requires c κs = search needs
-
-same-length : tie.Need-same-length
-same-length c = search needs
-
 returns-3 : tie.Need-returns-3
 unfolding setUpCall
 returns-3 c =
@@ -54,11 +33,11 @@ set-up-call-spec =
     (tie.spec
     returns
     returns-2
-    read-list-requires
-    set-up-requires
-    device-bytes-requires
-    setup-number-requires
-    slice-aggregate-store
-    store-requires
-    same-length
+    (λ c κs. search needs)
+    (λ c κs. search needs)
+    (λ c κs. search needs)
+    (λ c κs. search needs)
+    (λ c. search needs)
+    (λ c κs. search needs)
+    (λ c. search needs)
     returns-3)

@@ -11,24 +11,6 @@ returns : tie.Need-returns
 unfolding versionsCall
 returns c = rw (ne-eqb _ _ (c .if1 .taken))
 
-read-device-requires : tie.Need-read-device-requires
-read-device-requires c κs = search needs
-
-version-reply-requires : tie.Need-version-reply-requires
-version-reply-requires c κs = search needs
-
-device-number-requires : tie.Need-device-number-requires
-device-number-requires c κs = search needs
-
-slice-aggregate-leave : tie.Need-slice-aggregate-leave
-slice-aggregate-leave c = search needs
-
-leave-requires : tie.Need-leave-requires
-leave-requires c κs = search needs
-
-same-length : tie.Need-same-length
-same-length c = search needs
-
 returns-2 : tie.Need-returns-2
 unfolding versionsCall
 returns-2 c =
@@ -40,10 +22,10 @@ versions-call-spec =
     tie.close
     (tie.spec
     returns
-    read-device-requires
-    version-reply-requires
-    device-number-requires
-    slice-aggregate-leave
-    leave-requires
-    same-length
+    (λ c κs. search needs)
+    (λ c κs. search needs)
+    (λ c κs. search needs)
+    (λ c. search needs)
+    (λ c κs. search needs)
+    (λ c. search needs)
     returns-2)

@@ -13,30 +13,6 @@ returns : tie.Need-returns
 unfolding checkCall
 returns c = rw (ne-eqb _ _ (c .if1 .taken))
 
-check-requires : tie.Need-check-requires
-check-requires c κs = search needs
-
-contents-bytes-requires : tie.Need-contents-bytes-requires
-contents-bytes-requires c κs = search needs
-
-slice-aggregate-copy : tie.Need-slice-aggregate-copy
-slice-aggregate-copy c = search needs
-
-copy-requires : tie.Need-copy-requires
-copy-requires c κs = search needs
-
-bundle-number-requires : tie.Need-bundle-number-requires
-bundle-number-requires c κs = search needs
-
-cast-t15 : tie.Need-cast-t15
-cast-t15 c = search needs
-
-cast-t16 : tie.Need-cast-t16
-cast-t16 c = search needs
-
-same-length : tie.Need-same-length
-same-length c = search needs
-
 returns-2 : tie.Need-returns-2
 unfolding checkCall
 returns-2 c =
@@ -52,12 +28,12 @@ check-call-spec =
     tie.close
     (tie.spec
     returns
-    check-requires
-    contents-bytes-requires
-    slice-aggregate-copy
-    copy-requires
-    bundle-number-requires
-    cast-t15
-    cast-t16
-    same-length
+    (λ c κs. search needs)
+    (λ c κs. search needs)
+    (λ c. search needs)
+    (λ c κs. search needs)
+    (λ c κs. search needs)
+    (λ c. search needs)
+    (λ c. search needs)
+    (λ c. search needs)
     returns-2)

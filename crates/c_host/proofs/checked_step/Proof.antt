@@ -8,7 +8,7 @@ use Rattle.host_record.specs.declared.record.Host.{Host}
 use Rattle.host_record.specs.declared.record.HostStage.{HostStage}
 use Rattle.host_record.specs.declared.fits.Body.{Body}
 use Rattle.host_record.specs.Fits.{inHand}
-use Rattle.decide.specs.Decide.{decisionOf}
+use Rattle.host_decide.specs.Decide.{decisionOf}
 use Rattle.host.specs.Inner.{cursorAt}
 use Rattle.host_bytes.specs.Layout.{COUNT-AT, readHost, bodyRead, cursorIn, isKept, cursorFor}
 use Rattle.c_host.proofs.Laws.{inner-row, inner-breaks, inner-moves}

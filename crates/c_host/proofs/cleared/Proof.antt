@@ -4,7 +4,7 @@ use mathlib.Core.List.{List}
 use Prim.Native.Nat.{ℕ}
 use lib.ListN.{replicate}
 use Rattle.wire.proofs.words.Copies.{copy-same}
-use Rattle.c_numbers.specs.Lent.{LONG-SIZE}
+use Rattle.c_types.specs.Lent.{LONG-SIZE}
 use borrow.Author.Needs.{needs}
 use Rattle.c_host.proofs.cleared.Statement.{statement}
 use Rattle.c_host.proofs.cleared.Tie as tie

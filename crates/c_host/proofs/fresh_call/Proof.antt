@@ -1,7 +1,7 @@
 -- `fresh_call` meets its contract: C1, or the fresh record. Assumes nothing.
 use Rattle.host_bytes.specs.Layout.{hostBytes}
-use Rattle.c_numbers.specs.Lent.{leaves}
-use Rattle.c_numbers.proofs.lent.Laws.{stored}
+use Rattle.c_types.specs.Lent.{leaves}
+use Rattle.c_types.proofs.lent.Laws.{stored}
 use lib.ListN.{length}
 use mathlib.Core.Path.{_≡_, sym, ap, _∙_}
 use Rattle.c_host.specs.Host.{freshCall}
@@ -13,21 +13,6 @@ use Rattle.c_host.proofs.fresh_call.Tie as tie
 returns : tie.Need-returns
 unfolding freshCall
 returns c = rw (ne-eqb _ _ (c .if1 .taken))
-
-fresh-requires : tie.Need-fresh-requires
-fresh-requires c κs = search needs
-
-host-bytes-requires : tie.Need-host-bytes-requires
-host-bytes-requires c κs = search needs
-
-slice-aggregate-store : tie.Need-slice-aggregate-store
-slice-aggregate-store c = search needs
-
-store-requires : tie.Need-store-requires
-store-requires c κs = search needs
-
-same-length : tie.Need-same-length
-same-length c = search needs
 
 returns-2 : tie.Need-returns-2
 unfolding freshCall
@@ -43,9 +28,9 @@ fresh-call-spec =
     tie.close
     (tie.spec
     returns
-    fresh-requires
-    host-bytes-requires
-    slice-aggregate-store
-    store-requires
-    same-length
+    (λ c κs. search needs)
+    (λ c κs. search needs)
+    (λ c. search needs)
+    (λ c κs. search needs)
+    (λ c. search needs)
     returns-2)

@@ -7,12 +7,6 @@ use Rattle.c_host.proofs.length_of.Tie as tie
 enum-told : tie.Need-enum-told
 enum-told c = search needs
 
-enum-told-2 : tie.Need-enum-told-2
-enum-told-2 c = search needs
-
-enum-told-3 : tie.Need-enum-told-3
-enum-told-3 c = search needs
-
 returns : tie.Need-returns
 returns c p h = rw (c .enum-told .given .1) sent-none
 
@@ -23,4 +17,4 @@ returns-3 : tie.Need-returns-3
 returns-3 c p h = rw (c .enum-told3 .given .1) (sent-long p h)
 
 pub length-of-spec : {M : Type 1} → statement M
-length-of-spec = tie.close (tie.spec enum-told enum-told-2 enum-told-3 returns returns-2 returns-3)
+length-of-spec = tie.close (tie.spec enum-told (λ c. search needs) (λ c. search needs) returns returns-2 returns-3)

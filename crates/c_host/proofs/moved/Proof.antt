@@ -4,8 +4,8 @@ use borrow.Author.Tests.{eq-eqb}
 use lib.ListN.{length}
 use Rattle.wire.proofs.words.Copies.{copy-same}
 use Rattle.host_record.specs.declared.fits.Body.{Body}
-use Rattle.decide.specs.Decide.{entryOf}
-use Rattle.make.specs.Made.{laidBy, writtenOf}
+use Rattle.host_decide.specs.Decide.{entryOf}
+use Rattle.host_packet.specs.Made.{laidBy, writtenOf}
 use Rattle.host_bytes.specs.Layout.{HOST-SIZE, bodyRead}
 use Rattle.c_host.proofs.Laws.{move-served, move-keeps, move-refused, move-leaves}
 use borrow.Author.Needs.{needs}

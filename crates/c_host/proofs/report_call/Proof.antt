@@ -9,21 +9,6 @@ returns : tie.Need-returns
 unfolding reportCall
 returns c = rw (ne-eqb _ _ (c .if1 .taken))
 
-read-host-requires : tie.Need-read-host-requires
-read-host-requires c κs = search needs
-
-report-requires : tie.Need-report-requires
-report-requires c κs = search needs
-
-report-number-requires : tie.Need-report-number-requires
-report-number-requires c κs = search needs
-
-ending-number-requires : tie.Need-ending-number-requires
-ending-number-requires c κs = search needs
-
-ending-status-requires : tie.Need-ending-status-requires
-ending-status-requires c κs = search needs
-
 returns-2 : tie.Need-returns-2
 unfolding reportCall
 returns-2 c = rw (eq-eqb _ _ (c .before .before .before .before .before .if1 .left), ← c .before .before .before .before .read-host .ensures, ← c .before .before .before .report .ensures, c .before .before .report-number .ensures, c .before .ending-number .ensures, c .ending-status .ensures)
@@ -33,9 +18,9 @@ report-call-spec =
     tie.close
     (tie.spec
     returns
-    read-host-requires
-    report-requires
-    report-number-requires
-    ending-number-requires
-    ending-status-requires
+    (λ c κs. search needs)
+    (λ c κs. search needs)
+    (λ c κs. search needs)
+    (λ c κs. search needs)
+    (λ c κs. search needs)
     returns-2)

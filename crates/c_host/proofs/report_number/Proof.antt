@@ -4,9 +4,6 @@ use borrow.Author.Needs.{needs}
 use Rattle.c_host.proofs.report_number.Statement.{statement}
 use Rattle.c_host.proofs.report_number.Tie as tie
 
-add-result : tie.Need-add-result
-add-result c = search needs
-
 returns : tie.Need-returns
 returns c = rw (le-leb _ _ (c .if1 .taken))
 
@@ -14,4 +11,4 @@ returns-2 : tie.Need-returns-2
 returns-2 c = rw (lt-leb _ _ (c .if1 .left))
 
 pub report-number-spec : {M : Type 1} → statement M
-report-number-spec = tie.close (tie.spec add-result returns returns-2)
+report-number-spec = tie.close (tie.spec (λ c. search needs) returns returns-2)

@@ -4,16 +4,10 @@ use borrow.Author.Needs.{needs}
 use Rattle.c_read.proofs.read_offer_call.Statement.{statement}
 use Rattle.c_read.proofs.read_offer_call.Tie as tie
 
-read-offer-packet-requires : tie.Need-read-offer-packet-requires
-read-offer-packet-requires c κs = search needs
-
-packet-fields-requires : tie.Need-packet-fields-requires
-packet-fields-requires c κs = search needs
-
 returns : tie.Need-returns
 unfolding readOfferCall
 returns c = rw (← c .before .read-offer-packet .ensures) (c .packet-fields .ensures)
 
 pub read-offer-call-spec : {M : Type 1} → statement M
 read-offer-call-spec =
-    tie.close (tie.spec read-offer-packet-requires packet-fields-requires returns)
+    tie.close (tie.spec (λ c κs. search needs) (λ c κs. search needs) returns)

@@ -12,24 +12,6 @@ returns : tie.Need-returns
 unfolding readVersionReplyCall
 returns c = rw (ne-eqb _ _ (c .if1 .taken))
 
-read-version-reply-requires : tie.Need-read-version-reply-requires
-read-version-reply-requires c κs = search needs
-
-components-bytes-requires : tie.Need-components-bytes-requires
-components-bytes-requires c κs = search needs
-
-slice-aggregate-copy : tie.Need-slice-aggregate-copy
-slice-aggregate-copy c = search needs
-
-copy-requires : tie.Need-copy-requires
-copy-requires c κs = search needs
-
-packet-number-requires : tie.Need-packet-number-requires
-packet-number-requires c κs = search needs
-
-same-length : tie.Need-same-length
-same-length c = search needs
-
 returns-2 : tie.Need-returns-2
 unfolding readVersionReplyCall
 returns-2 c =
@@ -45,10 +27,10 @@ read-version-reply-call-spec =
     tie.close
     (tie.spec
     returns
-    read-version-reply-requires
-    components-bytes-requires
-    slice-aggregate-copy
-    copy-requires
-    packet-number-requires
-    same-length
+    (λ c κs. search needs)
+    (λ c κs. search needs)
+    (λ c. search needs)
+    (λ c κs. search needs)
+    (λ c κs. search needs)
+    (λ c. search needs)
     returns-2)

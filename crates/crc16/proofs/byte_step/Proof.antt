@@ -20,15 +20,6 @@ loop-holds c =
     let h : c .args .b * 2 ^ 8 % 2 ^ 16 ≡ c .args .b * 256 = omega arith in
     (ap (λ n. bitSteps 8 (bitXor (c .args .r) n)) h, search needs)
 
-bit-step-requires : tie.Need-bit-step-requires Inv-loop μ-loop
-bit-step-requires c κs = search needs
-
-add-k : tie.Need-add-k Inv-loop μ-loop
-add-k c = search needs
-
-loop-less : tie.Need-loop-less Inv-loop μ-loop
-loop-less c = search needs
-
 loop-again : tie.Need-loop-again Inv-loop μ-loop
 unfolding bitSteps
 loop-again c =
@@ -46,4 +37,4 @@ returns c =
 pub byte-step-spec : {M : Type 1} → statement M
 byte-step-spec =
     tie.close
-    (tie.spec Inv-loop μ-loop loop-holds bit-step-requires add-k loop-less loop-again returns)
+    (tie.spec Inv-loop μ-loop loop-holds (λ c κs. search needs) (λ c. search needs) (λ c. search needs) loop-again returns)

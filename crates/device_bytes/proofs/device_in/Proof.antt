@@ -4,60 +4,24 @@ use borrow.Author.Needs.{needs}
 use Rattle.device_bytes.proofs.device_in.Statement.{statement}
 use Rattle.device_bytes.proofs.device_in.Tie as tie
 
-parts-in-requires : tie.Need-parts-in-requires
-parts-in-requires c κs = search needs
-
-shared-slice-read-stage-in : tie.Need-shared-slice-read-stage-in
-shared-slice-read-stage-in c = search needs
-
-shared-slice-read-stage-in-2 : tie.Need-shared-slice-read-stage-in-2
-shared-slice-read-stage-in-2 c = search needs
-
-shared-slice-read-stage-in-3 : tie.Need-shared-slice-read-stage-in-3
-shared-slice-read-stage-in-3 c = search needs
-
-word16-at-requires : tie.Need-word16-at-requires
-word16-at-requires c κs = search needs
-
-stage-in-requires : tie.Need-stage-in-requires
-stage-in-requires c κs = search needs
-
-shared-slice-read-owed-in : tie.Need-shared-slice-read-owed-in
-shared-slice-read-owed-in c = search needs
-
-shared-slice-read-owed-in-2 : tie.Need-shared-slice-read-owed-in-2
-shared-slice-read-owed-in-2 c = search needs
-
-owed-in-requires : tie.Need-owed-in-requires
-owed-in-requires c κs = search needs
-
-word16-at-requires-2 : tie.Need-word16-at-requires-2
-word16-at-requires-2 c κs = search needs
-
-word32-at-requires : tie.Need-word32-at-requires
-word32-at-requires c κs = search needs
-
-shared-slice-read-t8 : tie.Need-shared-slice-read-t8
-shared-slice-read-t8 c = search needs
-
 returns : tie.Need-returns
 unfolding deviceIn
-returns c = rw (c .before .before .word16-at2 .ensures, c .before .word32-at .ensures, c .before .before .before .owed-in .ensures, c .before .before .before .before .before .before .stage-in .ensures, c .before .before .before .before .before .before .before .word16-at .ensures, c .before .before .before .before .before .before .before .before .before .before .before .parts-in .ensures)
+returns c = rw (c .before .before .word16-at2 .ensures, c .before .word32-at .ensures, c .before .before .before .owed-in .ensures, c .before .before .before .before .before .before .stage-in .ensures, c .before .before .before .before .before .before .before .word16-at .ensures, c .before .before .before .before .before .before .before .before .before .before .before .components-in .ensures)
 
 pub device-in-spec : {M : Type 1} → statement M
 device-in-spec =
     tie.close
     (tie.spec
-    parts-in-requires
-    shared-slice-read-stage-in
-    shared-slice-read-stage-in-2
-    shared-slice-read-stage-in-3
-    word16-at-requires
-    stage-in-requires
-    shared-slice-read-owed-in
-    shared-slice-read-owed-in-2
-    owed-in-requires
-    word16-at-requires-2
-    word32-at-requires
-    shared-slice-read-t8
+    (λ c κs. search needs)
+    (λ c. search needs)
+    (λ c. search needs)
+    (λ c. search needs)
+    (λ c κs. search needs)
+    (λ c κs. search needs)
+    (λ c. search needs)
+    (λ c. search needs)
+    (λ c κs. search needs)
+    (λ c κs. search needs)
+    (λ c κs. search needs)
+    (λ c. search needs)
     returns)

@@ -6,26 +6,8 @@ use borrow.Author.Needs.{needs}
 use Rattle.device_bytes.proofs.read_device.Statement.{statement}
 use Rattle.device_bytes.proofs.read_device.Tie as tie
 
-blank-requires : tie.Need-blank-requires
-blank-requires c κs = search needs
-
 returns : tie.Need-returns
 returns c = let b = c .before .before .before .args .b .now in c .blank .ensures ∙ sym (other-length b (c .before .if1 .taken))
-
-device-in-requires : tie.Need-device-in-requires
-device-in-requires c κs = search needs
-
-device-bytes-requires : tie.Need-device-bytes-requires
-device-bytes-requires c κs = search needs
-
-slice-aggregate-same : tie.Need-slice-aggregate-same
-slice-aggregate-same c = search needs
-
-same-requires : tie.Need-same-requires
-same-requires c κs = search needs
-
-blank-requires-2 : tie.Need-blank-requires-2
-blank-requires-2 c κs = search needs
 
 returns-2 : tie.Need-returns-2
 returns-2 c =
@@ -40,12 +22,12 @@ pub read-device-spec : {M : Type 1} → statement M
 read-device-spec =
     tie.close
     (tie.spec
-    blank-requires
+    (λ c κs. search needs)
     returns
-    device-in-requires
-    device-bytes-requires
-    slice-aggregate-same
-    same-requires
-    blank-requires-2
+    (λ c κs. search needs)
+    (λ c κs. search needs)
+    (λ c. search needs)
+    (λ c κs. search needs)
+    (λ c κs. search needs)
     returns-2
     returns-3)

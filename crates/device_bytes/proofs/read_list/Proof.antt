@@ -15,30 +15,9 @@ Inv-loop b list₀ i₀ list i = (i ≤ 7) × (length list ≡ 7) × (take i lis
 abbrev μ-loop : tie.MeasureT-loop
 μ-loop b list₀ i₀ list i = 7 - i
 
-listed-at-requires : tie.Need-listed-at-requires Inv-loop μ-loop
-listed-at-requires c κs = search needs
-
 loop-holds : tie.Need-loop-holds Inv-loop μ-loop
 unfolding listIn
 loop-holds c = (search needs, search needs, refl)
-
-mul-listed-at : tie.Need-mul-listed-at Inv-loop μ-loop
-mul-listed-at c = search needs
-
-listed-at-requires-2 : tie.Need-listed-at-requires-2 Inv-loop μ-loop
-listed-at-requires-2 c κs = search needs
-
-mul-list : tie.Need-mul-list Inv-loop μ-loop
-mul-list c = search needs
-
-array-set-from-list : tie.Need-array-set-from-list Inv-loop μ-loop
-array-set-from-list c = search needs
-
-add-i : tie.Need-add-i Inv-loop μ-loop
-add-i c = search needs
-
-loop-less : tie.Need-loop-less Inv-loop μ-loop
-loop-less c = search needs
 
 loop-again : tie.Need-loop-again Inv-loop μ-loop
 loop-again c =
@@ -54,13 +33,13 @@ read-list-spec =
     (tie.spec
     Inv-loop
     μ-loop
-    listed-at-requires
+    (λ c κs. search needs)
     loop-holds
-    mul-listed-at
-    listed-at-requires-2
-    mul-list
-    array-set-from-list
-    add-i
-    loop-less
+    (λ c. search needs)
+    (λ c κs. search needs)
+    (λ c. search needs)
+    (λ c. search needs)
+    (λ c. search needs)
+    (λ c. search needs)
     loop-again
     returns)

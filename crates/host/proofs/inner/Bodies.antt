@@ -2,15 +2,15 @@
 use mathlib.Core.Path.{_≡_, refl, ap, ap₂, _∙_}
 use mathlib.Core.List.{List}
 use Prim.Native.Nat.{ℕ}
-use Rattle.layout.specs.Rows as bundle
+use Rattle.bundle_layout.specs.Rows as bundle
 use Rattle.bundle.specs.Contents.{Contents}
 use Rattle.host_record.specs.declared.record.Host.{Host}
 use Rattle.host_record.specs.declared.fits.Body.{Body}
 use Rattle.host_record.specs.Fits.{recordsOn, bodyOf, inHand}
-use Rattle.decide.specs.declared.Decided.{Decided}
-use Rattle.decide.specs.declared.Decided.the-variants as decided
-use Rattle.decide.specs.Decide.{entryOf, decisionOf}
-use Rattle.make.specs.Made.{madeOf}
+use Rattle.host_decide.specs.declared.Decided.{Decided}
+use Rattle.host_decide.specs.declared.Decided.the-variants as decided
+use Rattle.host_decide.specs.Decide.{entryOf, decisionOf}
+use Rattle.host_packet.specs.Made.{madeOf}
 use Rattle.host.specs.Inner.{innerOn, innerBy, innerOf}
 
 module _ (b : List ℕ) (c c′ : Contents) (count : c .count ≡ c′ .count) (bodies : (i : ℕ) → bodyOf c i ≡ bodyOf c′ i) (cursor : ℕ) (h : Host) (reply : List ℕ) where

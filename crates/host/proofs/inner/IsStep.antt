@@ -12,14 +12,14 @@ use lib.ListN.{length, getD, drop, replicate, length-map, List·getD-append}
 use lib.Seq.{drop-cons, take-take}
 use Rattle.wire.specs.Bytes.{Bytes}
 use Rattle.wire.proofs.Tests.{neither}
-use Rattle.records.specs.Record.{Block}
-use Rattle.records.specs.Parse.{Parsed, whole, broken, recordsOf, blocksOf}
-use Rattle.records.specs.Walk.{between, nextOf}
-use Rattle.records.specs.declared.Next.{Next}
-use Rattle.records.specs.declared.Next.the-variants as next
-use Rattle.layout.specs.Layout.{ENTRY, OFFER-LIMIT, countIn, tableEnd, entriesIn, offsetIn, lengthIn, bodyIn, blankEntry}
-use Rattle.layout.specs.Rows as bundle
-use Rattle.layout.specs.declared.Entry.{Entry}
+use Rattle.bundle_records.specs.Record.{Block}
+use Rattle.bundle_records.specs.Parse.{Parsed, whole, broken, recordsOf, blocksOf}
+use Rattle.bundle_records.specs.Walk.{between, nextOf}
+use Rattle.bundle_records.specs.declared.Next.{Next}
+use Rattle.bundle_records.specs.declared.Next.the-variants as next
+use Rattle.bundle_layout.specs.Layout.{ENTRY, OFFER-LIMIT, countIn, tableEnd, entriesIn, offsetIn, lengthIn, bodyIn, blankEntry}
+use Rattle.bundle_layout.specs.Rows as bundle
+use Rattle.bundle_layout.specs.declared.Entry.{Entry}
 use Rattle.bundle.specs.Contents.{Contents, entryIn, contentsBy, checkOf}
 use Rattle.bundle.proofs.Accepted.{Accepted, accepted}
 use Rattle.bundle.proofs.Told.{check-row}
@@ -29,19 +29,19 @@ use Rattle.host_record.specs.declared.record.Place.{Place}
 use Rattle.host_record.specs.declared.record.HostStage.{HostStage}
 use Rattle.host_record.specs.declared.record.HostStage.the-variants.{Fresh, Opening, Listing, Offering, Waiting, Sending, Closing, Ended}
 use Rattle.host_record.specs.declared.record.End.{End}
-use Rattle.decide.specs.declared.Action.{Action}
-use Rattle.decide.specs.declared.Action.the-variants as action
-use Rattle.decide.specs.declared.Move.{Move}
+use Rattle.host_decide.specs.declared.Action.{Action}
+use Rattle.host_decide.specs.declared.Action.the-variants as action
+use Rattle.host_decide.specs.declared.Move.{Move}
 use Rattle.host_record.specs.declared.fits.Body.{Body}
 use Rattle.host_record.specs.Fits.{BUSY-LIMIT, PACKET-LIMIT, turnBreaks, placeBreaks, stageBreaks, recordBreaks, lastOf, listedAt, recordsOn, bodyOf, inHand}
-use Rattle.decide.specs.Decide.{ends, offerFrom, noted, completes, decideIn, decideOf, entryOf, decisionOf}
-use Rattle.make.specs.Packet.{blockBytes}
+use Rattle.host_decide.specs.Decide.{ends, offerFrom, noted, completes, decideIn, decideOf, entryOf, decisionOf}
+use Rattle.host_packet.specs.Packet.{blockBytes}
 use Rattle.host.specs.Step.{entryAt, blocksAt, recordsAt, badStage, breaksN1, isLast, lastIn, noBlock, blockAt, packetOf, moved, stepOn, stepOf}
-use Rattle.make.specs.Answer.{B, N, refusedBy}
-use Rattle.make.specs.Made.{sending, recordStart, laidRecord, laidBlock, laidOf, InnerStep, stepOfLaid, madeOf}
+use Rattle.host_packet.specs.Answer.{B, N, refusedBy}
+use Rattle.host_packet.specs.Made.{sending, recordStart, laidRecord, laidBlock, laidOf, InnerStep, stepOfLaid, madeOf}
 use Rattle.host.specs.Inner.{innerOf, CursorIn, InnerIsStep}
-use Rattle.decide.proofs.Moves.{opening-cases, listing-cases, offering-cases, waiting-cases, closing-cases, sending-cases, offer-cases}
-use Rattle.records.proofs.Walks.{Goes, goes}
+use Rattle.host_decide.proofs.Moves.{opening-cases, listing-cases, offering-cases, waiting-cases, closing-cases, sending-cases, offer-cases}
+use Rattle.bundle_records.proofs.Walks.{Goes, goes}
 
 -- a member of a list that is mapped
 map-at : {A B : Type 0} (f : A → B) (l : List A) (i : ℕ) (d : B) (e : A) → i < length l → getD (map f l) i d ≡ f (getD l i e)

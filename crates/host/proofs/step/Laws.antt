@@ -7,13 +7,13 @@ use native.Mathlib.Numerals.{add-one}
 use native.Mathlib.Omega.{arith}
 use lib.ListN.{length, drop}
 use Rattle.wire.specs.Bytes.{Bytes}
-use Rattle.records.specs.Record.{Block}
-use Rattle.records.specs.Parse.{whole, recordsOf}
-use Rattle.records.specs.Walk.{between, nextOf}
-use Rattle.records.specs.declared.Next.{Next}
-use Rattle.records.specs.declared.Next.the-variants as next
-use Rattle.records.proofs.Walks.{Goes, goes}
-use Rattle.layout.specs.Rows as bundle
+use Rattle.bundle_records.specs.Record.{Block}
+use Rattle.bundle_records.specs.Parse.{whole, recordsOf}
+use Rattle.bundle_records.specs.Walk.{between, nextOf}
+use Rattle.bundle_records.specs.declared.Next.{Next}
+use Rattle.bundle_records.specs.declared.Next.the-variants as next
+use Rattle.bundle_records.proofs.Walks.{Goes, goes}
+use Rattle.bundle_layout.specs.Rows as bundle
 use Rattle.bundle.specs.Contents.{checkOf}
 use Rattle.bundle.proofs.Accepted.{accepted}
 use Rattle.host_record.specs.declared.record.Host.{Host}

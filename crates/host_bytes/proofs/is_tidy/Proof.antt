@@ -10,36 +10,6 @@ use borrow.Author.Needs.{needs}
 use Rattle.host_bytes.proofs.is_tidy.Statement.{statement}
 use Rattle.host_bytes.proofs.is_tidy.Tie as tie
 
-stage-bytes-requires : tie.Need-stage-bytes-requires
-stage-bytes-requires c κs = search needs
-
-slice-aggregate-same : tie.Need-slice-aggregate-same
-slice-aggregate-same c = search needs
-
-sub-same : tie.Need-sub-same
-sub-same c = search needs
-
-part-same-start : tie.Need-part-same-start
-part-same-start c = search needs
-
-part-same-end : tie.Need-part-same-end
-part-same-end c = search needs
-
-same-requires : tie.Need-same-requires
-same-requires c κs = search needs
-
-flag-byte-requires : tie.Need-flag-byte-requires
-flag-byte-requires c κs = search needs
-
-shared-slice-read-result : tie.Need-shared-slice-read-result
-shared-slice-read-result c = search needs
-
-flag-byte-requires-2 : tie.Need-flag-byte-requires-2
-flag-byte-requires-2 c κs = search needs
-
-shared-slice-read-result-2 : tie.Need-shared-slice-read-result-2
-shared-slice-read-result-2 c = search needs
-
 returns : tie.Need-returns
 returns c =
     let l = c .before .before .before in
@@ -56,14 +26,14 @@ pub is-tidy-spec : {M : Type 1} → statement M
 is-tidy-spec =
     tie.close
     (tie.spec
-    stage-bytes-requires
-    slice-aggregate-same
-    sub-same
-    part-same-start
-    part-same-end
-    same-requires
-    flag-byte-requires
-    shared-slice-read-result
-    flag-byte-requires-2
-    shared-slice-read-result-2
+    (λ c κs. search needs)
+    (λ c. search needs)
+    (λ c. search needs)
+    (λ c. search needs)
+    (λ c. search needs)
+    (λ c κs. search needs)
+    (λ c κs. search needs)
+    (λ c. search needs)
+    (λ c κs. search needs)
+    (λ c. search needs)
     returns)

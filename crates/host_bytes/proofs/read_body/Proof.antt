@@ -11,12 +11,6 @@ use borrow.Author.Needs.{needs}
 use Rattle.host_bytes.proofs.read_body.Statement.{statement}
 use Rattle.host_bytes.proofs.read_body.Tie as tie
 
-mul-body-from : tie.Need-mul-body-from
-mul-body-from c = search needs
-
-add-body-from : tie.Need-add-body-from
-add-body-from c = search needs
-
 body-from-requires : tie.Need-body-from-requires
 body-from-requires c κs =
     let a = c .before .before .args in
@@ -35,4 +29,4 @@ returns-2 c = rw (c .if1 .left)
 
 pub read-body-spec : {M : Type 1} → statement M
 read-body-spec =
-    tie.close (tie.spec mul-body-from add-body-from body-from-requires returns returns-2)
+    tie.close (tie.spec (λ c. search needs) (λ c. search needs) body-from-requires returns returns-2)

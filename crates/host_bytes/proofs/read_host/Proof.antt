@@ -6,20 +6,8 @@ use borrow.Author.Needs.{needs}
 use Rattle.host_bytes.proofs.read_host.Statement.{statement}
 use Rattle.host_bytes.proofs.read_host.Tie as tie
 
-lost-host-requires : tie.Need-lost-host-requires
-lost-host-requires c κs = search needs
-
 returns : tie.Need-returns
 returns c = c .lost-host .ensures ∙ other-length _ (c .before .if1 .taken)
-
-host-in-requires : tie.Need-host-in-requires
-host-in-requires c κs = search needs
-
-is-tidy-requires : tie.Need-is-tidy-requires
-is-tidy-requires c κs = search needs
-
-lost-host-requires-2 : tie.Need-lost-host-requires-2
-lost-host-requires-2 c κs = search needs
 
 returns-2 : tie.Need-returns-2
 returns-2 c =
@@ -34,10 +22,10 @@ pub read-host-spec : {M : Type 1} → statement M
 read-host-spec =
     tie.close
     (tie.spec
-    lost-host-requires
+    (λ c κs. search needs)
     returns
-    host-in-requires
-    is-tidy-requires
-    lost-host-requires-2
+    (λ c κs. search needs)
+    (λ c κs. search needs)
+    (λ c κs. search needs)
     returns-2
     returns-3)

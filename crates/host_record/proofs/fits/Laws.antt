@@ -6,7 +6,7 @@ use native.Mathlib.Omega.{arith}
 use borrow.Author.Tests.{ltb-false, leb-false}
 use lib.Dec.{leb, ltb}
 use Rattle.wire.proofs.Tests.{neither}
-use Rattle.layout.specs.Layout.{OFFER-LIMIT}
+use Rattle.bundle_layout.specs.Layout.{OFFER-LIMIT}
 use Rattle.host_record.specs.Room.{Spare, RoomIn, Room}
 use Rattle.host_record.specs.Fits.{BUSY-LIMIT, PACKET-LIMIT, turnBreaks, placeBreaks, stageBreaks, recordBreaks}
 use Rattle.host_record.specs.declared.record.Host.{Host}

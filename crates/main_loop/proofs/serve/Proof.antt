@@ -49,10 +49,10 @@ use Rattle.device.proofs.record.Device.Laws as T′
 use Rattle.device.proofs.answer.Channel as K
 use Rattle.device.proofs.answer.Channel.Laws as K′
 use Rattle.firmware.proofs.Lies.{val, lies-in, lies-out}
-use Rattle.show.proofs.first as first
-use Rattle.show.proofs.first.Symbol as first-def
-use Rattle.show.proofs.first.Symbol.{name as #first}
-use Rattle.show.proofs.first.Met as first-thm
+use Rattle.run_print.proofs.first as first
+use Rattle.run_print.proofs.first.Symbol as first-def
+use Rattle.run_print.proofs.first.Symbol.{name as #first}
+use Rattle.run_print.proofs.first.Met as first-thm
 use Rattle.main_loop.specs.declared.Frame.{Frame}
 use Rattle.main_loop.proofs.Frame as F
 use Rattle.main_loop.proofs.Frame.Laws as F′
@@ -331,5 +331,5 @@ serve-spec 𝓤 H 𝓜 𝓖 𝓡 =
     (tables 𝓤 H 𝓜 𝓡 code.env .C) (tables 𝓤 H 𝓜 𝓡 code.env .Λ) #serve code.function (code.unfolded 𝓤 H 𝓜 𝓡)
     (serve-meets 𝓤 H (𝓖 .A) (givenOf 𝓤 H 𝓜 𝓖) (𝓜 .mem) (𝓡 .run) (tablesOf 𝓤 H 𝓜 (tables 𝓤 H 𝓜 𝓡 code.env))
     (cited 𝓤 H (NextFrame 𝓤 H (𝓖 .A) (𝓜 .mem) (𝓡 .run)) 𝓜 𝓡 code.env #next-frame next-frame-def.routine code.calls-main-loop·next-frame (next-frame-thm.met 𝓤 H 𝓜 𝓖 𝓡))
-    (cited 𝓤 H (First 𝓤 H (𝓖 .A) (𝓜 .mem) (𝓡 .run)) 𝓜 𝓡 code.env #first first-def.routine code.calls-show·first (first-thm.met 𝓤 H 𝓜 𝓖 𝓡))
+    (cited 𝓤 H (First 𝓤 H (𝓖 .A) (𝓜 .mem) (𝓡 .run)) 𝓜 𝓡 code.env #first first-def.routine code.calls-run-print·first (first-thm.met 𝓤 H 𝓜 𝓖 𝓡))
     (cited 𝓤 H (Turn 𝓤 H (𝓖 .A) (𝓜 .mem) (𝓡 .run)) 𝓜 𝓡 code.env #turn turn-def.routine code.calls-main-loop·turn (turn-thm.met 𝓤 H 𝓜 𝓖 𝓡)))

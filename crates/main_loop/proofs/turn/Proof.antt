@@ -59,10 +59,10 @@ use Rattle.firmware.proofs.serve_in_place as in-place
 use Rattle.firmware.proofs.serve_in_place.Symbol as in-place-def
 use Rattle.firmware.proofs.serve_in_place.Symbol.{name as #in-place}
 use Rattle.firmware.proofs.serve_in_place.Met as in-place-thm
-use Rattle.script.proofs.tell.answer as tell
-use Rattle.script.proofs.tell.answer.Symbol as tell-def
-use Rattle.script.proofs.tell.answer.Symbol.{name as #tell}
-use Rattle.script.proofs.tell.answer.Met as tell-thm
+use Rattle.run_script.proofs.tell.answer as tell
+use Rattle.run_script.proofs.tell.answer.Symbol as tell-def
+use Rattle.run_script.proofs.tell.answer.Symbol.{name as #tell}
+use Rattle.run_script.proofs.tell.answer.Met as tell-thm
 use Rattle.main_loop.specs.declared.Frame.{Frame}
 use Rattle.main_loop.proofs.Frame as F
 use Rattle.main_loop.proofs.Frame.Laws as F′
@@ -276,5 +276,5 @@ turn-spec 𝓤 H 𝓜 𝓖 𝓡 =
     (tables 𝓤 H 𝓜 𝓡 code.env .C) (tables 𝓤 H 𝓜 𝓡 code.env .Λ) #turn code.function (code.unfolded 𝓤 H 𝓜 𝓡)
     (turn-meets 𝓤 H (𝓖 .A) (givenOf 𝓤 H 𝓜 𝓖) (𝓜 .mem) (𝓡 .run) (tablesOf 𝓤 H 𝓜 (tables 𝓤 H 𝓜 𝓡 code.env))
     (cited 𝓤 H (InPlace 𝓤 H (𝓖 .A) (𝓜 .mem) (𝓡 .run)) 𝓜 𝓡 code.env #in-place in-place-def.routine code.calls-firmware·serve-in-place (in-place-thm.met 𝓤 H 𝓜 𝓖 𝓡))
-    (cited 𝓤 H (Tell 𝓤 H (𝓖 .A) (𝓜 .mem) (𝓡 .run)) 𝓜 𝓡 code.env #tell tell-def.routine code.calls-script·tell·answer (tell-thm.met 𝓤 H 𝓜 𝓖 𝓡))
+    (cited 𝓤 H (Tell 𝓤 H (𝓖 .A) (𝓜 .mem) (𝓡 .run)) 𝓜 𝓡 code.env #tell tell-def.routine code.calls-run-script·tell·answer (tell-thm.met 𝓤 H 𝓜 𝓖 𝓡))
     (cited 𝓤 H (Unserved 𝓤 H (𝓖 .A) (𝓜 .mem) (𝓡 .run)) 𝓜 𝓡 code.env #unserved unserved-def.routine code.calls-main-loop·unserved (unserved-thm.met 𝓤 H 𝓜 𝓖 𝓡)))

@@ -6,12 +6,6 @@ use borrow.Author.Needs.{needs}
 use Rattle.update.proofs.refused.Statement.{statement}
 use Rattle.update.proofs.refused.Tie as tie
 
-fresh-requires : tie.Need-fresh-requires
-fresh-requires c κs = search needs
-
-report-requires : tie.Need-report-requires
-report-requires c κs = search needs
-
 returns : tie.Need-returns
 returns c =
     let a = c .before .before .args in
@@ -19,4 +13,4 @@ returns c =
     (c .report .ensures ∙ ap reportOf (c .before .fresh .ensures))
 
 pub refused-spec : {M : Type 1} → statement M
-refused-spec = tie.close (tie.spec fresh-requires report-requires returns)
+refused-spec = tie.close (tie.spec (λ c κs. search needs) (λ c κs. search needs) returns)

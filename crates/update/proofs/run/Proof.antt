@@ -3,7 +3,7 @@ use mathlib.Core.Path.{_≡_, sym, ap, _∙_}
 use mathlib.Core.Bool.{false}
 use Prim.Native.Nat.{_<_}
 use borrow.Author.Tests.{eq-eqb, ne-eqb}
-use Rattle.layout.specs.Rows as rows
+use Rattle.bundle_layout.specs.Rows as rows
 use Rattle.bundle.specs.Contents.{Contents}
 use Rattle.device.specs.Refusals.{breaksD1}
 use Rattle.host_record.specs.Record.{Reported}
@@ -17,9 +17,6 @@ use borrow.Author.Needs.{needs}
 use Rattle.update.proofs.run.Statement.{statement}
 use Rattle.update.proofs.run.Tie as tie
 
-check-requires : tie.Need-check-requires
-check-requires c κs = search needs
-
 -- the row is that of the verdict
 row-is : (c : tie.After-check) → rows.bundleRow (c .before .before .before .args .bundle .now) ≡ rows.rowOf (c .check .result .verdict) (c .check .result .place)
 row-is c = sym (check-row (c .before .before .before .args .bundle .now)) ∙ sym (ap (λ (x : Contents). x .row) (c .check .ensures))
@@ -29,15 +26,6 @@ served-is : (c : tie.Then1) → rows.bundleRow (c .before .before .before .befor
 served-is c =
     let k = c .before .before .check in
     row-is (c .before .before) ∙ fine-row (k .result .verdict) (k .result .place) (sym (c .before .row-number .ensures) ∙ c .if1 .taken)
-
-row-number-requires : tie.Need-row-number-requires
-row-number-requires c κs = search needs
-
-breaks-d1-requires : tie.Need-breaks-d1-requires
-breaks-d1-requires c κs = search needs
-
-refused-requires : tie.Need-refused-requires
-refused-requires c κs = search needs
 
 returns : tie.Need-returns
 returns c =
@@ -49,12 +37,6 @@ returns c =
 fine : (c : tie.Else2) → breaksD1 (c .before .before .before .before .before .before .before .args .device) ≡ false
 fine c = sym (c .before .breaks-d1 .ensures) ∙ c .if2 .left
 
-cast-if3 : tie.Need-cast-if3
-cast-if3 c = search needs
-
-refused-requires-2 : tie.Need-refused-requires-2
-refused-requires-2 c κs = search needs
-
 returns-2 : tie.Need-returns-2
 returns-2 c =
     let a = c .before .before .before .before .before .before .before .before .before .before .args in
@@ -63,15 +45,6 @@ returns-2 c =
 
 run-to-end-requires : tie.Need-run-to-end-requires
 run-to-end-requires c κs = (c .before .before .before .before .before .before .before .check .ensures, served-is (c .before .before .before .before .before))
-
-report-requires : tie.Need-report-requires
-report-requires c κs = search needs
-
-refused-requires-3 : tie.Need-refused-requires-3
-refused-requires-3 c κs = search needs
-
-same-length : tie.Need-same-length
-same-length c = search needs
 
 -- the token is a byte
 small : (c : tie.Start) → c .args .token < 256
@@ -113,17 +86,17 @@ pub run-spec : {M : Type 1} → statement M
 run-spec =
     tie.close
     (tie.spec
-    check-requires
-    row-number-requires
-    breaks-d1-requires
-    refused-requires
+    (λ c κs. search needs)
+    (λ c κs. search needs)
+    (λ c κs. search needs)
+    (λ c κs. search needs)
     returns
-    cast-if3
-    refused-requires-2
+    (λ c. search needs)
+    (λ c κs. search needs)
     returns-2
     run-to-end-requires
-    report-requires
-    refused-requires-3
-    same-length
+    (λ c κs. search needs)
+    (λ c κs. search needs)
+    (λ c. search needs)
     returns-3
     returns-4)

@@ -9,41 +9,41 @@ use lib.Dec.{eqb, leb}
 use lib.ListN.{length, take, drop, length-take}
 use Rattle.wire.specs.Bytes.{Bytes}
 use Rattle.wire.specs.Codes.{NOTIFY-ON-READY, INFO-START-ENTIRE-TRANSACTION, INFO-END-OFFER-LIST}
-use Rattle.offers.specs.Kind.{Kind, offer, information, extended, kindIn}
-use Rattle.contents.specs.Head.{headIn}
-use Rattle.contents.specs.declared.head.ContentHead.{ContentHead}
-use Rattle.layout.specs.Layout.{countIn}
-use Rattle.layout.specs.Rows as rows
+use Rattle.wire_offer.specs.Kind.{Kind, offer, information, extended, kindIn}
+use Rattle.wire_content.specs.Head.{headIn}
+use Rattle.wire_content.specs.declared.head.ContentHead.{ContentHead}
+use Rattle.bundle_layout.specs.Layout.{countIn}
+use Rattle.bundle_layout.specs.Rows as rows
 use Rattle.bundle.specs.Contents.{checkOf}
 use Rattle.bundle.proofs.Accepted.{accepted}
-use Rattle.session.specs.Stage.{isOpen}
-use Rattle.session.specs.declared.effect.Effect.{Effect}
-use Rattle.offering.specs.Offer.{onOffer}
-use Rattle.offering.specs.Signal.{onInformation, onNotify, onExtended}
-use Rattle.receiving.specs.Content.{isLast}
-use Rattle.receiving.specs.Receive.{onBlock, onVerdict}
+use Rattle.device_session.specs.Stage.{isOpen}
+use Rattle.device_session.specs.declared.effect.Effect.{Effect}
+use Rattle.device_offering.specs.Offer.{onOffer}
+use Rattle.device_offering.specs.Signal.{onInformation, onNotify, onExtended}
+use Rattle.device_receiving.specs.Content.{isLast}
+use Rattle.device_receiving.specs.Receive.{onBlock, onVerdict}
 use Rattle.device.specs.Record.{sessionOf}
 use Rattle.device.specs.Refusals.{Row, served, D, Outcome, told, refusalOf, unlessRefused, servedWith}
 use Rattle.device.specs.Offer.{onKind, offerEntry}
-use Rattle.device.specs.Content.{sessionPart, contentVerdict, received, contentEntry}
+use Rattle.device.specs.Content.{sessionComponent, contentVerdict, received, contentEntry}
 use Rattle.device.specs.Entries.{serveEntry, serveStaging}
 use Rattle.device.specs.declared.record.Device.{Device}
-use Rattle.session.specs.declared.owed.Owed.{Owed}
-use Rattle.session.specs.declared.owed.Owed.the-variants as owed
+use Rattle.device_session.specs.declared.owed.Owed.{Owed}
+use Rattle.device_session.specs.declared.owed.Owed.the-variants as owed
 use Rattle.device.specs.declared.answer.Answer.{Answer}
 use Rattle.device.specs.declared.answer.Channel.{Channel}
 use Rattle.device.specs.declared.answer.Channel.the-variants.{Offer, Content}
-use Rattle.receiving.specs.declared.checks.ContentVerdict.{ContentVerdict}
-use Rattle.receiving.specs.declared.checks.ContentVerdict.the-variants.{Refuse, Take}
-use Rattle.receiving.specs.declared.content.Taken.{Taken}
+use Rattle.device_receiving.specs.declared.checks.ContentVerdict.{ContentVerdict}
+use Rattle.device_receiving.specs.declared.checks.ContentVerdict.the-variants.{Refuse, Take}
+use Rattle.device_receiving.specs.declared.content.Taken.{Taken}
 use Rattle.wire.proofs.Chain.{either}
 use Rattle.host_record.specs.Record.{freshHost, hasEnded}
-use Rattle.decide.specs.Decide.{decideOf}
-use Rattle.make.specs.Answer.{Step}
+use Rattle.host_decide.specs.Decide.{decideOf}
+use Rattle.host_packet.specs.Answer.{Step}
 use Rattle.host.specs.Step.{lastIn, stepOf}
 use Rattle.host.specs.Inner.{CursorIn}
 use Rattle.host_record.specs.declared.record.Host.{Host}
-use Rattle.decide.specs.declared.Move.{Move}
+use Rattle.host_decide.specs.declared.Move.{Move}
 use Rattle.host.proofs.inner.IsStep.{inner-is-step}
 use Rattle.update.specs.declared.turn.BothEnds.{BothEnds}
 use Rattle.update.specs.Trace.{Exchange}
@@ -59,7 +59,7 @@ First a = heard (a .sent) ≡ cond (a .due) (a .reply) []
 module _ (d : Device) where
   -- of what a packet on the offer channel does
   abbrev EffectFirst : Effect → Type 0
-  EffectFirst e = First (servedWith d (d .parts) e)
+  EffectFirst e = First (servedWith d (d .components) e)
 
   -- of a notify on ready
   notify-first : (token : ℕ) (b : Bool) (o : Owed) → EffectFirst (onNotify (sessionOf d) token b o)
@@ -76,7 +76,7 @@ module _ (d : Device) where
   kind-first (extended s) = either EffectFirst (eqb (s .code) NOTIFY-ON-READY) _ _ (notify-first (s .token) (isOpen (d .stage)) (d .owed)) refl
 
   -- of a content packet
-  content-first : (c : ContentHead) (bytes s : List ℕ) (v : ContentVerdict) → First (received d (onVerdict (sessionPart d) (sessionOf d) c bytes s v))
+  content-first : (c : ContentHead) (bytes s : List ℕ) (v : ContentVerdict) → First (received d (onVerdict (sessionComponent d) (sessionOf d) c bytes s v))
   unfolding onBlock
   content-first c bytes s (Refuse status) = refl
   content-first c bytes s (Take k) = either (λ (t : Taken). First (received d t)) (isLast c) _ _ refl refl
@@ -92,7 +92,7 @@ module _ (d : Device) where
   serve-first Offer staging p = unless-first (refusalOf 16 d (length staging) (length p)) (onKind d (kindIn p)) (kind-first (kindIn p))
   serve-first Content staging p =
       let v = contentVerdict d (headIn p) in
-      unless-first (refusalOf 60 d (length staging) (length p)) (received d (onVerdict (sessionPart d) (sessionOf d) (headIn p) (drop 8 p) staging v)) (content-first (headIn p) (drop 8 p) staging v)
+      unless-first (refusalOf 60 d (length staging) (length p)) (received d (onVerdict (sessionComponent d) (sessionOf d) (headIn p) (drop 8 p) staging v)) (content-first (headIn p) (drop 8 p) staging v)
 
 -- the first 16 bytes of a packet
 pub first-16 : (p : List ℕ) → length p ≡ 60 → 16 ≡ length (take 16 p)

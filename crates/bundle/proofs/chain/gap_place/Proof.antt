@@ -5,8 +5,8 @@ use native.Mathlib.Omega.{arith}
 use borrow.Author.Needs.{needs}
 use borrow.Author.Tests.{eq-eqb, ne-eqb}
 use lib.ListN.{length, drop}
-use Rattle.layout.specs.Layout.{entriesIn, offsetIn, lengthIn}
-use Rattle.layout.specs.Rows.{gap, rowB7}
+use Rattle.bundle_layout.specs.Layout.{entriesIn, offsetIn, lengthIn}
+use Rattle.bundle_layout.specs.Rows.{gap, rowB7}
 use Rattle.bundle.proofs.table.Laws.{entryAt}
 use Rattle.bundle.proofs.chain.Laws.{gap-here, gap-on, gap-end}
 use Rattle.bundle.proofs.chain.gap_place.Statement.{statement}
@@ -25,47 +25,14 @@ starts c = c .wide .ensures ∙ c .before .offset-in .ensures ∙ ap offsetIn (c
 ends : (c : tie.After-wide2 Inv-loop μ-loop) → c .wide2 .result ≡ lengthIn (entryAt (c .before .before .before .before .before .before .before .before .before .before .before .args .b .now) (c .before .before .before .before .before .before .before .loop .i))
 ends c = c .wide2 .ensures ∙ c .before .length-in .ensures ∙ ap lengthIn (c .before .before .before .before .before .entry-at .ensures .0)
 
-shared-slice-read-count : tie.Need-shared-slice-read-count Inv-loop μ-loop
-shared-slice-read-count c = search needs
-
-table-end-requires : tie.Need-table-end-requires Inv-loop μ-loop
-table-end-requires c κs = search needs
-
 loop-holds : tie.Need-loop-holds Inv-loop μ-loop
 unfolding rowB7
 loop-holds c = (rw (c .table-end .ensures), omega arith)
-
-entry-at-requires : tie.Need-entry-at-requires Inv-loop μ-loop
-entry-at-requires c κs = omega arith
-
-offset-in-requires : tie.Need-offset-in-requires Inv-loop μ-loop
-offset-in-requires c κs = search needs
-
-wide-requires : tie.Need-wide-requires Inv-loop μ-loop
-wide-requires c κs = search needs
-
-add-result : tie.Need-add-result Inv-loop μ-loop
-add-result c = search needs
 
 returns : tie.Need-returns Inv-loop μ-loop
 returns c =
     let l = c .before .before .before .before .before .loop in
     gap-here _ _ (l .at) (l .i) (omega arith) (rw (← starts (c .before)) (ne-eqb _ _ (c .if1 .taken))) ∙ l .inv .0
-
-length-in-requires : tie.Need-length-in-requires Inv-loop μ-loop
-length-in-requires c κs = search needs
-
-wide-requires-2 : tie.Need-wide-requires-2 Inv-loop μ-loop
-wide-requires-2 c κs = search needs
-
-add-at : tie.Need-add-at Inv-loop μ-loop
-add-at c = search needs
-
-add-i : tie.Need-add-i Inv-loop μ-loop
-add-i c = search needs
-
-loop-less : tie.Need-loop-less Inv-loop μ-loop
-loop-less c = search needs
 
 loop-again : tie.Need-loop-again Inv-loop μ-loop
 loop-again c =
@@ -92,19 +59,19 @@ gap-place-spec =
     (tie.spec
     Inv-loop
     μ-loop
-    shared-slice-read-count
-    table-end-requires
+    (λ c. search needs)
+    (λ c κs. search needs)
     loop-holds
-    entry-at-requires
-    offset-in-requires
-    wide-requires
-    add-result
+    (λ c κs. omega arith)
+    (λ c κs. search needs)
+    (λ c κs. search needs)
+    (λ c. search needs)
     returns
-    length-in-requires
-    wide-requires-2
-    add-at
-    add-i
-    loop-less
+    (λ c κs. search needs)
+    (λ c κs. search needs)
+    (λ c. search needs)
+    (λ c. search needs)
+    (λ c. search needs)
     loop-again
     returns-2
     returns-3)

@@ -8,11 +8,11 @@ use borrow.Author.Tests.{eq-eqb, ne-eqb}
 use lib.Dec.{eqb}
 use lib.ListN.{take, drop, replicate}
 use lib.Seq.{take-length}
-use Rattle.records.specs.Parse.{recordsOf}
-use Rattle.layout.specs.declared.Entry.{Entry}
-use Rattle.layout.specs.Layout.{OFFER-LIMIT, countIn, entriesIn, bodyIn}
-use Rattle.layout.specs.Rows.{firstEntry, badOffer, badBody, rowB5, rowB8}
-use Rattle.layout.specs.Layout.{blankEntry}
+use Rattle.bundle_records.specs.Parse.{recordsOf}
+use Rattle.bundle_layout.specs.declared.Entry.{Entry}
+use Rattle.bundle_layout.specs.Layout.{OFFER-LIMIT, countIn, entriesIn, bodyIn}
+use Rattle.bundle_layout.specs.Rows.{firstEntry, badOffer, badBody, rowB5, rowB8}
+use Rattle.bundle_layout.specs.Layout.{blankEntry}
 use Rattle.bundle.specs.Contents.{entryIn}
 use Rattle.bundle.proofs.table.Laws.{entryAt, length-entries, first-here, first-on, first-end, none-bad}
 use Rattle.bundle.proofs.chain.Laws.{bodies-inside}
@@ -36,18 +36,9 @@ read c = c .contents-in .ensures ∙ ap (entryIn (bundle c)) (c .before .entry-a
 judged : (c : tie.After-contents-in Inv-loop μ-loop) → badBody (bundle c) (entryAt (bundle c) (c .before .before .before .loop .i)) ≡ eqb (c .contents-in .result .records) 0
 judged c = bad-none (recordsOf (bodyIn (bundle c) (entryAt (bundle c) (c .before .before .before .loop .i)))) ∙ ap (λ (x : Entry). eqb (x .records) 0) (sym (read c))
 
-shared-slice-read-count : tie.Need-shared-slice-read-count Inv-loop μ-loop
-shared-slice-read-count c = search needs
-
-no-entries-requires : tie.Need-no-entries-requires Inv-loop μ-loop
-no-entries-requires c κs = search needs
-
 loop-holds : tie.Need-loop-holds Inv-loop μ-loop
 unfolding rowB8
 loop-holds c = (refl, c .no-entries .ensures, omega arith)
-
-entry-at-requires : tie.Need-entry-at-requires Inv-loop μ-loop
-entry-at-requires c κs = omega arith
 
 contents-in-requires : tie.Need-contents-in-requires Inv-loop μ-loop
 unfolding rowB5
@@ -59,29 +50,11 @@ contents-in-requires c κs =
       (rw (c .entry-at .ensures .0) (bodies-inside b (s .pre .1 .1) i (omega arith)), s .pre .0 .2),
     )
 
-add-t11 : tie.Need-add-t11 Inv-loop μ-loop
-add-t11 c = search needs
-
 returns : tie.Need-returns Inv-loop μ-loop
 returns c =
     let l = c .before .before .before .before .before .loop in
     let e = first-here (bundle (c .before .before)) (badBody (bundle (c .before .before))) (l .i) (omega arith) (judged (c .before .before) ∙ eq-eqb _ _ (c .if1 .taken)) ∙ l .inv .0 in
     (e, λ z. absurd (omega arith))
-
-cast-table : tie.Need-cast-table Inv-loop μ-loop
-cast-table c = search needs
-
-mul-table : tie.Need-mul-table Inv-loop μ-loop
-mul-table c = search needs
-
-array-set-from-table : tie.Need-array-set-from-table Inv-loop μ-loop
-array-set-from-table c = search needs
-
-add-i : tie.Need-add-i Inv-loop μ-loop
-add-i c = search needs
-
-loop-less : tie.Need-loop-less Inv-loop μ-loop
-loop-less c = search needs
 
 loop-again : tie.Need-loop-again Inv-loop μ-loop
 loop-again c =
@@ -106,17 +79,17 @@ contents-of-spec =
     (tie.spec
     Inv-loop
     μ-loop
-    shared-slice-read-count
-    no-entries-requires
+    (λ c. search needs)
+    (λ c κs. search needs)
     loop-holds
-    entry-at-requires
+    (λ c κs. omega arith)
     contents-in-requires
-    add-t11
+    (λ c. search needs)
     returns
-    cast-table
-    mul-table
-    array-set-from-table
-    add-i
-    loop-less
+    (λ c. search needs)
+    (λ c. search needs)
+    (λ c. search needs)
+    (λ c. search needs)
+    (λ c. search needs)
     loop-again
     returns-2)

@@ -1,7 +1,7 @@
 -- `contents::offer_in`: the reader finds an offer, and no other kind. Assumes nothing.
 use mathlib.Core.Path.{_≡_, _∙_}
-use Rattle.offers.specs.declared.kind.OfferPacket.the-variants.{Offer}
-use Rattle.offers.specs.Offer.{fieldsIn}
+use Rattle.wire_offer.specs.declared.kind.OfferPacket.the-variants.{Offer}
+use Rattle.wire_offer.specs.Offer.{fieldsIn}
 use Rattle.bundle.proofs.contents.Laws.{read-offer, offer-told}
 use borrow.Author.Needs.{needs}
 use Rattle.bundle.proofs.contents.offer_in.Statement.{statement}
@@ -11,29 +11,8 @@ use Rattle.bundle.proofs.contents.offer_in.Tie as tie
 is-offer : (c : tie.After-read-offer-packet) → c .read-offer-packet .result ≡ Offer (fieldsIn (c .before .before .args .p .now))
 is-offer c = offer-told _ _ (c .read-offer-packet .ensures ∙ read-offer _ (c .before .before .pre .0) (c .before .before .pre .1))
 
-read-offer-packet-requires : tie.Need-read-offer-packet-requires
-read-offer-packet-requires c κs = search needs
-
 enum-told : tie.Need-enum-told
 enum-told c = search needs
-
-no-offer-requires : tie.Need-no-offer-requires
-no-offer-requires c κs = search needs
-
-enum-known-k : tie.Need-enum-known-k
-enum-known-k c = search needs
-
-enum-told-2 : tie.Need-enum-told-2
-enum-told-2 c = search needs
-
-no-offer-requires-2 : tie.Need-no-offer-requires-2
-no-offer-requires-2 c κs = search needs
-
-enum-told-3 : tie.Need-enum-told-3
-enum-told-3 c = search needs
-
-no-offer-requires-3 : tie.Need-no-offer-requires-3
-no-offer-requires-3 c κs = search needs
 
 returns : tie.Need-returns
 returns c = let e = is-offer (c .before .before .before) in let f = c .before .enum-told .given .1 in cc
@@ -51,14 +30,14 @@ pub offer-in-spec : {M : Type 1} → statement M
 offer-in-spec =
     tie.close
     (tie.spec
-    read-offer-packet-requires
+    (λ c κs. search needs)
     enum-told
-    no-offer-requires
-    enum-known-k
-    enum-told-2
-    no-offer-requires-2
-    enum-told-3
-    no-offer-requires-3
+    (λ c κs. search needs)
+    (λ c. search needs)
+    (λ c. search needs)
+    (λ c κs. search needs)
+    (λ c. search needs)
+    (λ c κs. search needs)
     returns
     returns-2
     returns-3

@@ -2,8 +2,8 @@
 use mathlib.Core.Path.{_≡_, sym, ap, _∙_}
 use native.Mathlib.Omega.{arith}
 use lib.ListN.{length, take, drop}
-use Rattle.records.specs.Parse.{recordsOf, blocksOf}
-use Rattle.layout.specs.Layout.{BUNDLE-LIMIT}
+use Rattle.bundle_records.specs.Parse.{recordsOf, blocksOf}
+use Rattle.bundle_layout.specs.Layout.{BUNDLE-LIMIT}
 use Rattle.bundle.proofs.contents.Laws.{tallied, counted, counted-is, counted-fits}
 use borrow.Author.Needs.{needs}
 use Rattle.bundle.proofs.contents.records_in.Statement.{statement}
@@ -15,17 +15,8 @@ walked c =
     let a = c .before .before .args in
     ap counted (c .tally .ensures ∙ tallied (a .b .now) (a .offset) (a .size) (c .before .before .pre .0)) ∙ counted-is (recordsOf (take (a .size) (drop (a .offset) (a .b .now))))
 
-add-end : tie.Need-add-end
-add-end c = search needs
-
-tally-requires : tie.Need-tally-requires
-tally-requires c κs = search needs
-
 enum-told : tie.Need-enum-told
 enum-told c = search needs
-
-enum-known-t : tie.Need-enum-known-t
-enum-known-t c = search needs
 
 cast-result : tie.Need-cast-result
 cast-result c =
@@ -42,4 +33,4 @@ returns-2 c = ap counted (sym (c .before .t .given .1)) ∙ walked (c .before .b
 pub records-in-spec : {M : Type 1} → statement M
 records-in-spec =
     tie.close
-    (tie.spec add-end tally-requires enum-told enum-known-t cast-result returns returns-2)
+    (tie.spec (λ c. search needs) (λ c κs. search needs) enum-told (λ c. search needs) cast-result returns returns-2)

@@ -4,8 +4,8 @@ use Prim.Native.Nat.{_+_, _-_}
 use native.Mathlib.Omega.{arith}
 use borrow.Author.Needs.{needs}
 use lib.ListN.{drop}
-use Rattle.layout.specs.Layout.{entriesIn}
-use Rattle.layout.specs.Rows.{firstEntry, badOffer, rowB5}
+use Rattle.bundle_layout.specs.Layout.{entriesIn}
+use Rattle.bundle_layout.specs.Rows.{firstEntry, badOffer, rowB5}
 use Rattle.bundle.proofs.table.Laws.{first-here, first-on, first-end}
 use Rattle.bundle.proofs.table.bad_offer_place.Statement.{statement}
 use Rattle.bundle.proofs.table.bad_offer_place.Tie as tie
@@ -16,32 +16,14 @@ Inv-loop b count i₀ i = firstEntry badOffer (i + 1) (drop i (entriesIn b)) ≡
 abbrev μ-loop : tie.MeasureT-loop
 μ-loop b count i₀ i = count - i
 
-shared-slice-read-count : tie.Need-shared-slice-read-count Inv-loop μ-loop
-shared-slice-read-count c = search needs
-
 loop-holds : tie.Need-loop-holds Inv-loop μ-loop
 unfolding rowB5
 loop-holds c = refl
-
-entry-at-requires : tie.Need-entry-at-requires Inv-loop μ-loop
-entry-at-requires c κs = omega arith
-
-bad-offer-requires : tie.Need-bad-offer-requires Inv-loop μ-loop
-bad-offer-requires c κs = search needs
-
-add-result : tie.Need-add-result Inv-loop μ-loop
-add-result c = search needs
 
 returns : tie.Need-returns Inv-loop μ-loop
 returns c =
     let l = c .before .before .before .before .loop in
     first-here _ badOffer (l .i) (omega arith) (rw (← c .before .before .entry-at .ensures .0) (sym (c .before .bad-offer .ensures) ∙ c .if1 .taken)) ∙ l .inv
-
-add-i : tie.Need-add-i Inv-loop μ-loop
-add-i c = search needs
-
-loop-less : tie.Need-loop-less Inv-loop μ-loop
-loop-less c = search needs
 
 loop-again : tie.Need-loop-again Inv-loop μ-loop
 loop-again c =
@@ -57,13 +39,13 @@ bad-offer-place-spec =
     (tie.spec
     Inv-loop
     μ-loop
-    shared-slice-read-count
+    (λ c. search needs)
     loop-holds
-    entry-at-requires
-    bad-offer-requires
-    add-result
+    (λ c κs. omega arith)
+    (λ c κs. search needs)
+    (λ c. search needs)
     returns
-    add-i
-    loop-less
+    (λ c. search needs)
+    (λ c. search needs)
     loop-again
     returns-2)

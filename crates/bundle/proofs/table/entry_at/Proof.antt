@@ -2,26 +2,11 @@
 use mathlib.Core.Path.{_≡_}
 use Prim.Native.Nat.{_+_, _-_}
 use native.Mathlib.Omega.{arith}
-use Rattle.layout.specs.Layout.{ENTRY}
+use Rattle.bundle_layout.specs.Layout.{ENTRY}
 use Rattle.bundle.proofs.table.Laws.{length-entry}
 use borrow.Author.Needs.{needs}
 use Rattle.bundle.proofs.table.entry_at.Statement.{statement}
 use Rattle.bundle.proofs.table.entry_at.Tie as tie
-
-table-end-requires : tie.Need-table-end-requires
-table-end-requires c κs = search needs
-
-add-end : tie.Need-add-end
-add-end c = search needs
-
-sub-result : tie.Need-sub-result
-sub-result c = search needs
-
-part-result-start : tie.Need-part-result-start
-part-result-start c = search needs
-
-part-result-end : tie.Need-part-result-end
-part-result-end c = search needs
 
 returns : tie.Need-returns
 returns c =
@@ -33,4 +18,4 @@ returns c =
 pub entry-at-spec : {M : Type 1} → statement M
 entry-at-spec =
     tie.close
-    (tie.spec table-end-requires add-end sub-result part-result-start part-result-end returns)
+    (tie.spec (λ c κs. search needs) (λ c. search needs) (λ c. search needs) (λ c. search needs) (λ c. search needs) returns)

@@ -7,7 +7,7 @@ use borrow.Author.Tests.{eq-eqb, ne-eqb}
 use lib.Dec.{eqb}
 use lib.ListN.{take, drop}
 use Rattle.wire.specs.Checks.{any}
-use Rattle.layout.specs.Layout.{entriesIn, idIn}
+use Rattle.bundle_layout.specs.Layout.{entriesIn, idIn}
 use Rattle.bundle.proofs.table.Laws.{some-here, some-on, some-end}
 use Rattle.bundle.proofs.table.is_used.Statement.{statement}
 use Rattle.bundle.proofs.table.is_used.Tie as tie
@@ -21,23 +21,11 @@ abbrev μ-loop : tie.MeasureT-loop
 loop-holds : tie.Need-loop-holds Inv-loop μ-loop
 loop-holds c = refl
 
-entry-at-requires : tie.Need-entry-at-requires Inv-loop μ-loop
-entry-at-requires c κs = omega arith
-
-id-in-requires : tie.Need-id-in-requires Inv-loop μ-loop
-id-in-requires c κs = search needs
-
 returns : tie.Need-returns Inv-loop μ-loop
 returns c =
     let l = c .before .before .before .before .loop in
     let a = c .before .before .before .before .before .before .args in
     some-here _ (λ e. eqb (a .id) (idIn e)) (a .n) (l .i) (omega arith) (omega arith) (rw (← c .before .before .entry-at .ensures .0) (eq-eqb _ _ (c .if1 .taken ∙ c .before .id-in .ensures))) ∙ l .inv
-
-add-i : tie.Need-add-i Inv-loop μ-loop
-add-i c = search needs
-
-loop-less : tie.Need-loop-less Inv-loop μ-loop
-loop-less c = search needs
 
 loop-again : tie.Need-loop-again Inv-loop μ-loop
 loop-again c =
@@ -58,10 +46,10 @@ is-used-spec =
     Inv-loop
     μ-loop
     loop-holds
-    entry-at-requires
-    id-in-requires
+    (λ c κs. omega arith)
+    (λ c κs. search needs)
     returns
-    add-i
-    loop-less
+    (λ c. search needs)
+    (λ c. search needs)
     loop-again
     returns-2)

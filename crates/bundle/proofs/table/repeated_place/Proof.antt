@@ -4,8 +4,8 @@ use Prim.Native.Nat.{_+_, _-_}
 use native.Mathlib.Omega.{arith}
 use borrow.Author.Needs.{needs}
 use lib.ListN.{drop}
-use Rattle.layout.specs.Layout.{entriesIn}
-use Rattle.layout.specs.Rows.{repeated, rowB6}
+use Rattle.bundle_layout.specs.Layout.{entriesIn}
+use Rattle.bundle_layout.specs.Rows.{repeated, rowB6}
 use Rattle.bundle.proofs.table.Laws.{idsTo, repeated-here, repeated-on, repeated-end}
 use Rattle.bundle.proofs.table.repeated_place.Statement.{statement}
 use Rattle.bundle.proofs.table.repeated_place.Tie as tie
@@ -16,35 +16,17 @@ Inv-loop b count i₀ i = repeated (idsTo b i) (i + 1) (drop i (entriesIn b)) �
 abbrev μ-loop : tie.MeasureT-loop
 μ-loop b count i₀ i = count - i
 
-shared-slice-read-count : tie.Need-shared-slice-read-count Inv-loop μ-loop
-shared-slice-read-count c = search needs
-
 loop-holds : tie.Need-loop-holds Inv-loop μ-loop
 unfolding rowB6 idsTo
 loop-holds c = refl
 
-entry-at-requires : tie.Need-entry-at-requires Inv-loop μ-loop
-entry-at-requires c κs = omega arith
-
-id-in-requires : tie.Need-id-in-requires Inv-loop μ-loop
-id-in-requires c κs = search needs
-
 is-used-requires : tie.Need-is-used-requires Inv-loop μ-loop
 is-used-requires c κs = (omega arith, omega arith, omega arith)
-
-add-result : tie.Need-add-result Inv-loop μ-loop
-add-result c = search needs
 
 returns : tie.Need-returns Inv-loop μ-loop
 returns c =
     let l = c .before .before .before .before .before .loop in
     repeated-here _ (l .i) (omega arith) (rw (← c .before .before .before .entry-at .ensures .0, ← c .before .before .id-in .ensures) (sym (c .before .is-used .ensures) ∙ c .if1 .taken)) ∙ l .inv
-
-add-i : tie.Need-add-i Inv-loop μ-loop
-add-i c = search needs
-
-loop-less : tie.Need-loop-less Inv-loop μ-loop
-loop-less c = search needs
 
 loop-again : tie.Need-loop-again Inv-loop μ-loop
 loop-again c =
@@ -60,14 +42,14 @@ repeated-place-spec =
     (tie.spec
     Inv-loop
     μ-loop
-    shared-slice-read-count
+    (λ c. search needs)
     loop-holds
-    entry-at-requires
-    id-in-requires
+    (λ c κs. omega arith)
+    (λ c κs. search needs)
     is-used-requires
-    add-result
+    (λ c. search needs)
     returns
-    add-i
-    loop-less
+    (λ c. search needs)
+    (λ c. search needs)
     loop-again
     returns-2)

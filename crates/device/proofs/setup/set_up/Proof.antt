@@ -4,30 +4,18 @@ use native.Mathlib.Omega.{arith}
 use lib.ListN.{length}
 use Rattle.device.specs.Entries.{setUpOf}
 use Rattle.wire.proofs.Chain.{by}
-use Rattle.session.proofs.sound.Laws.{fine}
-use Rattle.component.proofs.setup.Laws.{fine-staging}
+use Rattle.device_session.proofs.sound.Laws.{fine}
+use Rattle.device_component.proofs.setup.Laws.{fine-staging}
 use Rattle.device.proofs.setup.Laws.{refused-set-up, made-set-up}
 use borrow.Author.Needs.{needs}
 use Rattle.device.proofs.setup.set_up.Statement.{statement}
 use Rattle.device.proofs.setup.set_up.Tie as tie
 
-components-requires : tie.Need-components-requires
-components-requires c κs = search needs
-
-setup-verdict-requires : tie.Need-setup-verdict-requires
-setup-verdict-requires c κs = search needs
-
-refuses-setup-requires : tie.Need-refuses-setup-requires
-refuses-setup-requires c κs = search needs
-
-blank-requires : tie.Need-blank-requires
-blank-requires c κs = search needs
-
 returns : tie.Need-returns
 unfolding setUpOf
 returns c =
     let v = c .before .before .before .setup-verdict in
-    rw (← (c .before .before .before .before .components .ensures), ← (v .ensures), c .blank .ensures)
+    rw (← (c .before .before .before .before .components-of .ensures), ← (v .ensures), c .blank .ensures)
     (sym (refused-set-up (v .result) _ (by (c .before .before .refuses-setup .ensures) (c .before .if1 .taken))))
 
 cast-t11 : tie.Need-cast-t11
@@ -40,17 +28,17 @@ returns-2 : tie.Need-returns-2
 unfolding setUpOf
 returns-2 c =
     let v = c .before .before .setup-verdict in
-    rw (← (c .before .before .before .components .ensures), ← (v .ensures))
+    rw (← (c .before .before .before .components-of .ensures), ← (v .ensures))
     (sym (made-set-up (v .result) _ (by (c .before .refuses-setup .ensures) (c .if1 .left))))
 
 pub set-up-spec : {M : Type 1} → statement M
 set-up-spec =
     tie.close
     (tie.spec
-    components-requires
-    setup-verdict-requires
-    refuses-setup-requires
-    blank-requires
+    (λ c κs. search needs)
+    (λ c κs. search needs)
+    (λ c κs. search needs)
+    (λ c κs. search needs)
     returns
     cast-t11
     returns-2)

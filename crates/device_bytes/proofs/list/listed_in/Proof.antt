@@ -3,18 +3,9 @@ use borrow.Author.Needs.{needs}
 use Rattle.device_bytes.proofs.list.listed_in.Statement.{statement}
 use Rattle.device_bytes.proofs.list.listed_in.Tie as tie
 
-version-at-requires : tie.Need-version-at-requires
-version-at-requires c κs = search needs
-
-region-in-requires : tie.Need-region-in-requires
-region-in-requires c κs = search needs
-
-byte-at-requires : tie.Need-byte-at-requires
-byte-at-requires c κs = search needs
-
 returns : tie.Need-returns
 returns c = rw (c .byte-at .ensures, c .before .region-in .ensures, c .before .before .version-at .ensures)
 
 pub listed-in-spec : {M : Type 1} → statement M
 listed-in-spec =
-    tie.close (tie.spec version-at-requires region-in-requires byte-at-requires returns)
+    tie.close (tie.spec (λ c κs. search needs) (λ c κs. search needs) (λ c κs. search needs) returns)

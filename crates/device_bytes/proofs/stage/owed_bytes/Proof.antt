@@ -3,17 +3,8 @@ use borrow.Author.Needs.{needs}
 use Rattle.device_bytes.proofs.stage.owed_bytes.Statement.{statement}
 use Rattle.device_bytes.proofs.stage.owed_bytes.Tie as tie
 
-enum-told : tie.Need-enum-told
-enum-told c = search needs
-
-enum-known-owed : tie.Need-enum-known-owed
-enum-known-owed c = search needs
-
-returns : tie.Need-returns
-returns c = search needs
-
 returns-2 : tie.Need-returns-2
 returns-2 c = rw (c .before .owed .given .1)
 
 pub owed-bytes-spec : {M : Type 1} → statement M
-owed-bytes-spec = tie.close (tie.spec enum-told enum-known-owed returns returns-2)
+owed-bytes-spec = tie.close (tie.spec (λ c. search needs) (λ c. search needs) (λ c. search needs) returns-2)

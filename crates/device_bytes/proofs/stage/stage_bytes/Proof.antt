@@ -6,21 +6,6 @@ use Rattle.device_bytes.proofs.stage.stage_bytes.Tie as tie
 enum-told : tie.Need-enum-told
 enum-told c = search needs
 
-enum-known-stage : tie.Need-enum-known-stage
-enum-known-stage c = search needs
-
-enum-known-stage-2 : tie.Need-enum-known-stage-2
-enum-known-stage-2 c = search needs
-
-bytes16-requires : tie.Need-bytes16-requires
-bytes16-requires c κs = search needs
-
-array-read-t9 : tie.Need-array-read-t9
-array-read-t9 c = search needs
-
-array-read-t12 : tie.Need-array-read-t12
-array-read-t12 c = search needs
-
 returns : tie.Need-returns
 returns c = rw (c .enum-told .given .1)
 
@@ -35,11 +20,11 @@ stage-bytes-spec =
     tie.close
     (tie.spec
     enum-told
-    enum-known-stage
-    enum-known-stage-2
-    bytes16-requires
-    array-read-t9
-    array-read-t12
+    (λ c. search needs)
+    (λ c. search needs)
+    (λ c κs. search needs)
+    (λ c. search needs)
+    (λ c. search needs)
     returns
     returns-2
     returns-3)

@@ -1,13 +1,13 @@
 -- `inner::inner_step`: the bundle's row, N1, or the move, with the body in hand and the body of what is sent. Assumes nothing.
 use mathlib.Core.Path.{_≡_, sym, ap, _∙_}
 use Prim.Native.Nat.{ℕ}
-use Rattle.layout.specs.Rows.{served, B, numberOf, rowOf}
+use Rattle.bundle_layout.specs.Rows.{served, B, numberOf, rowOf}
 use Rattle.bundle.specs.Contents.{toldChecked}
 use Rattle.bundle.proofs.Told.{fine-row, bad-row}
 use Rattle.host_record.specs.declared.fits.Body.{Body}
 use Rattle.host_record.specs.Fits.{bodyOf, recordsOn, inHand}
-use Rattle.decide.specs.Decide.{decisionOf}
-use Rattle.make.specs.Made.{madeOf}
+use Rattle.host_decide.specs.Decide.{decisionOf}
+use Rattle.host_packet.specs.Made.{madeOf}
 use Rattle.host.specs.Inner.{innerOf}
 use borrow.Author.Needs.{needs}
 use Rattle.host.proofs.inner.inner_step.Statement.{statement}

@@ -4,7 +4,7 @@ use Prim.Native.Nat.{ℕ, suc, _+_, _-_, _≤_}
 use native.Mathlib.Numerals.{unary-clauses}
 use native.Mathlib.Omega.{arith}
 use borrow.Author.Needs.{needs}
-use Rattle.records.specs.declared.Next.{Next}
+use Rattle.bundle_records.specs.declared.Next.{Next}
 use Rattle.host.specs.Inner.{pastRecord, placeAfter}
 use Rattle.host.proofs.step.Laws.{place-by}
 use Rattle.host.proofs.step.place_after.Statement.{statement}

@@ -4,7 +4,7 @@ use Prim.Native.Nat.{ℕ}
 use Rattle.bundle.specs.Contents.{Contents, toldChecked}
 use Rattle.host_record.specs.declared.fits.Body.{Body}
 use Rattle.host_record.specs.Fits.{bodyOf}
-use Rattle.make.specs.Made.{InnerStep}
+use Rattle.host_packet.specs.Made.{InnerStep}
 use Rattle.host.specs.Inner.{innerOf, cursorAt, cursorOf}
 use Rattle.host.proofs.step.Laws.{step-is-inner}
 use borrow.Author.Needs.{needs}

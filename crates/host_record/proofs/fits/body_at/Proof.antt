@@ -3,7 +3,7 @@ use lib.ListN.{length, List·getD-eq-default}
 use mathlib.Core.Path.{_≡_}
 use Prim.Native.Nat.{_≤_}
 use native.Mathlib.Omega.{arith}
-use Rattle.layout.specs.Layout.{blankEntry}
+use Rattle.bundle_layout.specs.Layout.{blankEntry}
 use borrow.Author.Needs.{needs}
 use Rattle.host_record.proofs.fits.body_at.Statement.{statement}
 use Rattle.host_record.proofs.fits.body_at.Tie as tie

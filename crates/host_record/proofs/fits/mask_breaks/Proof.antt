@@ -10,9 +10,6 @@ use borrow.Author.Needs.{needs}
 use Rattle.host_record.proofs.fits.mask_breaks.Statement.{statement}
 use Rattle.host_record.proofs.fits.mask_breaks.Tie as tie
 
-shl-result : tie.Need-shl-result
-shl-result c = search needs
-
 returns : tie.Need-returns
 returns c = ap (λ (x : ℕ). leb x (c .before .args .mask)) (shl-exact 1 (c .before .args .n) 32 (lit< tt) (omega (arith, c .if1 .taken)) ∙ one-mul (2 ^ c .before .args .n))
 
@@ -20,4 +17,4 @@ returns-2 : tie.Need-returns-2
 returns-2 c = let l : 2 ^ 32 ≤ 2 ^ c .before .args .n = pow-mono (c .if1 .left) in let m : c .before .args .mask < 2 ^ 32 = search needs in sym (lt-leb (2 ^ c .before .args .n) (c .before .args .mask) (omega arith))
 
 pub mask-breaks-spec : {M : Type 1} → statement M
-mask-breaks-spec = tie.close (tie.spec shl-result returns returns-2)
+mask-breaks-spec = tie.close (tie.spec (λ c. search needs) returns returns-2)

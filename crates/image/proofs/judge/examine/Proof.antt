@@ -34,60 +34,15 @@ returns : tie.Need-returns
 unfolding imageIn
 returns c = rw (lt-leb 8 (length (c .before .before .args .m .now)) (omega arith))
 
-sub-body : tie.Need-sub-body
-sub-body c = search needs
-
-shared-slice-read-high-first : tie.Need-shared-slice-read-high-first
-shared-slice-read-high-first c = search needs
-
-sub-high-first : tie.Need-sub-high-first
-sub-high-first c = search needs
-
-shared-slice-read-high-first-2 : tie.Need-shared-slice-read-high-first-2
-shared-slice-read-high-first-2 c = search needs
-
-high-first-requires : tie.Need-high-first-requires
-high-first-requires c κs = search needs
-
-sub-crc16 : tie.Need-sub-crc16
-sub-crc16 c = search needs
-
-part-crc16-start : tie.Need-part-crc16-start
-part-crc16-start c = search needs
-
-part-crc16-end : tie.Need-part-crc16-end
-part-crc16-end c = search needs
-
-crc16-requires : tie.Need-crc16-requires
-crc16-requires c κs = search needs
-
 returns-2 : tie.Need-returns-2
 unfolding imageIn
 returns-2 c =
     let d = c .before in
     rw (long d, ne-eqb (ownCrc (M d)) (heldCrc (M d)) (λ q. c .if2 .taken (own d ∙ q ∙ sym (held d))))
 
-shared-slice-read-if3 : tie.Need-shared-slice-read-if3
-shared-slice-read-if3 c = search needs
-
 returns-3 : tie.Need-returns-3
 unfolding imageIn
 returns-3 c = rw (long (c .before .before .before), right (c .before .before), ne-eqb _ _ (c .if3 .taken))
-
-shared-slice-read-read : tie.Need-shared-slice-read-read
-shared-slice-read-read c = search needs
-
-shared-slice-read-read-2 : tie.Need-shared-slice-read-read-2
-shared-slice-read-read-2 c = search needs
-
-shared-slice-read-read-3 : tie.Need-shared-slice-read-read-3
-shared-slice-read-read-3 c = search needs
-
-shared-slice-read-read-4 : tie.Need-shared-slice-read-read-4
-shared-slice-read-read-4 c = search needs
-
-read-requires : tie.Need-read-requires
-read-requires c κs = search needs
 
 returns-4 : tie.Need-returns-4
 unfolding imageIn
@@ -100,21 +55,21 @@ examine-spec =
     tie.close
     (tie.spec
     returns
-    sub-body
-    shared-slice-read-high-first
-    sub-high-first
-    shared-slice-read-high-first-2
-    high-first-requires
-    sub-crc16
-    part-crc16-start
-    part-crc16-end
-    crc16-requires
+    (λ c. search needs)
+    (λ c. search needs)
+    (λ c. search needs)
+    (λ c. search needs)
+    (λ c κs. search needs)
+    (λ c. search needs)
+    (λ c. search needs)
+    (λ c. search needs)
+    (λ c κs. search needs)
     returns-2
-    shared-slice-read-if3
+    (λ c. search needs)
     returns-3
-    shared-slice-read-read
-    shared-slice-read-read-2
-    shared-slice-read-read-3
-    shared-slice-read-read-4
-    read-requires
+    (λ c. search needs)
+    (λ c. search needs)
+    (λ c. search needs)
+    (λ c. search needs)
+    (λ c κs. search needs)
     returns-4)

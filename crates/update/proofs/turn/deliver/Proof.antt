@@ -3,8 +3,8 @@ use mathlib.Core.Path.{_≡_, refl, subst⁻¹}
 use lib.ListN.{length, take}
 use Rattle.device.specs.Entries.{serveEntry, serveStaging}
 use Rattle.device.specs.declared.answer.Channel.the-variants as channel
-use Rattle.make.specs.Answer.{sentBy}
-use Rattle.make.specs.declared.answer.Sent.{Sent}
+use Rattle.host_packet.specs.Answer.{sentBy}
+use Rattle.host_packet.specs.declared.answer.Sent.{Sent}
 use Rattle.update.specs.Run.{channelOf}
 use Rattle.update.specs.Turn.{Delivered}
 use Rattle.update.proofs.turn.Laws.{first-16, nothing-delivered, answer-delivered}
@@ -15,12 +15,6 @@ use Rattle.update.proofs.turn.deliver.Tie as tie
 enum-told : tie.Need-enum-told
 enum-told c = search needs
 
-enum-told-2 : tie.Need-enum-told-2
-enum-told-2 c = search needs
-
-array-share-prefix-packet : tie.Need-array-share-prefix-packet
-array-share-prefix-packet c = search needs
-
 -- a packet's array
 sixty : (c : tie.After-slice-known) → length (c .before .args .t2) ≡ 60
 sixty c = search needs
@@ -28,33 +22,12 @@ sixty c = search needs
 slice-aggregate-offer : tie.Need-slice-aggregate-offer
 slice-aggregate-offer c = first-16 (c .before .before .before .before .before .before .args .t2) (sixty (c .before .before .before .before .before))
 
-offer-requires : tie.Need-offer-requires
-offer-requires c κs = search needs
-
-after-requires : tie.Need-after-requires
-after-requires c κs = search needs
-
-enum-told-3 : tie.Need-enum-told-3
-enum-told-3 c = search needs
-
-slice-aggregate-content : tie.Need-slice-aggregate-content
-slice-aggregate-content c = search needs
-
-content-requires : tie.Need-content-requires
-content-requires c κs = search needs
-
-after-requires-2 : tie.Need-after-requires-2
-after-requires-2 c κs = search needs
-
 returns : tie.Need-returns
 returns c =
     let a = c .before .before .before .before .before .args in
     subst⁻¹ (λ (x : Sent). Delivered (sentBy x (a .t2)) (a .host) (a .cursor) (a .e) (a .staging .now)
     (record { host = a .host; device = a .e .device; due = a .e .due; reply = a .e .reply; cursor = a .cursor }) (a .staging .now)) (c .before .enum-told .given .1)
     (nothing-delivered (a .host) (a .cursor) (a .e) (a .staging .now))
-
-same-length : tie.Need-same-length
-same-length c = search needs
 
 returns-2 : tie.Need-returns-2
 unfolding serveEntry serveStaging
@@ -65,9 +38,6 @@ returns-2 c =
     subst⁻¹ (λ (x : Sent). Delivered (sentBy x (a .t2)) (a .host) (a .cursor) (a .e) (a .staging .now) (c .after .result) (a .staging .now)) (c .before .before .before .before .enum-told2 .given .1)
     (answer-delivered (a .host) (a .cursor) (a .e) (take 16 (a .t2)) (a .staging .now) (a .staging .now) channel.Offer (c .before .offer .result) (c .after .result) f
     (c .before .offer .ensures) refl (c .after .ensures))
-
-same-length-2 : tie.Need-same-length-2
-same-length-2 c = search needs
 
 returns-3 : tie.Need-returns-3
 unfolding serveEntry serveStaging
@@ -85,17 +55,17 @@ deliver-spec =
     tie.close
     (tie.spec
     enum-told
-    enum-told-2
-    array-share-prefix-packet
+    (λ c. search needs)
+    (λ c. search needs)
     slice-aggregate-offer
-    offer-requires
-    after-requires
-    enum-told-3
-    slice-aggregate-content
-    content-requires
-    after-requires-2
+    (λ c κs. search needs)
+    (λ c κs. search needs)
+    (λ c. search needs)
+    (λ c. search needs)
+    (λ c κs. search needs)
+    (λ c κs. search needs)
     returns
-    same-length
+    (λ c. search needs)
     returns-2
-    same-length-2
+    (λ c. search needs)
     returns-3)

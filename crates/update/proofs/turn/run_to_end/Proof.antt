@@ -19,9 +19,6 @@ Inv-loop checked bundle token staging₀ e₀ ended₀ staging e ended =
 abbrev μ-loop : tie.MeasureT-loop
 μ-loop checked bundle token staging₀ e₀ ended₀ staging e ended = leftOf bundle ended (e .host)
 
-fresh-requires : tie.Need-fresh-requires Inv-loop μ-loop
-fresh-requires c κs = search needs
-
 -- the token is a byte
 small : (c : tie.Start Inv-loop μ-loop) → c .args .token < 256
 small c = search needs
@@ -44,12 +41,6 @@ loop-holds c =
       sym (ap (λ (h : Host). hasEnded (h .stage)) (c .fresh .ensures)),
       refl,
     )
-
-turn-requires : tie.Need-turn-requires Inv-loop μ-loop
-turn-requires c κs = search needs
-
-has-ended-requires : tie.Need-has-ended-requires Inv-loop μ-loop
-has-ended-requires c κs = search needs
 
 loop-less : tie.Need-loop-less Inv-loop μ-loop
 loop-less c =
@@ -88,10 +79,10 @@ run-to-end-spec =
     (tie.spec
     Inv-loop
     μ-loop
-    fresh-requires
+    (λ c κs. search needs)
     loop-holds
-    turn-requires
-    has-ended-requires
+    (λ c κs. search needs)
+    (λ c κs. search needs)
     loop-less
     loop-again
     same-length

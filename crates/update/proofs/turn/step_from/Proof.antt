@@ -8,21 +8,6 @@ use borrow.Author.Needs.{needs}
 use Rattle.update.proofs.turn.step_from.Statement.{statement}
 use Rattle.update.proofs.turn.step_from.Tie as tie
 
-slice-aggregate-inner-step : tie.Need-slice-aggregate-inner-step
-slice-aggregate-inner-step c = search needs
-
-inner-step-requires : tie.Need-inner-step-requires
-inner-step-requires c κs = search needs
-
-array-share-prefix-reply : tie.Need-array-share-prefix-reply
-array-share-prefix-reply c = search needs
-
-slice-aggregate-inner-step-2 : tie.Need-slice-aggregate-inner-step-2
-slice-aggregate-inner-step-2 c = search needs
-
-inner-step-requires-2 : tie.Need-inner-step-requires-2
-inner-step-requires-2 c κs = search needs
-
 returns : tie.Need-returns
 returns c =
     let a = c .before .before .before .before .before .before .args in
@@ -39,10 +24,10 @@ pub step-from-spec : {M : Type 1} → statement M
 step-from-spec =
     tie.close
     (tie.spec
-    slice-aggregate-inner-step
-    inner-step-requires
-    array-share-prefix-reply
-    slice-aggregate-inner-step-2
-    inner-step-requires-2
+    (λ c. search needs)
+    (λ c κs. search needs)
+    (λ c. search needs)
+    (λ c. search needs)
+    (λ c κs. search needs)
     returns
     returns-2)

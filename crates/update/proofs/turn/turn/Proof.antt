@@ -1,19 +1,10 @@
 -- `turn::turn` meets its contract: what the step tells is delivered. Assumes nothing.
 use mathlib.Core.Path.{subst}
-use Rattle.make.specs.Made.{InnerStep}
+use Rattle.host_packet.specs.Made.{InnerStep}
 use Rattle.update.specs.Turn.{Delivered}
 use borrow.Author.Needs.{needs}
 use Rattle.update.proofs.turn.turn.Statement.{statement}
 use Rattle.update.proofs.turn.turn.Tie as tie
-
-step-from-requires : tie.Need-step-from-requires
-step-from-requires c κs = search needs
-
-deliver-requires : tie.Need-deliver-requires
-deliver-requires c κs = search needs
-
-same-length : tie.Need-same-length
-same-length c = search needs
 
 returns : tie.Need-returns
 returns c =
@@ -23,4 +14,4 @@ returns c =
     (c .before .before .before .before .before .before .before .step-from .ensures) (k .ensures)
 
 pub turn-spec : {M : Type 1} → statement M
-turn-spec = tie.close (tie.spec step-from-requires deliver-requires same-length returns)
+turn-spec = tie.close (tie.spec (λ c κs. search needs) (λ c κs. search needs) (λ c. search needs) returns)

@@ -3,11 +3,8 @@ use borrow.Author.Needs.{needs}
 use Rattle.device.proofs.record.Device.blank.Statement.{statement}
 use Rattle.device.proofs.record.Device.blank.Tie as tie
 
-blank-component-requires : tie.Need-blank-component-requires
-blank-component-requires c κs = search needs
-
 returns : tie.Need-returns
 returns c = rw (c .blank-component .ensures)
 
 pub blank-spec : {M : Type 1} → statement M
-blank-spec = tie.close (tie.spec blank-component-requires returns)
+blank-spec = tie.close (tie.spec (λ c κs. search needs) returns)

@@ -3,24 +3,15 @@ use mathlib.Core.Path.{_≡_, sym, _∙_}
 use denote.Ref.{now}
 use lib.ListN.{length, drop}
 use Rattle.wire.proofs.Chain.{by}
-use Rattle.contents.specs.Head.{headIn}
-use Rattle.receiving.specs.Receive.{stagingAfter}
+use Rattle.wire_content.specs.Head.{headIn}
+use Rattle.device_receiving.specs.Receive.{stagingAfter}
 use Rattle.device.specs.Refusals.{served, refusalOf}
-use Rattle.device.specs.Content.{sessionPart, contentEntry, contentStaging}
+use Rattle.device.specs.Content.{sessionComponent, contentEntry, contentStaging}
 use Rattle.device.proofs.Passes.{serves}
 use Rattle.device.proofs.answer.Laws.{none-refuses, one-refuses, one-keeps}
 use borrow.Author.Needs.{needs}
 use Rattle.device.proofs.record.Device.content.Statement.{statement}
 use Rattle.device.proofs.record.Device.content.Tie as tie
-
-refusal-requires : tie.Need-refusal-requires
-refusal-requires c κs = search needs
-
-is-refused-requires : tie.Need-is-refused-requires
-is-refused-requires c κs = search needs
-
-refused-requires : tie.Need-refused-requires
-refused-requires c κs = search needs
 
 returns : tie.Need-returns
 unfolding contentEntry contentStaging
@@ -28,7 +19,7 @@ returns c =
     let a = c .before .before .before .before .before .before .args in
     let q = c .before .before .before .refusal .ensures in
     let t = rw q at (by (c .before .before .is-refused .ensures) (c .before .if1 .taken)) in
-    (c .refused .ensures ∙ rw q (sym (one-refuses _ _ _ t)), sym (one-keeps (refusalOf 60 (a .self) (length (now (a .staging))) (length (now (a .report)))) (now (a .staging)) (stagingAfter (sessionPart (a .self) .region) (a .self .stage) (headIn (now (a .report))) (drop 8 (now (a .report))) (now (a .staging))) t))
+    (c .refused .ensures ∙ rw q (sym (one-refuses _ _ _ t)), sym (one-keeps (refusalOf 60 (a .self) (length (now (a .staging))) (length (now (a .report)))) (now (a .staging)) (stagingAfter (sessionComponent (a .self) .region) (a .self .stage) (headIn (now (a .report))) (drop 8 (now (a .report))) (now (a .staging))) t))
 
 -- no row refuses the call, so the report has 60 bytes
 serves-it : (c : tie.Else1) → let a = c .before .before .before .before .before .args in refusalOf 60 (a .self) (length (now (a .staging))) (length (now (a .report))) ≡ served
@@ -36,9 +27,6 @@ serves-it c = none-refuses _ (rw (c .before .before .refusal .ensures) at (by (c
 
 on-content-requires : tie.Need-on-content-requires
 on-content-requires c κs = serves 60 _ _ _ (serves-it (c .before)) .report
-
-same-length : tie.Need-same-length
-same-length c = search needs
 
 returns-2 : tie.Need-returns-2
 unfolding contentEntry contentStaging
@@ -49,10 +37,10 @@ pub content-spec : {M : Type 1} → statement M
 content-spec =
     tie.close
     (tie.spec
-    refusal-requires
-    is-refused-requires
-    refused-requires
+    (λ c κs. search needs)
+    (λ c κs. search needs)
+    (λ c κs. search needs)
     returns
     on-content-requires
-    same-length
+    (λ c. search needs)
     returns-2)

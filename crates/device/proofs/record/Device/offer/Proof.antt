@@ -6,8 +6,8 @@ use lib.ListN.{length}
 use Rattle.wire.specs.Rows as wire
 use Rattle.wire.specs.Rows.{Told}
 use Rattle.wire.proofs.Chain.{by}
-use Rattle.offers.specs.Kind.{Kind, kindIn, readOf, toldRead}
-use Rattle.offering.proofs.packet.Laws.{read-packet}
+use Rattle.wire_offer.specs.Kind.{Kind, kindIn, readOf, toldRead}
+use Rattle.device_offering.proofs.packet.Laws.{read-packet}
 use Rattle.device.specs.Record.{sessionOf}
 use Rattle.device.specs.Refusals.{served, refusalOf, servedWith}
 use Rattle.device.specs.Offer.{onKind, offerEntry}
@@ -17,26 +17,11 @@ use borrow.Author.Needs.{needs}
 use Rattle.device.proofs.record.Device.offer.Statement.{statement}
 use Rattle.device.proofs.record.Device.offer.Tie as tie
 
-refusal-requires : tie.Need-refusal-requires
-refusal-requires c κs = search needs
-
-is-refused-requires : tie.Need-is-refused-requires
-is-refused-requires c κs = search needs
-
-refused-requires : tie.Need-refused-requires
-refused-requires c κs = search needs
-
 returns : tie.Need-returns
 unfolding offerEntry
 returns c =
     let q = c .before .before .before .refusal .ensures in
     let t = rw q at (by (c .before .before .is-refused .ensures) (c .before .if1 .taken)) in c .refused .ensures ∙ rw q (sym (one-refuses _ _ _ t))
-
-read-offer-packet-requires : tie.Need-read-offer-packet-requires
-read-offer-packet-requires c κs = search needs
-
-on-packet-requires : tie.Need-on-packet-requires
-on-packet-requires c κs = search needs
 
 -- no row refuses the call, so the report is read as what it is
 serves-it : (c : tie.Else1) → let a = c .before .before .before .before .before .args in refusalOf 16 (a .self) (length (now (a .staging))) (length (now (a .report))) ≡ served
@@ -53,17 +38,17 @@ returns-2 c =
     let p = read (c .before) in
     rw (serves-it (c .before .before))
     (c .on-packet .ensures
-    ∙ ap (servedWith d (d .parts)) (read-packet (d .platform) (d .count) (d .parts) (sessionOf d) (c .before .read-offer-packet .result) (ap (λ (t : Told Kind). t .row) p))
+    ∙ ap (servedWith d (d .components)) (read-packet (d .platform) (d .count) (d .components) (sessionOf d) (c .before .read-offer-packet .result) (ap (λ (t : Told Kind). t .row) p))
     ∙ ap (λ (t : Told Kind). onKind d (t .value)) p)
 
 pub offer-spec : {M : Type 1} → statement M
 offer-spec =
     tie.close
     (tie.spec
-    refusal-requires
-    is-refused-requires
-    refused-requires
+    (λ c κs. search needs)
+    (λ c κs. search needs)
+    (λ c κs. search needs)
     returns
-    read-offer-packet-requires
-    on-packet-requires
+    (λ c κs. search needs)
+    (λ c κs. search needs)
     returns-2)

@@ -4,24 +4,6 @@ use borrow.Author.Needs.{needs}
 use Rattle.device.proofs.record.Device.on_packet.Statement.{statement}
 use Rattle.device.proofs.record.Device.on_packet.Tie as tie
 
-id-of-requires : tie.Need-id-of-requires
-id-of-requires c κs = search needs
-
-standing-of-requires : tie.Need-standing-of-requires
-standing-of-requires c κs = search needs
-
-need-of-requires : tie.Need-need-of-requires
-need-of-requires c κs = search needs
-
-standing-of-requires-2 : tie.Need-standing-of-requires-2
-standing-of-requires-2 c κs = search needs
-
-on-packet-requires : tie.Need-on-packet-requires
-on-packet-requires c κs = search needs
-
-served-requires : tie.Need-served-requires
-served-requires c κs = search needs
-
 returns : tie.Need-returns
 returns c =
     c .served .ensures
@@ -37,10 +19,10 @@ pub on-packet-spec : {M : Type 1} → statement M
 on-packet-spec =
     tie.close
     (tie.spec
-    id-of-requires
-    standing-of-requires
-    need-of-requires
-    standing-of-requires-2
-    on-packet-requires
-    served-requires
+    (λ c κs. search needs)
+    (λ c κs. search needs)
+    (λ c κs. search needs)
+    (λ c κs. search needs)
+    (λ c κs. search needs)
+    (λ c κs. search needs)
     returns)

@@ -7,15 +7,9 @@ use borrow.Author.Needs.{needs}
 use Rattle.device.proofs.record.Device.refusal.Statement.{statement}
 use Rattle.device.proofs.record.Device.refusal.Tie as tie
 
-breaks-d1-requires : tie.Need-breaks-d1-requires
-breaks-d1-requires c κs = search needs
-
 returns : tie.Need-returns
 unfolding refusalOf firstOf
 returns c = rw (by (c .before .breaks-d1 .ensures) (c .if1 .taken))
-
-cast-if2 : tie.Need-cast-if2
-cast-if2 c = search needs
 
 returns-2 : tie.Need-returns-2
 unfolding refusalOf firstOf
@@ -31,4 +25,4 @@ returns-4 c = rw (by (c .before .before .before .before .breaks-d1 .ensures) (c 
 
 pub refusal-spec : {M : Type 1} → statement M
 refusal-spec =
-    tie.close (tie.spec breaks-d1-requires returns cast-if2 returns-2 returns-3 returns-4)
+    tie.close (tie.spec (λ c κs. search needs) returns (λ c. search needs) returns-2 returns-3 returns-4)

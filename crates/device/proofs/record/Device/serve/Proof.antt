@@ -7,24 +7,9 @@ use Rattle.device.proofs.record.Device.serve.Tie as tie
 enum-told : tie.Need-enum-told
 enum-told c = search needs
 
-offer-requires : tie.Need-offer-requires
-offer-requires c κs = search needs
-
-enum-told-2 : tie.Need-enum-told-2
-enum-told-2 c = search needs
-
-content-requires : tie.Need-content-requires
-content-requires c κs = search needs
-
-same-length : tie.Need-same-length
-same-length c = search needs
-
 returns : tie.Need-returns
 unfolding serveEntry serveStaging
 returns c = (rw (c .before .before .enum-told .given .1) (c .offer .ensures), rw (c .before .before .enum-told .given .1))
-
-same-length-2 : tie.Need-same-length-2
-same-length-2 c = search needs
 
 returns-2 : tie.Need-returns-2
 unfolding serveEntry serveStaging
@@ -35,10 +20,10 @@ serve-spec =
     tie.close
     (tie.spec
     enum-told
-    offer-requires
-    enum-told-2
-    content-requires
-    same-length
+    (λ c κs. search needs)
+    (λ c. search needs)
+    (λ c κs. search needs)
+    (λ c. search needs)
     returns
-    same-length-2
+    (λ c. search needs)
     returns-2)

@@ -3,11 +3,8 @@ use borrow.Author.Needs.{needs}
 use Rattle.device.proofs.record.Device.served.Statement.{statement}
 use Rattle.device.proofs.record.Device.served.Tie as tie
 
-with-session-requires : tie.Need-with-session-requires
-with-session-requires c κs = search needs
-
 returns : tie.Need-returns
 returns c = rw (c .with-session .ensures)
 
 pub served-spec : {M : Type 1} → statement M
-served-spec = tie.close (tie.spec with-session-requires returns)
+served-spec = tie.close (tie.spec (λ c κs. search needs) returns)

@@ -4,26 +4,17 @@ use mathlib.Core.List.{List}
 use Prim.Native.Nat.{ℕ}
 use borrow.Author.Tests.{le-leb}
 use Rattle.wire.specs.Rows.{Told}
-use Rattle.versions.specs.Reply.{buildOf}
+use Rattle.wire_version.specs.Reply.{buildOf}
 use Rattle.device.specs.Entries.{versionEntry}
 use Rattle.wire.proofs.Chain.{by}
-use Rattle.session.proofs.sound.Laws.{passes, count-most}
+use Rattle.device_session.proofs.sound.Laws.{passes, count-most}
 use borrow.Author.Needs.{needs}
 use Rattle.device.proofs.record.Device.version_reply.Statement.{statement}
 use Rattle.device.proofs.record.Device.version_reply.Tie as tie
 
-breaks-d1-requires : tie.Need-breaks-d1-requires
-breaks-d1-requires c κs = search needs
-
 returns : tie.Need-returns
 unfolding versionEntry
 returns c = rw (by (c .before .breaks-d1 .ensures) (c .if1 .taken))
-
-all-running-requires : tie.Need-all-running-requires
-all-running-requires c κs = search needs
-
-build-version-reply-requires : tie.Need-build-version-reply-requires
-build-version-reply-requires c κs = search needs
 
 returns-2 : tie.Need-returns-2
 unfolding versionEntry buildOf
@@ -38,8 +29,8 @@ pub version-reply-spec : {M : Type 1} → statement M
 version-reply-spec =
     tie.close
     (tie.spec
-    breaks-d1-requires
+    (λ c κs. search needs)
     returns
-    all-running-requires
-    build-version-reply-requires
+    (λ c κs. search needs)
+    (λ c κs. search needs)
     returns-2)

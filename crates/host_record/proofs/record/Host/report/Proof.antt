@@ -4,12 +4,9 @@ use borrow.Author.Needs.{needs}
 use Rattle.host_record.proofs.record.Host.report.Statement.{statement}
 use Rattle.host_record.proofs.record.Host.report.Tie as tie
 
-progress-requires : tie.Need-progress-requires
-progress-requires c κs = search needs
-
 returns : tie.Need-returns
 unfolding reportOf
 returns c = rw (c .before .progress .ensures)
 
 pub report-spec : {M : Type 1} → statement M
-report-spec = tie.close (tie.spec progress-requires returns)
+report-spec = tie.close (tie.spec (λ c κs. search needs) returns)

@@ -11,27 +11,6 @@ use borrow.Author.Needs.{needs}
 use Rattle.image.proofs.region.Region.erase.Statement.{statement}
 use Rattle.image.proofs.region.Region.erase.Tie as tie
 
-cast-base : tie.Need-cast-base
-cast-base c = search needs
-
-cast-end : tie.Need-cast-end
-cast-end c = search needs
-
-cast-end-2 : tie.Need-cast-end-2
-cast-end-2 c = search needs
-
-add-end : tie.Need-add-end
-add-end c = search needs
-
-is-inside-requires : tie.Need-is-inside-requires
-is-inside-requires c κs = search needs
-
-sub-fill : tie.Need-sub-fill
-sub-fill c = search needs
-
-part-fill-start : tie.Need-part-fill-start
-part-fill-start c = search needs
-
 guard : (c : tie.Then1) → isInside (c .before .before .before .before .before .before .args .self) (length (c .before .before .before .before .before .before .args .staging .now)) ≡ true
 guard c = sym (c .before .is-inside .ensures) ∙ c .if1 .taken
 
@@ -39,12 +18,6 @@ part-fill-end : tie.Need-part-fill-end
 part-fill-end c =
     let a = c .before .before .before .before .before .before .args in
     omega (arith, inside (a .self) (length (a .staging .now)) (guard c))
-
-fill-requires : tie.Need-fill-requires
-fill-requires c κs = search needs
-
-same-length : tie.Need-same-length
-same-length c = search needs
 
 returns : tie.Need-returns
 unfolding regionBytes
@@ -64,15 +37,15 @@ pub erase-spec : {M : Type 1} → statement M
 erase-spec =
     tie.close
     (tie.spec
-    cast-base
-    cast-end
-    cast-end-2
-    add-end
-    is-inside-requires
-    sub-fill
-    part-fill-start
+    (λ c. search needs)
+    (λ c. search needs)
+    (λ c. search needs)
+    (λ c. search needs)
+    (λ c κs. search needs)
+    (λ c. search needs)
+    (λ c. search needs)
     part-fill-end
-    fill-requires
-    same-length
+    (λ c κs. search needs)
+    (λ c. search needs)
     returns
     returns-2)

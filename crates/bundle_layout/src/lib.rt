@@ -1,0 +1,58 @@
+// The bundle's layout: its limits, its parts and their rows, and what the check answers (document 01, "The bundle" and "Numbered refusals").
+ghost use mathlib.Core.Path.{_≡_};
+ghost use Rattle.bundle_layout.specs.Rows.{numberOf};
+use wire_offer::offer::OfferFields;
+
+pub mod limits; // limits.rt: the largest bundle, the most offers, the lengths of its parts
+mod bytes; // bytes.rt: a byte of a bundle
+pub mod head; // head.rt: rows B1 to B4
+pub mod parts; // parts.rt: the parts of an entry, row B5 of an entry
+pub mod blank; // blank.rt: no entry, and a refusal
+
+// What the check says of a bundle (document 01, "Numbered refusals").
+pub enum BundleVerdict {
+    Fine,
+    B1,
+    B2,
+    B3,
+    B4,
+    B5,
+    B6,
+    B7,
+    B8,
+}
+
+// An offer of the bundle with its body.
+pub struct Entry {
+    pub offer: OfferFields,
+    // Where the body starts, and how long it is.
+    pub offset: u32,
+    pub length: u32,
+    // How many records the body has.
+    pub records: u32,
+}
+
+// What the check answers: the verdict with the entry that it names (from 1, or 0), and the contents, which are zero where a row refuses.
+pub struct Checked {
+    pub verdict: BundleVerdict,
+    pub place: u8,
+    pub count: u8,
+    pub table: [Entry; 7],
+}
+
+// The number of the row that refuses, 0 for none.
+pub fn row_number(verdict: BundleVerdict) -> u8
+    ensures { λ r. ⌜ r ≡ numberOf verdict ⌝ }
+{
+    match verdict {
+        BundleVerdict::Fine => 0,
+        BundleVerdict::B1 => 1,
+        BundleVerdict::B2 => 2,
+        BundleVerdict::B3 => 3,
+        BundleVerdict::B4 => 4,
+        BundleVerdict::B5 => 5,
+        BundleVerdict::B6 => 6,
+        BundleVerdict::B7 => 7,
+        BundleVerdict::B8 => 8,
+    }
+}

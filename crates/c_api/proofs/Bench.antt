@@ -1,0 +1,51 @@
+-- The bench device as C sees it, computed. Assumes nothing.
+use mathlib.Core.Path.{refl}
+use mathlib.Core.List.{flatten}
+use Rattle.wire.specs.Bytes.{same}
+use Rattle.wire.specs.Checks.{firstOf, any, pairs}
+use Rattle.wire_offer.specs.Offer.{offerBytes, fieldsIn, buildOf}
+use Rattle.wire_offer.specs.Kind.{kindIn, readOf}
+use Rattle.wire_version.specs.Reply.{flat, replyBytes}
+use Rattle.image.specs.Region.{within, blank, put, eraseOf, writeOf}
+use Rattle.device_component.specs.Lists.{firstFrom, find}
+use Rattle.device_component.specs.Setup.{badIds, badRegions, setupVerdict}
+use Rattle.device_session.specs.Sound.{breaksD1}
+use Rattle.device_offering.specs.Offer.{rejections, needUnmet, offerVerdict, onOffer}
+use Rattle.device_receiving.specs.Content.{contentVerdict, takeBlock}
+use Rattle.device_receiving.specs.Receive.{onBlock}
+use Rattle.device.specs.Refusals.{refusalOf}
+use Rattle.device.specs.Offer.{offerEntry}
+use Rattle.device.specs.Content.{contentEntry}
+use Rattle.device.specs.Entries.{setUpOf, versionEntry}
+use Rattle.device_bytes.specs.Layout.{componentsBytes, deviceBytes, componentsIn, deviceIn, readDevice, listIn}
+use Rattle.bundle_layout.specs.Rows.{bundleRow}
+use Rattle.bundle.specs.Contents.{checkOf}
+use Rattle.host.specs.Inner.{innerOf}
+use Rattle.host_bytes.specs.Layout.{hostBytes, hostIn, readHost, bodiesBytes, contentsBytes, contentsIn}
+use Rattle.c_device.specs.Device.{setUpCall, versionsCall, offerCall, contentCall}
+use Rattle.c_host.specs.Host.{checkCall, stepCheckedCall, stepCheckedContents}
+use Rattle.c_build.specs.Build.{buildOfferCall}
+use Rattle.c_read.specs.Read.{readOfferCall}
+use Rattle.c_api.specs.Bench.{CallsHold}
+use Rattle.c_api.proofs.Packets.{packets-hold}
+
+pub calls-hold : CallsHold
+unfolding flatten same firstOf any pairs offerBytes fieldsIn buildOf kindIn readOf flat replyBytes within blank put eraseOf writeOf firstFrom find badIds badRegions setupVerdict breaksD1 refusalOf rejections needUnmet offerVerdict onOffer offerEntry contentVerdict takeBlock onBlock contentEntry setUpOf versionEntry componentsBytes deviceBytes componentsIn deviceIn readDevice listIn bundleRow checkOf innerOf hostBytes hostIn readHost bodiesBytes contentsBytes contentsIn setUpCall versionsCall offerCall contentCall checkCall stepCheckedCall stepCheckedContents buildOfferCall readOfferCall
+calls-hold = record {
+  sets-up = refl;
+  versions = refl;
+  accepts = refl;
+  takes = refl;
+  refuses = refl;
+  sending = refl;
+  failed = refl;
+  kept = refl;
+  named = refl;
+  rejects = refl;
+  steps = refl;
+  leaves-contents = refl;
+  unchecked = refl;
+  builds = refl;
+  reads = refl;
+  packets = packets-hold;
+}

@@ -1,0 +1,82 @@
+-- The numbers that cross to C: 0, or a row of document 01 as its letter's code, times 256, and its number; and the rows of this room, C1 to C3.
+use Prim.Native.Nat.{ℕ, _+_, _-_}
+use mathlib.Core.Bool.{cond}
+use mathlib.Core.List.{List, _++_}
+use lib.Dec.{eqb}
+use lib.ListN.{length, replicate}
+use Rattle.wire.specs.Rows as wire
+use Rattle.device_component.specs.Setup as setup
+use Rattle.device.specs.Refusals as device
+use Rattle.bundle_layout.specs.Rows as bundle
+use Rattle.host_packet.specs.Answer as host
+use Rattle.host_record.specs.Record.{Ending, done, H1, H2, H3, H4}
+use Rattle.host_record.specs.Record.{running}
+
+-- no refusal
+abbrev pub SERVED : ℕ
+SERVED = 0
+
+-- C1: a record is not of its size, or contents are of a form that no check leaves
+abbrev pub WRONG-RECORD : ℕ
+WRONG-RECORD = 0x4301
+
+-- C2: a list or a block of data that is read is not of its size
+abbrev pub WRONG-LIST : ℕ
+WRONG-LIST = 0x4302
+
+-- C3: a buffer for what comes out is not of its size
+abbrev pub WRONG-OUTPUT : ℕ
+WRONG-OUTPUT = 0x4303
+
+-- rows P, S, D, B and N
+abbrev pub packetNumber : wire.Row → ℕ
+packetNumber wire.served = SERVED
+packetNumber (wire.P k) = 0x5000 + k
+
+abbrev pub setupNumber : setup.Row → ℕ
+setupNumber setup.served = SERVED
+setupNumber (setup.S k) = 0x5300 + k
+
+abbrev pub deviceNumber : device.Row → ℕ
+deviceNumber device.served = SERVED
+deviceNumber (device.D k) = 0x4400 + k
+
+abbrev pub bundleNumber : bundle.Row → ℕ
+bundleNumber bundle.served = SERVED
+bundleNumber (bundle.B k entry) = 0x4200 + k
+
+abbrev pub stepNumber : host.Row → ℕ
+stepNumber host.served = SERVED
+stepNumber (host.B k entry) = 0x4200 + k
+stepNumber (host.N k) = 0x4E00 + k
+
+-- the entry that a row names, or 0
+abbrev pub stepEntry : host.Row → ℕ
+stepEntry host.served = 0
+stepEntry (host.B k entry) = entry
+stepEntry (host.N k) = 0
+
+-- how far a host is: 0 running, 1 done, or the end's row
+abbrev pub endingNumber : Ending → ℕ
+endingNumber running = 0
+endingNumber done = 1
+endingNumber (H1 status) = 0x4801
+endingNumber H2 = 0x4802
+endingNumber H3 = 0x4803
+endingNumber H4 = 0x4804
+
+abbrev pub endingStatus : Ending → ℕ
+endingStatus running = 0
+endingStatus done = 0
+endingStatus (H1 status) = status
+endingStatus H2 = 0
+endingStatus H3 = 0
+endingStatus H4 = 0
+
+-- an answer that stands only where a lent buffer has its size
+abbrev pub sized : {A : Type 0} → (buffer : List ℕ) → (size : ℕ) → (wrong right : A) → A
+sized buffer size wrong right = cond (eqb (length buffer) size) right wrong
+
+-- bytes, and zeros up to n
+abbrev pub filledTo : (n : ℕ) → List ℕ → List ℕ
+filledTo n bytes = bytes ++ replicate (n - length bytes) 0

@@ -1,0 +1,41 @@
+-- The rules over the list as the code names them, so that one loop serves them all.
+use Prim.Native.Nat.{ℕ}
+use mathlib.Core.Bool.{Bool, not, _||_}
+use mathlib.Core.List.{List}
+use lib.Dec.{eqb}
+use Rattle.wire.specs.Checks.{any, pairs}
+use Rattle.device_component.specs.Setup.{badId, badRegion, overlap}
+use Rattle.device_component.specs.Versions.{keepsStaged}
+use Rattle.device_component.specs.declared.record.Component.{Component}
+use Rattle.device_component.specs.declared.rule.Rule.{Rule}
+use Rattle.device_component.specs.declared.rule.Rule.the-variants.{BadId, SameId, BadRegion, Overlaps}
+use Rattle.device_component.specs.declared.rule.Pair.{Pair}
+use Rattle.device_component.specs.declared.rule.Pair.the-variants as pair
+
+-- D1, of one component and a staging buffer of n bytes: S3, S4, or a staged version below running
+abbrev pub flawed : (n : ℕ) → Component → Bool
+flawed n c = badId (c .id) || (badRegion n (c .region) || not (keepsStaged c (c .staged)))
+
+-- D1, of two: the same id, or regions that overlap
+abbrev pub clash : Component → Component → Bool
+clash c c′ = eqb (c .id) (c′ .id) || overlap (c .region) (c′ .region)
+
+-- D1, of the components in use: one is flawed, or two clash
+unfoldable pub unsound : (n : ℕ) → List Component → Bool
+unsound n cs = any (flawed n) cs || pairs clash cs
+
+-- a rule holds of a component
+abbrev pub ruleHolds : Rule → Component → Bool
+ruleHolds BadId c = badId (c .id)
+ruleHolds (SameId id) c = eqb id (c .id)
+ruleHolds (BadRegion n) c = badRegion n (c .region)
+ruleHolds (Overlaps r) c = overlap r (c .region)
+
+-- what a pair's rule asks of the other, where this is the one
+abbrev pub ruleOf : Pair → Component → Rule
+ruleOf pair.SameId c = SameId (c .id)
+ruleOf pair.Overlap c = Overlaps (c .region)
+
+-- a pair's rule holds of two components
+abbrev pub pairHolds : Pair → Component → Component → Bool
+pairHolds q c c′ = ruleHolds (ruleOf q c) c′

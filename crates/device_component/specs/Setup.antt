@@ -1,0 +1,74 @@
+-- Rows S1 to S4 (document 01, "Numbered refusals"), tried one after another over the whole list.
+use Prim.Native.Nat.{ℕ, _+_}
+use mathlib.Core.Bool.{Bool, _||_, _&&_}
+use mathlib.Core.List.{List, [], _∷_}
+use lib.Dec.{ltb, leb, eqb}
+use lib.ListN.{take}
+use Rattle.wire.specs.Checks.{firstOf, any, pairs}
+use Rattle.image.specs.declared.region.Region.{Region}
+use Rattle.device_component.specs.declared.record.Component.{Component}
+use Rattle.device_component.specs.declared.setup.SetupVerdict.{SetupVerdict}
+use Rattle.device_component.specs.declared.setup.SetupVerdict.the-variants.{Fine, S1, S2, S3, S4}
+
+-- the rows of document 01 that set-up gives out
+pub data Row : Type 0 where
+  served : Row
+  S : ℕ → Row
+
+abbrev pub rowOf : SetupVerdict → Row
+rowOf Fine = served
+rowOf S1 = S 1
+rowOf S2 = S 2
+rowOf S3 = S 3
+rowOf S4 = S 4
+
+-- the largest staging buffer
+abbrev pub STAGING-LIMIT : ℕ
+STAGING-LIMIT = 65536
+
+-- the most components
+abbrev pub COMPONENT-LIMIT : ℕ
+COMPONENT-LIMIT = 7
+
+-- the shortest region
+abbrev pub REGION-LEAST : ℕ
+REGION-LEAST = 8
+
+-- S1: staging over 65,536 bytes
+abbrev pub stagingTooLong : ℕ → Bool
+stagingTooLong n = ltb STAGING-LIMIT n
+
+-- S2: count not 1-7
+abbrev pub badCount : ℕ → Bool
+badCount count = ltb count 1 || ltb COMPONENT-LIMIT count
+
+-- S3: an id outside 1-0xDF
+abbrev pub badId : ℕ → Bool
+badId id = ltb id 1 || ltb 0xDF id
+
+-- S3: .. or repeated
+unfoldable pub badIds : List Component → Bool
+badIds cs = any (λ c. badId (c .id)) cs || pairs (λ c c′. eqb (c .id) (c′ .id)) cs
+
+-- S4: a region under 8 bytes, or past the buffer
+abbrev pub badRegion : ℕ → Region → Bool
+badRegion n r = ltb (r .len) REGION-LEAST || ltb n (r .base .0 + r .len)
+
+-- S4: two regions overlap
+abbrev pub overlap : Region → Region → Bool
+overlap r r′ = ltb (r .base .0) (r′ .base .0 + r′ .len) && ltb (r′ .base .0) (r .base .0 + r .len)
+
+-- S4: .. or overlapping another
+unfoldable pub badRegions : ℕ → List Component → Bool
+badRegions n cs = any (λ c. badRegion n (c .region)) cs || pairs (λ c c′. overlap (c .region) (c′ .region)) cs
+
+-- the rows, for a staging buffer of n bytes and the first `count` of the list
+unfoldable pub setupVerdict : (n count : ℕ) → List Component → SetupVerdict
+setupVerdict n count components =
+    firstOf (
+    (stagingTooLong n, S1)
+    ∷ (badCount count, S2)
+    ∷ (badIds (take count components), S3)
+    ∷ (badRegions n (take count components), S4)
+    ∷ [])
+    Fine

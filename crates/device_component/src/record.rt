@@ -1,0 +1,90 @@
+// The record of a component (document 01, "The device").
+use image::region::Region;
+use wire::version::Version;
+ghost use mathlib.Core.Path.{_≡_};
+ghost use Rattle.device_component.specs.Record.{isPending, effective as effectiveOf, listed as listedAs, withStaged, afterReset};
+
+pub enum Staged {
+    Nothing,
+    // A staged version makes the component pending.
+    Pending(Version),
+}
+
+pub struct Component {
+    pub id: u8,
+    pub running: Version,
+    pub region: Region,
+    pub staged: Staged,
+}
+
+// A component as set-up is told of it.
+pub struct Listed {
+    pub id: u8,
+    pub running: Version,
+    pub region: Region,
+}
+
+impl Component {
+    // As set-up makes it: nothing is staged.
+    pub fn listed(l: Listed) -> Self
+        ensures { λ r. ⌜ r ≡ listedAs l ⌝ }
+    {
+        let running = l.running;
+        let region = l.region;
+        Component {
+            id: l.id,
+            running,
+            region,
+            staged: Staged::Nothing,
+        }
+    }
+
+    // Pending with this version.
+    pub fn with_staged(self, v: Version) -> Self
+        ensures { λ r. ⌜ r ≡ withStaged self v ⌝ }
+    {
+        let running = self.running;
+        let region = self.region;
+        Component {
+            id: self.id,
+            running,
+            region,
+            staged: Staged::Pending(v),
+        }
+    }
+
+    // The effective version runs, and nothing is staged.
+    pub fn after_reset(self) -> Self
+        ensures { λ r. ⌜ r ≡ afterReset self ⌝ }
+    {
+        let running = self.effective();
+        let region = self.region;
+        Component {
+            id: self.id,
+            running,
+            region,
+            staged: Staged::Nothing,
+        }
+    }
+
+    pub fn is_pending(self) -> bool
+        ensures { λ r. ⌜ r ≡ isPending (self .staged) ⌝ }
+    {
+        let staged = self.staged;
+        match staged {
+            Staged::Nothing => false,
+            Staged::Pending(_) => true,
+        }
+    }
+
+    // Staged if pending, else running.
+    pub fn effective(self) -> Version
+        ensures { λ r. ⌜ r ≡ effectiveOf (self .running) (self .staged) ⌝ }
+    {
+        let staged = self.staged;
+        match staged {
+            Staged::Nothing => self.running,
+            Staged::Pending(v) => v,
+        }
+    }
+}

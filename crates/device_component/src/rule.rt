@@ -1,0 +1,135 @@
+// The rules on a component: the three on its versions, and those over the list, which are values, so that one loop serves them all.
+use crate::record::Component;
+use crate::record::Staged;
+use crate::setup::REGION_LEAST;
+use image::region::Region;
+use wire::version::Version;
+ghost use mathlib.Core.Path.{_≡_};
+ghost use Rattle.device_component.specs.Versions.{offerVersion, imageVersionFits, stagedVersionFits, keepsStaged};
+ghost use Rattle.device_component.specs.Rules.{flawed as isFlawed, clash as clashes, ruleHolds, ruleOf};
+ghost use Rattle.device_component.specs.Setup.{badId, badRegion, overlap};
+
+// What the rule on an offered version says.
+pub enum VersionVerdict {
+    Fits,
+    Old,
+}
+
+impl Component {
+    // Offer check 7: a version that is not greater than running is old.
+    pub fn offer_version(self, v: Version) -> VersionVerdict
+        ensures { λ r. ⌜ r ≡ offerVersion self v ⌝ }
+    {
+        let running = self.running;
+        if v.number() <= running.number() {
+            VersionVerdict::Old
+        } else {
+            VersionVerdict::Fits
+        }
+    }
+
+    // Image judgement: not below running.
+    pub fn image_version_fits(self, v: Version) -> bool
+        ensures { λ r. ⌜ r ≡ imageVersionFits self v ⌝ }
+    {
+        let running = self.running;
+        running.number() <= v.number()
+    }
+
+    // D1: not below running.
+    fn staged_version_fits(self, staged: Version) -> bool
+        ensures { λ r. ⌜ r ≡ stagedVersionFits self staged ⌝ }
+    {
+        let running = self.running;
+        running.number() <= staged.number()
+    }
+
+    // What is staged keeps that rule.
+    pub fn keeps_staged(self) -> bool
+        ensures { λ r. ⌜ r ≡ keepsStaged self (self .staged) ⌝ }
+    {
+        let staged = self.staged;
+        match staged {
+            Staged::Nothing => true,
+            Staged::Pending(v) => self.staged_version_fits(v),
+        }
+    }
+}
+
+// What is asked of a component.
+pub enum Rule {
+    // S3: its id lies outside 1-0xDF.
+    BadId,
+    // Its id is this one.
+    SameId(u8),
+    // S4: its region is under 8 bytes, or past a buffer of so many.
+    BadRegion(usize),
+    // S4: its region overlaps this one.
+    Overlaps(Region),
+}
+
+// What is asked of two components.
+pub enum Pair {
+    SameId,
+    Overlap,
+}
+
+fn bad_id(id: u8) -> bool
+    ensures { λ r. ⌜ r ≡ badId id ⌝ }
+{
+    (id < 1) | (0xDF < id)
+}
+
+fn bad_region(n: usize, r: Region) -> bool
+    ensures { λ x. ⌜ x ≡ badRegion n r ⌝ }
+{
+    (r.len < REGION_LEAST) | ((n as u64) < (r.base.number() as u64) + (r.len as u64))
+}
+
+fn overlaps(r: Region, other: Region) -> bool
+    ensures { λ x. ⌜ x ≡ overlap r other ⌝ }
+{
+    let base = r.base.number() as u64;
+    let next = other.base.number() as u64;
+    (base < next + (other.len as u64)) & (next < base + (r.len as u64))
+}
+
+// D1, of one component: S3, S4 for a buffer of so many bytes, or its staged version is below running.
+pub fn flawed(n: usize, c: Component) -> bool
+    ensures { λ r. ⌜ r ≡ isFlawed n c ⌝ }
+{
+    let region = c.region;
+    bad_id(c.id) | (bad_region(n, region) | !c.keeps_staged())
+}
+
+// D1, of two: the same id, or regions that overlap.
+pub fn clash(c: Component, other: Component) -> bool
+    ensures { λ r. ⌜ r ≡ clashes c other ⌝ }
+{
+    let region = c.region;
+    let next = other.region;
+    (c.id == other.id) | overlaps(region, next)
+}
+
+pub fn applies(rule: Rule, c: Component) -> bool
+    ensures { λ r. ⌜ r ≡ ruleHolds rule c ⌝ }
+{
+    let region = c.region;
+    match rule {
+        Rule::BadId => bad_id(c.id),
+        Rule::SameId(id) => id == c.id,
+        Rule::BadRegion(n) => bad_region(n, region),
+        Rule::Overlaps(r) => overlaps(r, region),
+    }
+}
+
+// What a pair's rule asks of the other, where this is the one.
+pub fn rule_of(pair: Pair, c: Component) -> Rule
+    ensures { λ r. ⌜ r ≡ ruleOf pair c ⌝ }
+{
+    let region = c.region;
+    match pair {
+        Pair::SameId => Rule::SameId(c.id),
+        Pair::Overlap => Rule::Overlaps(region),
+    }
+}

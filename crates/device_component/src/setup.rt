@@ -1,0 +1,69 @@
+// What set-up says of a list of components and a staging length (document 01, "Numbered refusals").
+use crate::list::some;
+use crate::list::some_two;
+use crate::record::Component;
+use crate::rule::Pair;
+use crate::rule::Rule;
+ghost use mathlib.Core.Path.{_≡_};
+ghost use lib.ListN.{take};
+ghost use Rattle.device_component.specs.Setup.{stagingTooLong, badCount, badIds, badRegions, setupVerdict};
+
+// The largest staging buffer.
+pub const STAGING_LIMIT: u32 = 65536;
+
+// The most components.
+pub const COMPONENT_LIMIT: u8 = 7;
+
+// The shortest region.
+pub const REGION_LEAST: u32 = 8;
+
+pub enum SetupVerdict {
+    Fine,
+    S1,
+    S2,
+    S3,
+    S4,
+}
+
+pub fn staging_too_long(n: usize) -> bool
+    ensures { λ r. ⌜ r ≡ stagingTooLong n ⌝ }
+{
+    (STAGING_LIMIT as usize) < n
+}
+
+pub fn bad_count(count: u8) -> bool
+    ensures { λ r. ⌜ r ≡ badCount count ⌝ }
+{
+    (count < 1) | (COMPONENT_LIMIT < count)
+}
+
+fn bad_ids(components: [Component; 7], count: u8) -> bool
+    ensures { λ r. ⌜ r ≡ badIds (take count components) ⌝ }
+{
+    some(Rule::BadId, components, 0, count) | some_two(Pair::SameId, components, count)
+}
+
+fn bad_regions(n: usize, components: [Component; 7], count: u8) -> bool
+    ensures { λ r. ⌜ r ≡ badRegions n (take count components) ⌝ }
+{
+    some(Rule::BadRegion(n), components, 0, count) | some_two(Pair::Overlap, components, count)
+}
+
+// S1 to S4, row after row, each over the whole list.
+pub fn setup_verdict(n: usize, count: u8, components: [Component; 7]) -> SetupVerdict
+    ensures { λ r. ⌜ r ≡ setupVerdict n count components ⌝ }
+{
+    if staging_too_long(n) {
+        return SetupVerdict::S1;
+    }
+    if bad_count(count) {
+        return SetupVerdict::S2;
+    }
+    if bad_ids(components, count) {
+        return SetupVerdict::S3;
+    }
+    if bad_regions(n, components, count) {
+        return SetupVerdict::S4;
+    }
+    SetupVerdict::Fine
+}

@@ -1,0 +1,55 @@
+// The content entry in place (document 01, "The device").
+use crate::Reply;
+use crate::fields::component_at;
+use crate::fields::session_in;
+use crate::fields::store_component;
+use crate::fields::store_session;
+use crate::refused;
+use crate::served;
+use crate::sound::refusal_in;
+use device_receiving::content;
+use device_slots::slot::slot_of;
+use wire_content::head::read_head;
+ghost use mathlib.Core.Path.{_≡_};
+ghost use mathlib.Core.Bool.{true};
+ghost use lib.ListN.{length, drop};
+ghost use Rattle.wire.specs.Bytes.{same};
+ghost use Rattle.wire_content.specs.Head.{headIn};
+ghost use Rattle.device_receiving.specs.Receive.{stagingAfter};
+ghost use Rattle.device.specs.Content.{sessionComponent, contentEntry, contentStaging};
+ghost use Rattle.device_bytes.specs.Layout.{DEVICE-SIZE, deviceBytes, deviceIn, readDevice};
+ghost use Rattle.device_in_place.specs.InPlace.{outcomeOf, leftBy, contentBy};
+
+// A packet that no row refuses.
+fn on_content(bytes: &mut [u8], staging: &mut [u8], report: &[u8]) -> Reply
+    requires { ⌜ (length (now bytes) ≡ DEVICE-SIZE) × (same (deviceBytes (deviceIn (now bytes))) (now bytes) ≡ true) × (length (now report) ≡ 60) ⌝ }
+    ensures { λ r. ⌜ (outcomeOf r (contentBy (now (bytes .entry)) (now (staging .entry)) (now (report .entry)) .device) ≡ contentBy (now (bytes .entry)) (now (staging .entry)) (now (report .entry)))
+        × (now (bytes .exit) ≡ deviceBytes (contentBy (now (bytes .entry)) (now (staging .entry)) (now (report .entry)) .device))
+        × (now (staging .exit) ≡ stagingAfter (sessionComponent (deviceIn (now (bytes .entry))) .region) (deviceIn (now (bytes .entry)) .stage) (headIn (now (report .entry))) (drop 8 (now (report .entry))) (now (staging .entry))) ⌝ }
+{
+    let session = session_in(bytes);
+    let stage = session.stage;
+    let slot = slot_of(stage.open_slot());
+    let component = component_at(bytes, slot);
+    let head = read_head(report);
+    let taken = content::on_content(component, session, head, &report[8..], staging);
+    let effect = taken.effect;
+    let after = taken.component;
+    let next = effect.session;
+    store_session(bytes, next);
+    store_component(bytes, slot, after);
+    served(effect)
+}
+
+// What the by-value entry answers, with the record and the staging buffer left as it leaves them; where a row refuses, the record's bytes stay.
+pub fn content_in_place(bytes: &mut [u8], staging: &mut [u8], report: &[u8]) -> Reply
+    ensures { λ r. ⌜ (outcomeOf r (contentEntry (readDevice (now (bytes .entry))) (now (staging .entry)) (now (report .entry)) .device) ≡ contentEntry (readDevice (now (bytes .entry))) (now (staging .entry)) (now (report .entry)))
+        × (now (bytes .exit) ≡ leftBy (now (bytes .entry)) (contentEntry (readDevice (now (bytes .entry))) (now (staging .entry)) (now (report .entry))))
+        × (now (staging .exit) ≡ contentStaging (readDevice (now (bytes .entry))) (now (staging .entry)) (now (report .entry))) ⌝ }
+{
+    let refusal = refusal_in(bytes, 60, staging.len(), report.len());
+    if refusal.is_refused() {
+        return refused(refusal);
+    }
+    on_content(bytes, staging, report)
+}

@@ -1,0 +1,61 @@
+-- What an eligible offer is, from checks 2 to 7 and back. Assumes nothing.
+use Prim.Native.Nat.{ℕ}
+use mathlib.Core.Path.{_≡_, refl, sym, _∙_}
+use mathlib.Core.Bool.{Bool, true, false, not, true≢false}
+use borrow.Author.Tests.{eqb-true, eq-eqb}
+use lib.Dec.{eqb}
+use Rattle.wire.proofs.Chain.{quiet, none-applies}
+use Rattle.device_component.specs.Record.{isPending}
+use Rattle.device_component.specs.declared.record.Staged.{Staged}
+use Rattle.device_component.specs.declared.record.Staged.the-variants as staged
+use Rattle.device_component.specs.declared.rule.VersionVerdict.{VersionVerdict}
+use Rattle.device_component.specs.declared.rule.VersionVerdict.the-variants.{Fits, Old}
+use Rattle.device_component.specs.declared.list.Found.{Found}
+use Rattle.device_component.specs.declared.list.Found.the-variants as found
+use Rattle.device_slots.specs.Slots.{slotOf, isAbsent}
+use Rattle.device_offering.specs.Offer.{isOld, rejectionsAt}
+use Rattle.device_offering.specs.Eligible.{Eligible, EligibleIs}
+
+-- numbers that are not told apart are equal
+equal : (m n : ℕ) → not (eqb m n) ≡ false → m ≡ n
+equal m n h = go (eqb m n) refl h
+  where
+    go : (t : Bool) → eqb m n ≡ t → not t ≡ false → m ≡ n
+    go true e z = eqb-true m n e
+    go false e z = absurd (true≢false z)
+
+-- what was found stands in its slot
+there : (f : Found) → isAbsent f ≡ false → f ≡ found.At (slotOf f)
+there found.Nothing e = absurd (true≢false e)
+there (found.At k) e = refl
+
+-- what is not pending has nothing staged
+none-staged : (x : Staged) → isPending x ≡ false → x ≡ staged.Nothing
+none-staged staged.Nothing h = refl
+none-staged (staged.Pending v) h = absurd (true≢false h)
+
+-- what is not old fits
+not-old : (x : VersionVerdict) → isOld x ≡ false → x ≡ Fits
+not-old Fits h = refl
+not-old Old h = absurd (true≢false h)
+
+-- an offer is eligible exactly where none of checks 2 to 7 rejects it
+pub eligible-is : EligibleIs
+eligible-is platform target o = (
+  (λ h.
+      let q = quiet (rejectionsAt platform target o) h in
+      record {
+        protocol = equal _ _ (q .0);
+        slot = slotOf (target .at);
+        listed = there (target .at) (q .1 .0);
+        here = equal _ _ (q .1 .1 .0);
+        segment = equal _ _ (q .1 .1 .1 .0);
+        free = none-staged _ (q .1 .1 .1 .1 .0);
+        newer = not-old _ (q .1 .1 .1 .1 .1 .0);
+      }),
+  (λ e.
+      none-applies (rejectionsAt platform target o) (
+        rw (eq-eqb _ _ (e .protocol)) refl,
+        (rw (e .listed) refl, (rw (eq-eqb _ _ (e .here)) refl, (rw (eq-eqb _ _ (e .segment)) refl, (rw (e .free) refl, (rw (e .newer) refl, tt))))),
+      )),
+)

@@ -1,0 +1,80 @@
+-- D1 in another order: what is asked of each component, and of each two, is asked in one walk. Assumes nothing.
+use mathlib.Core.Path.{_≡_, refl, sym, _∙_, ap, ap₂}
+use mathlib.Core.Bool.{Bool, true, false, not, _||_, or-comm}
+use mathlib.Core.List.{List, [], _∷_}
+use Prim.Native.Nat.{ℕ}
+use lib.Dec.{eqb}
+use lib.ListN.{take}
+use Rattle.wire.specs.Checks.{firstOf, any, pairs}
+use Rattle.device_component.specs.Versions.{keepsStaged}
+use Rattle.device_component.specs.Setup.{stagingTooLong, badCount, badId, badIds, badRegion, badRegions, overlap, setupVerdict}
+use Rattle.device_component.specs.Rules.{unsound}
+use Rattle.device_component.specs.declared.record.Component.{Component}
+use Rattle.device_component.specs.declared.setup.SetupVerdict.the-variants.{Fine, S1, S2, S3, S4}
+use Rattle.device_session.specs.declared.effect.Session.{Session}
+use Rattle.device_session.specs.Sound.{refusesSetup, opensWrong, owesIdle, breaksD1}
+
+-- two tests of each member, one after the other
+exchange : (a b x y : Bool) → ((a || b) || (x || y)) ≡ ((a || x) || (b || y))
+exchange true b x y = refl
+exchange false true true y = refl
+exchange false true false y = refl
+exchange false false x y = refl
+
+module _ {A : Type 0} where
+  any-or : (p q : A → Bool) (l : List A) → any (λ x. p x || q x) l ≡ (any p l || any q l)
+  unfolding any
+  any-or p q [] = refl
+  any-or p q (x ∷ l) = rw (any-or p q l) (exchange (p x) (q x) (any p l) (any q l))
+
+  pairs-or : (p q : A → A → Bool) (l : List A) → pairs (λ x y. p x y || q x y) l ≡ (pairs p l || pairs q l)
+  unfolding pairs
+  pairs-or p q [] = refl
+  pairs-or p q (x ∷ l) = rw (any-or (p x) (q x) l, pairs-or p q l) (exchange (any (p x) l) (any (q x) l) (pairs p l) (pairs q l))
+
+-- set-up's rows, as tests
+refuses : (t k x y : Bool) → refusesSetup (firstOf ((t, S1) ∷ (k, S2) ∷ (x, S3) ∷ (y, S4) ∷ []) Fine) ≡ (t || (k || (x || y)))
+unfolding firstOf
+refuses true k x y = refl
+refuses false true x y = refl
+refuses false false true y = refl
+refuses false false false true = refl
+refuses false false false false = refl
+
+-- the tests of each and of each two, in either order
+together : (a d b e s : Bool) → (((a || d) || (b || e)) || s) ≡ ((a || (b || s)) || (d || e))
+together true d b e s = refl
+together false true true e s = refl
+together false true false e true = refl
+together false true false e false = refl
+together false false true e s = refl
+together false false false e s = or-comm e s
+
+-- the last test with the first ones, or after the others
+after : (t k x w o s : Bool) → ((t || (k || x)) || (w || (o || s))) ≡ ((t || k) || (w || (o || (x || s))))
+after true k x w o s = refl
+after false true x w o s = refl
+after false false true true o s = refl
+after false false true false true s = refl
+after false false true false false s = refl
+after false false false w o s = refl
+
+module _ (n : ℕ) where
+  -- flawed components and two that clash: S3, S4 and what is staged
+  unsound-as : (cs : List Component) → ((badIds cs || badRegions n cs) || any (λ c. not (keepsStaged c (c .staged))) cs) ≡ unsound n cs
+  unfolding badIds badRegions unsound
+  unsound-as cs =
+      together (any (λ c. badId (c .id)) cs) (pairs (λ c c′. eqb (c .id) (c′ .id)) cs) (any (λ c. badRegion n (c .region)) cs) (pairs (λ c c′. overlap (c .region) (c′ .region)) cs) (any (λ c. not (keepsStaged c (c .staged))) cs)
+      ∙ sym (ap₂ (λ (a b : Bool). a || b)
+      (any-or (λ c. badId (c .id)) (λ c. badRegion n (c .region) || not (keepsStaged c (c .staged))) cs
+      ∙ ap (λ (b : Bool). any (λ c. badId (c .id)) cs || b) (any-or (λ c. badRegion n (c .region)) (λ c. not (keepsStaged c (c .staged))) cs))
+      (pairs-or (λ c c′. eqb (c .id) (c′ .id)) (λ c c′. overlap (c .region) (c′ .region)) cs))
+
+  -- D1
+  pub grouped : (count : ℕ) (components : List Component) (session : Session) → breaksD1 n count components session
+      ≡ ((stagingTooLong n || badCount count) || (opensWrong count components session || (owesIdle session || unsound n (take count components))))
+  unfolding breaksD1 setupVerdict
+  grouped count components session =
+      rw (refuses (stagingTooLong n) (badCount count) (badIds (take count components)) (badRegions n (take count components)))
+      (after (stagingTooLong n) (badCount count) (badIds (take count components) || badRegions n (take count components)) (opensWrong count components session) (owesIdle session) (any (λ c. not (keepsStaged c (c .staged))) (take count components))
+      ∙ rw (unsound-as (take count components)))

@@ -1,0 +1,31 @@
+-- The session, the one way it becomes idle, and what a packet that no row refuses does to it (document 01, "The device").
+use Prim.Native.Nat.{ℕ}
+use mathlib.Core.Bool.{true, false}
+use mathlib.Core.List.{List}
+use lib.ListN.{replicate}
+use Rattle.device_session.specs.declared.stage.Stage.{Stage}
+use Rattle.device_session.specs.declared.stage.Stage.the-variants.{Idle}
+use Rattle.device_session.specs.declared.owed.Owed.{Owed}
+use Rattle.device_session.specs.declared.owed.Owed.the-variants.{Nothing}
+use Rattle.device_session.specs.declared.effect.Session.{Session}
+use Rattle.device_session.specs.declared.effect.Effect.{Effect}
+
+-- idle and owing nothing: the one way a session becomes idle
+abbrev pub idle : Session
+idle = record { stage = Idle; owed = Nothing }
+
+-- the session in another stage
+abbrev pub inStage : Session → Stage → Session
+inStage session stage = record { stage = stage; owed = session .owed }
+
+-- the session with another ready-reply owed
+abbrev pub owing : Session → Owed → Session
+owing session owed = record { stage = session .stage; owed = owed }
+
+-- one reply, and then the READY that was owed
+abbrev pub answered : List ℕ → Owed → Session → Effect
+answered bytes ready session = record { due = true; reply = bytes; ready = ready; session = session }
+
+-- no reply now
+abbrev pub silent : Session → Effect
+silent session = record { due = false; reply = replicate 16 0; ready = Nothing; session = session }

@@ -1,0 +1,57 @@
+-- Row D1, clause by clause (document 01, "Numbered refusals").
+use Prim.Native.Nat.{ℕ}
+use mathlib.Core.Bool.{Bool, true, false, not, _||_}
+use mathlib.Core.List.{List}
+use lib.Dec.{leb}
+use lib.ListN.{take}
+use Rattle.wire.specs.Checks.{any}
+use Rattle.device_component.specs.Record.{isPending}
+use Rattle.device_component.specs.Lists.{componentAt}
+use Rattle.device_component.specs.Versions.{keepsStaged}
+use Rattle.device_component.specs.Setup.{setupVerdict}
+use Rattle.device_component.specs.declared.record.Component.{Component}
+use Rattle.device_component.specs.declared.list.Found.{Found}
+use Rattle.device_component.specs.declared.list.Found.the-variants as found
+use Rattle.device_component.specs.declared.setup.SetupVerdict.{SetupVerdict}
+use Rattle.device_component.specs.declared.setup.SetupVerdict.the-variants.{Fine, S1, S2, S3, S4}
+use Rattle.device_slots.specs.Slots.{slotOf}
+use Rattle.device_session.specs.declared.owed.Owed.{Owed}
+use Rattle.device_session.specs.declared.effect.Session.{Session}
+use Rattle.device_session.specs.Stage.{openSlot}
+use Rattle.device_session.specs.Owed.{owes}
+
+-- breaks S1 to S4
+abbrev pub refusesSetup : SetupVerdict → Bool
+refusesSetup Fine = false
+refusesSetup S1 = true
+refusesSetup S2 = true
+refusesSetup S3 = true
+refusesSetup S4 = true
+
+abbrev pub breaksSetup : (n count : ℕ) → List Component → Bool
+breaksSetup n count components = refusesSetup (setupVerdict n count components)
+
+-- opens on a slot that is unlisted, or whose component, c, is pending
+abbrev pub wrongSlot : (count : ℕ) → Component → Found → Bool
+wrongSlot count c found.Nothing = false
+wrongSlot count c (found.At k) = leb count k || isPending (c .staged)
+
+abbrev pub opensWrong : (count : ℕ) → List Component → Session → Bool
+opensWrong count components session = wrongSlot count (componentAt components (slotOf (openSlot (session .stage)))) (openSlot (session .stage))
+
+-- owes while idle
+abbrev pub owesOn : Found → Owed → Bool
+owesOn found.Nothing o = owes o
+owesOn (found.At k) o = false
+
+abbrev pub owesIdle : Session → Bool
+owesIdle session = owesOn (openSlot (session .stage)) (session .owed)
+
+-- has a staged version below running
+abbrev pub stagedBelow : (count : ℕ) → List Component → Bool
+stagedBelow count components = any (λ c. not (keepsStaged c (c .staged))) (take count components)
+
+-- D1, for a staging buffer of n bytes; slots at or past the count are never looked at
+unfoldable pub breaksD1 : (n count : ℕ) → List Component → Session → Bool
+breaksD1 n count components session =
+    breaksSetup n count components || (opensWrong count components session || (owesIdle session || stagedBelow count components))

@@ -1,0 +1,59 @@
+// Row D1 (document 01, "Numbered refusals"): what every entry of the device judges first.
+use crate::effect::Session;
+use crate::owed::Owed;
+use device_component::list::Found;
+use device_component::list::some_unsound;
+use device_component::record::Component;
+use device_component::setup::SetupVerdict;
+use device_component::setup::bad_count;
+use device_component::setup::staging_too_long;
+use device_slots::slot::component_at;
+use device_slots::slot::slot_of;
+ghost use mathlib.Core.Path.{_≡_};
+ghost use Rattle.device_session.specs.Sound.{refusesSetup, wrongSlot, owesOn, breaksD1};
+
+// S1 to S4 refuse it.
+pub fn refuses_setup(v: SetupVerdict) -> bool
+    ensures { λ r. ⌜ r ≡ refusesSetup v ⌝ }
+{
+    match v {
+        SetupVerdict::Fine => false,
+        SetupVerdict::S1 => true,
+        SetupVerdict::S2 => true,
+        SetupVerdict::S3 => true,
+        SetupVerdict::S4 => true,
+    }
+}
+
+// A ready-reply is owed while the session is idle.
+pub fn owes_on(at: Found, owed: Owed) -> bool
+    ensures { λ r. ⌜ r ≡ owesOn at owed ⌝ }
+{
+    match at {
+        Found::Nothing => owed.is_owed(),
+        Found::At(_) => false,
+    }
+}
+
+// The slot that the session is open on is unlisted, or its component, which is this one, is pending.
+pub fn wrong_slot(count: u8, component: Component, at: Found) -> bool
+    ensures { λ r. ⌜ r ≡ wrongSlot count component at ⌝ }
+{
+    match at {
+        Found::Nothing => false,
+        Found::At(k) => (count <= k) | component.is_pending(),
+    }
+}
+
+// D1: no entry serves a device with these components, a staging buffer of n bytes and this session.
+pub fn breaks_d1(n: usize, count: u8, components: [Component; 7], session: Session) -> bool
+    ensures { λ r. ⌜ r ≡ breaksD1 n count components session ⌝ }
+{
+    let stage = session.stage;
+    let owed = session.owed;
+    let slot = stage.open_slot();
+    let component = component_at(components, slot_of(slot));
+    (staging_too_long(n) | bad_count(count))
+        | (wrong_slot(count, component, slot)
+            | (owes_on(slot, owed) | some_unsound(n, components, count)))
+}

@@ -1,0 +1,66 @@
+// The components of all slots (document 01, "The device"): as they are listed, after a reset, and in the version reply.
+use crate::slot::blank_component;
+use device_component::list::within_slots;
+use device_component::record::Component;
+use device_component::record::Listed;
+use wire_version::Running;
+ghost use mathlib.Core.Path.{_≡_};
+ghost use mathlib.Core.List.{map};
+ghost use Rattle.device_component.specs.Record.{listed};
+ghost use Rattle.device_slots.specs.Slots.{resetComponents, runningOf};
+
+// The components of a list, nothing staged.
+pub fn components_of(list: [Listed; 7]) -> [Component; 7]
+    ensures { λ r. ⌜ r ≡ map listed list ⌝ }
+{
+    let none = blank_component();
+    let mut components = [none; 7];
+    let mut i: usize = 0;
+    while i < 7 {
+        let l = list[i];
+        components[i] = Component::listed(l);
+        i += 1;
+    }
+    components
+}
+
+// The first `count` after a reset; the others stay.
+pub fn reset_components(mut components: [Component; 7], count: u8) -> [Component; 7]
+    ensures { λ r. ⌜ r ≡ resetComponents count components ⌝ }
+{
+    let n = within_slots(count) as usize;
+    let mut i: usize = 0;
+    while i < n {
+        let component = components[i];
+        components[i] = component.after_reset();
+        i += 1;
+    }
+    components
+}
+
+// A component in the version reply: its running version, with the device's platform.
+fn running(platform: u16, component: Component) -> Running
+    ensures { λ r. ⌜ r ≡ runningOf platform component ⌝ }
+{
+    let version = component.running;
+    Running {
+        version,
+        id: component.id,
+        platform,
+    }
+}
+
+pub fn all_running(platform: u16, components: [Component; 7]) -> [Running; 7]
+    ensures { λ r. ⌜ r ≡ map (runningOf platform) components ⌝ }
+{
+    let first = components[0];
+    let one = running(platform, first);
+    let mut all = [one; 7];
+    let mut i: usize = 0;
+    while i < 7 {
+        let component = components[i];
+        all[i] = running(platform, component);
+        i += 1;
+    }
+    all
+}

@@ -1,0 +1,172 @@
+-- What the host decides on a reply (document 01, "The host"): the table of rows by stage and reply, the ends H1 to H4, the replay rule. No byte of a
+-- bundle is looked at: only how many offers it has, and whether the block in hand is the last of its body.
+use Prim.Native.Nat.{ℕ, _+_}
+use mathlib.Core.Bool.{Bool, true, false, not, cond, _&&_, _||_}
+use mathlib.Core.List.{List}
+use lib.Dec.{ltb, eqb}
+use lib.ListN.{length}
+use Rattle.wire.specs.Codes.{INFO-START-ENTIRE-TRANSACTION, INFO-START-OFFER-LIST, INFO-END-OFFER-LIST, OFFER-SKIP, SUCCESS}
+use Rattle.wire_offer.specs.Reply as offerReply
+use Rattle.wire_content.specs.Reply as contentReply
+use Rattle.host_table.specs.Table.{LIST, OFFER, SEND, NEXT, WAIT, SAME, DECIDE, cell}
+use Rattle.host_record.specs.declared.record.Host.{Host}
+use Rattle.host_record.specs.declared.record.Turn.{Turn}
+use Rattle.host_record.specs.declared.record.Place.{Place}
+use Rattle.host_record.specs.declared.record.HostStage.{HostStage}
+use Rattle.host_record.specs.declared.record.HostStage.the-variants.{Fresh, Opening, Listing, Offering, Waiting, Sending, Closing, Ended}
+use Rattle.host_record.specs.declared.record.End.{End}
+use Rattle.host_record.specs.declared.record.End.the-variants.{Done, Status, Foreign, Unexpected, Busy}
+use Rattle.host_record.specs.Record.{withBit, sequenceOf}
+use Rattle.host_record.specs.Fits.{BUSY-LIMIT, recordBreaks, lastOf}
+use Rattle.host_decide.specs.declared.Action.{Action}
+use Rattle.host_decide.specs.declared.Action.the-variants.{Nothing, Information, Notify, Offer, Block}
+use Rattle.host_decide.specs.declared.Move.{Move}
+use Rattle.host_decide.specs.declared.Decided.{Decided}
+use Rattle.host_decide.specs.declared.Decided.the-variants.{N1, Moves}
+
+-- the record in another stage
+abbrev pub at : Host → HostStage → Host
+at h stage = record {
+  token = h .token;
+  stage = stage;
+  mask = h .mask;
+  packets = h .packets;
+  passes = h .passes;
+  skipped = h .skipped;
+  landed = h .landed;
+}
+
+-- a packet is sent, and its reply awaited
+abbrev pub sends : Host → HostStage → Action → Move
+sends h stage action = record {
+  action = action;
+  host = record {
+    token = h .token;
+    stage = stage;
+    mask = h .mask;
+    packets = h .packets + 1;
+    passes = h .passes;
+    skipped = h .skipped;
+    landed = h .landed;
+  };
+}
+
+-- an end sends nothing
+abbrev pub ends : Host → End → Move
+ends h e = record { action = Nothing; host = at h (Ended e) }
+
+-- code 1 opens a pass
+abbrev pub newPass : Host → Host
+newPass h = record {
+  token = h .token;
+  stage = h .stage;
+  mask = h .mask;
+  packets = h .packets;
+  passes = h .passes + 1;
+  skipped = false;
+  landed = false;
+}
+
+abbrev pub list : Host → Move
+list h = sends (newPass h) Listing (Information INFO-START-OFFER-LIST)
+
+-- the offer of an entry, or code 2 after the last
+abbrev pub offerFrom : (n entry : ℕ) → Host → Move
+offerFrom n entry h =
+    cond (ltb entry n) (sends h (Offering (record { entry = entry; busy = 0 })) (Offer entry)) (sends h Closing (Information INFO-END-OFFER-LIST))
+
+-- this pass had a SKIP
+abbrev pub noted : Host → ℕ → Host
+noted h status = record {
+  token = h .token;
+  stage = h .stage;
+  mask = h .mask;
+  packets = h .packets;
+  passes = h .passes;
+  skipped = h .skipped || eqb status OFFER-SKIP;
+  landed = h .landed;
+}
+
+-- this pass had a completed image, and the entry's bit is set
+abbrev pub completes : Host → ℕ → Host
+completes h entry = record {
+  token = h .token;
+  stage = h .stage;
+  mask = withBit (h .mask) entry;
+  packets = h .packets;
+  passes = h .passes;
+  skipped = h .skipped;
+  landed = true;
+}
+
+-- after code 2: another pass exactly when this one had a SKIP and a completed image and fewer passes than offers have run
+abbrev pub replays : ℕ → Host → Bool
+replays n h = (h .skipped && h .landed) && ltb (h .passes) n
+
+-- what a step code does, with the offer in hand and the status of its reply
+unfoldable pub act : (code n : ℕ) → Turn → (status : ℕ) → Host → Move
+act code n t status h =
+    cond (eqb code LIST) (list h)
+    (cond (eqb code OFFER) (offerFrom n 0 h)
+    (cond (eqb code SEND) (sends h (Sending (record { entry = t .entry; block = 0 })) (Block (record { entry = t .entry; block = 0 })))
+    (cond (eqb code NEXT) (offerFrom n (t .entry + 1) (noted h status))
+    (cond (eqb code WAIT) (cond (ltb (t .busy) BUSY-LIMIT) (sends h (Waiting (record { entry = t .entry; busy = t .busy + 1 })) Notify) (ends h Busy))
+    (cond (eqb code SAME) (sends h (Offering t) (Offer (t .entry)))
+    (cond (eqb code DECIDE) (cond (replays n h) (list h) (ends h Done))
+    (ends h Unexpected)))))))
+
+-- no offer in hand
+abbrev pub noTurn : Turn
+noTurn = record { entry = 0; busy = 0 }
+
+-- H2 for a reply of the offer kinds: not 16 bytes, or not our token
+abbrev pub foreignOffer : Host → List ℕ → Bool
+foreignOffer h reply = not (eqb (length reply) 16) || not (eqb (offerReply.replyIn reply .token) (h .token))
+
+-- on a reply of the offer kinds: H2 first, then the table
+unfoldable pub hears : (row n : ℕ) → Turn → Host → (reply : List ℕ) → Move
+hears row n t h reply =
+    cond (foreignOffer h reply) (ends h Foreign)
+    (act (cell row (offerReply.replyIn reply .status)) n t (offerReply.replyIn reply .status) h)
+
+-- H2 for a reply to a block: not 16 bytes, or not our sequence
+abbrev pub foreignContent : Place → List ℕ → Bool
+foreignContent p reply = not (eqb (length reply) 16) || not (eqb (contentReply.replyIn reply .sequence) (sequenceOf (p .block)))
+
+-- after a block is taken: the next one, or the offer is completed and the next offer is due
+abbrev pub goesOn : (n : ℕ) → Bool → Place → Host → Move
+goesOn n true p h = offerFrom n (p .entry + 1) (completes h (p .entry))
+goesOn n false p h =
+    sends h (Sending (record { entry = p .entry; block = p .block + 1 })) (Block (record { entry = p .entry; block = p .block + 1 }))
+
+-- on a reply to a block: H2 first, then H1
+unfoldable pub hearsBlock : (n : ℕ) → (last : Bool) → Place → Host → (reply : List ℕ) → Move
+hearsBlock n last p h reply =
+    cond (foreignContent p reply) (ends h Foreign)
+    (cond (eqb (contentReply.replyIn reply .status) SUCCESS) (goesOn n last p h) (ends h (Status (contentReply.replyIn reply .status))))
+
+-- what the host does, by its stage; a fresh host and an ended one await no reply
+unfoldable pub decideIn : HostStage → (n : ℕ) → (last : Bool) → Host → (reply : List ℕ) → Move
+decideIn Fresh n last h reply = sends h Opening (Information INFO-START-ENTIRE-TRANSACTION)
+decideIn Opening n last h reply = hears 0 n noTurn h reply
+decideIn Listing n last h reply = hears 1 n noTurn h reply
+decideIn (Offering t) n last h reply = hears 2 n t h reply
+decideIn (Waiting t) n last h reply = hears 3 n t h reply
+decideIn (Sending p) n last h reply = hearsBlock n last p h reply
+decideIn Closing n last h reply = hears 4 n noTurn h reply
+decideIn (Ended e) n last h reply = record { action = Nothing; host = h }
+
+abbrev pub decideOf : (n : ℕ) → (last : Bool) → Host → (reply : List ℕ) → Move
+decideOf n last h reply = decideIn (h .stage) n last h reply
+
+-- the entry of what is sent, and 0 where there is none
+abbrev pub entryOf : Action → ℕ
+entryOf Nothing = 0
+entryOf (Information code) = 0
+entryOf Notify = 0
+entryOf (Offer entry) = entry
+entryOf (Block p) = p .entry
+
+-- what is decided over a bundle of n offers, where the body in hand has k records: N1, or a move
+unfoldable pub decisionOf : (n k : ℕ) → Host → (reply : List ℕ) → Decided
+decisionOf n k h reply = cond (recordBreaks n k h) N1 (Moves (decideOf n (lastOf k (h .stage)) h reply))

@@ -1,0 +1,113 @@
+// The packets that are sent, each laid into 60 lent bytes, zero past its end.
+ghost use mathlib.Core.Path.{_≡_};
+ghost use mathlib.Core.List.{_++_};
+ghost use Prim.Native.Nat.{_+_, _≤_};
+ghost use lib.ListN.{length, set, take, drop, replicate};
+ghost use Rattle.wire.specs.Codes.{NOTIFY-ON-READY};
+ghost use Rattle.wire_offer.specs.Signal.{informationBytes, extendedBytes};
+ghost use Rattle.bundle_layout.specs.Layout.{tableEnd};
+ghost use Rattle.host_packet.specs.Packet.{flagsOf, blockBytes};
+use bundle_layout::limits::ENTRY;
+use bundle_layout::limits::HEAD;
+use host_record::record::sequence;
+use wire::address::RegionAddress;
+use wire::codes;
+use wire::words;
+use wire_content::content::head;
+use wire_offer::signal::Signal;
+use wire_offer::signal::build_extended;
+use wire_offer::signal::build_information;
+
+// Every byte becomes zero.
+pub(crate) fn clear(packet: &mut [u8])
+    ensures { λ _. ⌜ now (packet .exit) ≡ replicate (length (now (packet .entry))) 0 ⌝ }
+{
+    let mut i = 0;
+    while i < packet.len() {
+        packet[i] = 0;
+        i += 1;
+    }
+}
+
+// Sixteen bytes at the start of 60.
+fn lay(packet: &mut [u8], p: [u8; 16])
+    requires { ⌜ length (now packet) ≡ 60 ⌝ }
+    ensures { λ _. ⌜ now (packet .exit) ≡ p ++ replicate 44 0 ⌝ }
+{
+    words::copy(&mut packet[0..16], &p);
+    clear(&mut packet[16..60]);
+}
+
+pub(crate) fn information(packet: &mut [u8], code: u8, token: u8)
+    requires { ⌜ length (now packet) ≡ 60 ⌝ }
+    ensures { λ _. ⌜ now (packet .exit) ≡ informationBytes (record { code = code; token = token }) ++ replicate 44 0 ⌝ }
+{
+    let p = build_information(Signal {
+        code: code,
+        token: token,
+    });
+    lay(packet, p);
+}
+
+pub(crate) fn notify(packet: &mut [u8], token: u8)
+    requires { ⌜ length (now packet) ≡ 60 ⌝ }
+    ensures { λ _. ⌜ now (packet .exit) ≡ extendedBytes (record { code = NOTIFY-ON-READY; token = token }) ++ replicate 44 0 ⌝ }
+{
+    let p = build_extended(Signal {
+        code: codes::NOTIFY_ON_READY,
+        token: token,
+    });
+    lay(packet, p);
+}
+
+// The offer of an entry: the table's 16 bytes with our token in byte 3.
+pub(crate) fn offer(packet: &mut [u8], b: &[u8], entry: u32, token: u8)
+    requires { ⌜ (length (now packet) ≡ 60) × (tableEnd (entry + 1) ≤ length (now b)) ⌝ }
+    ensures { λ _. ⌜ now (packet .exit) ≡ set (take 16 (drop (tableEnd entry) (now (b .entry)))) 3 token ++ replicate 44 0 ⌝ }
+{
+    let at = HEAD + ENTRY * (entry as usize);
+    let end = at + 16;
+    let mut p = [0u8; 16];
+    words::copy(&mut p, &b[at..end]);
+    p[3] = token;
+    lay(packet, p);
+}
+
+// First and last flags as fit.
+fn flags(first: bool, last: bool) -> u8
+    ensures { λ r. ⌜ r ≡ flagsOf first last ⌝ }
+{
+    if first {
+        if last {
+            codes::FLAG_FIRST_BLOCK + codes::FLAG_LAST_BLOCK
+        } else {
+            codes::FLAG_FIRST_BLOCK
+        }
+    } else {
+        if last { codes::FLAG_LAST_BLOCK } else { 0 }
+    }
+}
+
+// Block k of a body as content: the record's data, unused data as zero.
+pub(crate) fn block(
+    packet: &mut [u8],
+    b: &[u8],
+    k: u32,
+    last: bool,
+    address: RegionAddress,
+    start: usize,
+    size: u8,
+)
+    requires { ⌜ (length (now packet) ≡ 60) × (1 ≤ size) × (size ≤ 52) × (start + size ≤ length (now b)) ⌝ }
+    ensures { λ _. ⌜ now (packet .exit) ≡ blockBytes k last (record { address = address; bytes = take size (drop start (now (b .entry))) }) ⌝ }
+{
+    let n = size as usize;
+    let end = start + n;
+    let past = 8 + n;
+    let f = flags(k == 0, last);
+    let s = sequence(k);
+    let h = head(f, size, s, address);
+    words::copy(&mut packet[0..8], &h);
+    words::copy(&mut packet[8..past], &b[start..end]);
+    clear(&mut packet[past..60]);
+}

@@ -1,0 +1,70 @@
+// The content channel. To build content: flags, length, sequence (2), address (4), data (52). A reply: sequence (2), status.
+use run_print::line;
+use run_print::names;
+use run_print::payload::byte;
+use run_print::payload::word16;
+use run_print::payload::word32;
+use wire::address::RegionAddress;
+use wire::words;
+use wire_content::content::ContentFields;
+use wire_content::reply::ContentReply;
+
+fn fields(c: ContentFields) {
+    let data = c.data;
+    let address = c.address;
+    line::hex8(names::FLAGS, c.flags);
+    line::decimal8(names::LENGTH, c.length);
+    line::hex16(names::SEQUENCE, c.sequence);
+    line::hex32(names::ADDRESS, address.number(), 8);
+    line::word(names::DATA);
+    line::bytes(&data);
+}
+
+pub fn build(p: &[u8]) {
+    let mut data = [0u8; 52];
+    words::copy(&mut data, run_print::part(p, 8, 52));
+    let c = ContentFields {
+        flags: byte(p, 0, 0),
+        length: byte(p, 0, 1),
+        sequence: word16(p, 0, 2),
+        address: RegionAddress::new(word32(p, 0, 4)),
+        data: data,
+    };
+    fields(c);
+    let b = wire_content::content::build_content(c);
+    let verdict = b.verdict;
+    let packet = b.packet;
+    line::built(verdict, &packet);
+}
+
+pub fn read(p: &[u8]) {
+    line::bytes(p);
+    let r = wire_content::content::read_content(p);
+    let verdict = r.verdict;
+    line::gives(verdict);
+    let told = r.content;
+    fields(told);
+}
+
+fn reply(r: ContentReply) {
+    line::hex16(names::SEQUENCE, r.sequence);
+    line::hex8(names::STATUS, r.status);
+}
+
+pub fn build_reply(p: &[u8]) {
+    let r = ContentReply {
+        sequence: word16(p, 0, 0),
+        status: byte(p, 0, 2),
+    };
+    reply(r);
+    line::packet(wire_content::reply::build_content_reply(r));
+}
+
+pub fn read_reply(p: &[u8]) {
+    line::bytes(p);
+    let r = wire_content::reply::read_content_reply(p);
+    let verdict = r.verdict;
+    line::gives(verdict);
+    let told = r.reply;
+    reply(told);
+}

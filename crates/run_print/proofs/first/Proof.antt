@@ -1,0 +1,12 @@
+-- `show::first` is safe. Assumes nothing.
+use native.Mathlib.Omega.{arith}
+use lib.ListN.{length-take}
+use borrow.Author.Needs.{needs}
+use Rattle.run_print.proofs.first.Statement.{statement}
+use Rattle.run_print.proofs.first.Tie as tie
+
+slice-aggregate-result : tie.Need-slice-aggregate-result
+slice-aggregate-result c = simp length-take (omega arith)
+
+pub first-spec : {M : Type 1} → statement M
+first-spec = tie.close (tie.spec slice-aggregate-result (λ c. search needs) (λ c. search needs) (λ c. search needs))

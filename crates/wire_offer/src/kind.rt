@@ -1,0 +1,57 @@
+// The one reader of the offer channel: byte 2 decides the kind of a 16-byte packet.
+ghost use mathlib.Core.Path.{_≡_};
+ghost use lib.ListN.{length};
+ghost use Rattle.wire_offer.specs.Offer.{fieldsIn};
+ghost use Rattle.wire_offer.specs.Kind.{toldRead, readOf};
+use crate::offer::OfferFields;
+use crate::signal::Signal;
+use wire::codes;
+use wire::version::Version;
+use wire::words;
+
+pub enum OfferPacket {
+    // P1: not 16 bytes.
+    Refused,
+    Offer(OfferFields),
+    Information(Signal),
+    Extended(Signal),
+}
+
+fn fields(p: &[u8]) -> OfferFields
+    requires { ⌜ length (now p) ≡ 16 ⌝ }
+    ensures { λ r. ⌜ r ≡ fieldsIn (now (p .entry)) ⌝ }
+{
+    OfferFields {
+        segment: p[0],
+        force_immediate_reset: p[1] / 64 % 2 == 1,
+        force_ignore_version: p[1] / 128 % 2 == 1,
+        id: p[2],
+        token: p[3],
+        version: Version::read(p[4], p[5], p[6], p[7]),
+        need: p[8],
+        least: words::word24(p[9], p[10], p[11]),
+        protocol: p[12] % 16,
+        platform: words::word16(p[14], p[15]),
+    }
+}
+
+pub fn read_offer_packet(p: &[u8]) -> OfferPacket
+    ensures { λ r. ⌜ toldRead r ≡ readOf (now (p .entry)) ⌝ }
+{
+    if p.len() != 16 {
+        return OfferPacket::Refused;
+    }
+    let kind = p[2];
+    let signal = Signal {
+        code: p[0],
+        token: p[3],
+    };
+    if kind == codes::KIND_INFORMATION {
+        return OfferPacket::Information(signal);
+    }
+    if kind == codes::KIND_EXTENDED {
+        return OfferPacket::Extended(signal);
+    }
+    let o = fields(p);
+    OfferPacket::Offer(o)
+}

@@ -1,5 +1,5 @@
 /*
- * cfu.h: the C interface of the proved CFU updater (library libc_api.a, room crates/c_api).
+ * cfu.h: the C interface of the proved CFU updater (library libc_api.a, crate crates/c_api).
  *
  * The device end, the host end, the check of a bundle, and the building and reading of each packet of CFU, Microsoft's Component Firmware Update protocol.
  * C99, also C++.
@@ -81,9 +81,9 @@ extern "C" {
 #define CFU_S3 0x5303
 #define CFU_S4 0x5304
 
-/* Device. D1: bytes that are no record, a record that breaks S1 to S4, opens a session on a component that is not listed or is pending, owes a ready-reply
- * while idle, or has a staged version below the running one. D2: another staging length than at set-up. D3: a report of another length than 16 (offer
- * channel) or 60 (content channel). */
+/* Device. D1: a stage, an owed or a staged that no record has; a record that breaks S1 to S4, opens a session on a component that is not listed or is pending,
+ * owes a ready-reply while idle, or has a staged version below the running one. D2: another staging length than at set-up. D3: a report of another length than
+ * 16 (offer channel) or 60 (content channel). */
 #define CFU_D1 0x4401
 #define CFU_D2 0x4402
 #define CFU_D3 0x4403
@@ -94,8 +94,8 @@ extern "C" {
 #define CFU_P1 0x5001
 #define CFU_P2 0x5002
 
-/* Host. N1: bytes that are no record; a record that points at an entry or a body's record that the bundle lacks, counts over 8 BUSY, more passes than offers
- * or 2^31 packets or more, or has a mask bit past its offers. */
+/* Host. N1: a stage, an end or a flag that no record has; a record that points at an entry or a body's record that the bundle lacks, counts over 8 BUSY, more
+ * passes than offers or 2^31 packets or more, or has a mask bit past its offers. */
 #define CFU_N1 0x4E01
 
 /* Bundle. B1: under 8 or over 65,536 bytes. B2: byte 1 not 1, or bytes 2 to 7 not zero. B3: a count not 1 to 7. B4: a table past the end. B5: an offer whose
@@ -257,13 +257,13 @@ typedef struct cfu_report {
  *     2  staging length at set-up (4)
  *     6  count of components (1)
  *     7  stage (1): 0 idle, 1 offered, 2 receiving
- *     8  slot (1): the component's place in the list, from 0; 9 token (1), 10 next sequence (2): zero where the stage has none
- *    12  owed ready-reply (1): 0 none, 1 owed; 13 its token (1), zero where none is owed
- *    14  seven times 18 bytes: id (1), running version (4), region base (4), region length (4), staged (1): 0 nothing, 1 pending; staged version (4), zero
- *        where nothing is staged
- * Only these calls need to write one; byte 14 + 18 i + 13 tells whether component i is pending. Bytes that are no such record are refused by D1, in the parts
- * that are not in use too, and so are bytes that are one but break the rules of a device. All zeros are such: zero a record before set-up, and a refused
- * set-up leaves one that no call serves.
+ *     8  slot (1): the component's place in the list, from 0; 9 token (1), 10 next sequence (2)
+ *    12  owed ready-reply (1): 0 none, 1 owed; 13 its token (1)
+ *    14  seven times 18 bytes: id (1), running version (4), region base (4), region length (4), staged (1): 0 nothing, 1 pending; staged version (4)
+ * Only these calls need to write one; byte 14 + 18 i + 13 tells whether component i is pending. What the stage has none of, the token where none is owed and
+ * the staged version where nothing is staged are not looked at, whatever stands there; a call that writes the session or the component writes zero there.
+ * Bytes with another stage, owed or staged than these are refused by D1, in the parts that are not in use too, and so is a record that breaks the rules of a
+ * device. All zeros are such: zero a record before set-up, and a refused set-up leaves one that no call serves.
  */
 
 /*
@@ -327,11 +327,11 @@ cfu_check cfu_bundle_check(const uint8_t *bundle, size_t bundle_len, uint8_t *co
  *     0  token (1)
  *     1  stage (1): 0 fresh, 1 opening, 2 listing, 3 offering, 4 waiting, 5 sending, 6 closing, 7 ended
  *     2  (4) and 6 (4): entry and its BUSY replies where it offers or waits; entry and block where it sends, both counted from 0; where it ended the end (0 done,
- *        1 to 4 for H1 to H4) and the content status of H1; otherwise zero
+ *        1 to 4 for H1 to H4) and the content status of H1, of which the low byte is read; what the stage has no use for is written as zero and not read
  *    10  mask of completed offers (4), 14 packets (4), 18 passes (4)
  *    22  this pass had a SKIP (1), 23 a completed image (1): 0 or 1
- * Only these calls need to write one. Bytes that are no such record are refused by N1, as is a record that does not fit the bundle. All zeros are the fresh
- * record with token 0.
+ * Only these calls need to write one. A stage over 7, an end over 4 and a byte 22 or 23 over 1 are refused by N1, as is a record that does not fit the bundle.
+ * All zeros are the fresh record with token 0.
  */
 
 /*
@@ -361,8 +361,8 @@ cfu_step cfu_host_step_checked(uint8_t *host, size_t host_len, uint8_t *contents
                                const uint8_t *reply, size_t reply_len, uint8_t *packet, size_t packet_len);
 
 /*
- * How far a host is. Returns CFU_SERVED, C1 (host) with zeros, or N1 for a record that counts 2^31 packets or more, as bytes that are no record do; the other
- * clauses of N1 need a bundle.
+ * How far a host is. Returns CFU_SERVED, C1 (host) with zeros, or N1 for a record that counts 2^31 packets or more or has a stage, an end or a flag that
+ * no record has; the other clauses of N1 need a bundle.
  */
 cfu_report cfu_host_report(const uint8_t *host, size_t host_len);
 

@@ -1,8 +1,9 @@
 """The wrong programs of each crate, and the function that each changes.
 
-They stand in edit files: crates/NAME/must-fail/*.edit, which `rt ci` tries, and tests/wrong/NAME/*.edit, which tools/wrong tries over what was just proved. A file holds one wrong
-program or several. Each is a comment with its words, then `file:`, `old:` and `new:` of one line. Several stand together where they change different functions, whether or not
-one calls the other: each is refused at a fact of its own function, and one check of the crate tries them all (docs/DECISIONS.md, Q147)."""
+They stand in edit files: crates/NAME/must-fail/*.edit, which `rt ci` tries, and tests/wrong/NAME/*.edit, which tools/wrong tries over what was just proved. A
+file holds one wrong program or several. Each is a comment with its words, then `file:`, `old:` and `new:` of one line. Several stand together where they
+change different functions, whether or not one calls the other: each is refused at a fact of its own function, and one check of the crate tries them all
+(docs/DECISIONS.md, Q147)."""
 import glob
 import os
 import re

@@ -25,7 +25,7 @@ static void check(int holds, const char *what, int line)
 #define SAME(bytes, ...) same(bytes, sizeof(bytes) - 2 * EDGE, (const uint8_t[]){__VA_ARGS__}, sizeof((const uint8_t[]){__VA_ARGS__}))
 
 /* A buffer with an edge of watched bytes on both sides; AT is what is lent of it. */
-enum { EDGE = 16 };
+enum { EDGE = 16, STAGING = 128 };
 #define BUFFER(name, size) uint8_t name[(size) + 2 * EDGE]
 #define AT(name) (name + EDGE), (sizeof(name) - 2 * EDGE)
 
@@ -69,7 +69,7 @@ static int filled(const uint8_t *buffer, size_t size, uint8_t value)
 #define FILLED(name, value) filled(name, sizeof(name) - 2 * EDGE, value)
 
 static BUFFER(device, CFU_DEVICE_SIZE);
-static BUFFER(staging, 128);
+static BUFFER(staging, STAGING);
 static BUFFER(replies, CFU_REPLIES_SIZE);
 static BUFFER(list, CFU_LIST_SIZE);
 static BUFFER(shorter, CFU_SHORT_SIZE);
@@ -131,6 +131,62 @@ static void block(uint8_t length, uint32_t address, uint16_t sequence, uint8_t s
     CHECK(SAME(replies, (uint8_t)sequence, (uint8_t)(sequence >> 8), 0, 0, status));
 }
 
+/* Places in a device's record: the session with its flag for a ready-reply, and the flag for a staged version of component i, which that version follows. */
+enum { SESSION = 7, SESSION_SIZE = 7, OWED = 12 };
+#define STAGED(i) (14 + 18 * (i) + 13)
+
+/* With another value at a place no call serves the record, and it stays as it is. */
+static void no_device(unsigned place, uint8_t value)
+{
+    BUFFER(before, CFU_DEVICE_SIZE);
+    const uint8_t last[CFU_LONG_SIZE] = {CFU_FLAG_LAST_BLOCK, 1};
+    const uint8_t kept = device[EDGE + place];
+    device[EDGE + place] = value;
+    memcpy(before, device, sizeof device);
+    offers(OFFER, sizeof OFFER, CFU_D1, 0);
+    sends(last, sizeof last, CFU_D1, 0);
+    CHECK(FILLED(replies, 0));
+    CHECK(cfu_device_reset(AT(device)) == CFU_D1);
+    CHECK(cfu_device_version_reply(AT(device), AT(longer)) == CFU_D1 && FILLED(longer, 0));
+    CHECK(memcmp(before, device, sizeof device) == 0);
+    device[EDGE + place] = kept;
+}
+
+/* Bytes of a device's record that are passed over, and flags that no record has. */
+static void device_bytes(void)
+{
+    BUFFER(wanted, CFU_DEVICE_SIZE);
+    BUFFER(new_device, CFU_DEVICE_SIZE);
+    bench();
+    memcpy(new_device, device, sizeof device);
+    /* idle, nothing owed, nothing staged: slot, token, sequence, owed token and staged versions have no meaning */
+    memset(device + EDGE + SESSION + 1, 0x99, OWED - SESSION - 1);
+    device[EDGE + OWED + 1] = 0x99;
+    for (unsigned i = 0; i < CFU_COMPONENT_LIMIT; i++)
+        memset(device + EDGE + STAGED(i) + 1, 0x99, 4);
+    memcpy(wanted, device, sizeof device);
+    CHECK(cfu_device_version_reply(AT(device), AT(longer)) == CFU_SERVED);
+    CHECK(SAME(longer, 2, 0, 0, 2, 0, 2, 0, 1, 0, 1, 0x42, 0, 0, 1, 0, 1, 0, 2, 0x42, 0));
+    /* an offer writes the session anew and leaves the rest */
+    offered(0, 0, 0, CFU_OFFER_ACCEPT);
+    memcpy(wanted + EDGE + SESSION, (const uint8_t[SESSION_SIZE]){1, 0, 0xA5}, SESSION_SIZE);
+    CHECK(memcmp(device, wanted, sizeof device) == 0);
+    /* content also writes the session's component */
+    device[EDGE + OWED + 1] = 0x99;
+    block(1, 0, 7, CFU_SUCCESS);
+    memcpy(wanted + EDGE + SESSION, (const uint8_t[SESSION_SIZE]){2, 0, 0xA5, 8}, SESSION_SIZE);
+    memset(wanted + EDGE + STAGED(0) + 1, 0, 4);
+    CHECK(memcmp(device, wanted, sizeof device) == 0);
+    /* a flag past its range is D1, in a component that is not in use too */
+    no_device(SESSION, 3);
+    no_device(OWED, 2);
+    no_device(STAGED(0), 2);
+    no_device(STAGED(CFU_COMPONENT_LIMIT - 1), 2);
+    /* a reset writes the whole record */
+    CHECK(cfu_device_reset(AT(device)) == CFU_SERVED);
+    CHECK(memcmp(device, new_device, sizeof device) == 0);
+}
+
 static void device_calls(void)
 {
     /* E1 */
@@ -145,7 +201,7 @@ static void device_calls(void)
     CHECK(SAME(components, 0, 2, 0, 1, 1, 0x42, 0, 0, 1, 0, 1, 2, 0x42, 0));
     EDGES(components);
     CLEAR(longer, 0x33);
-    CHECK(cfu_build_version_reply(2, 2, AT(components), AT(longer)) == CFU_SERVED);
+    CHECK(cfu_build_version_reply(2, CFU_PROTOCOL, AT(components), AT(longer)) == CFU_SERVED);
     CHECK(SAME(longer, 2, 0, 0, 2, 0, 2, 0, 1, 0, 1, 0x42, 0, 0, 1, 0, 1, 0, 2, 0x42, 0));
 
     /* E7, E3 to E6 and E2 */
@@ -162,16 +218,16 @@ static void device_calls(void)
     offered(0, 0, 0, CFU_OFFER_BUSY);
 
     /* E8 at 13, E9, E10 change nothing; a READY becomes owed */
-    block(52, 13, 7, CFU_ERROR_INVALID_ADDR);
+    block(CFU_DATA_SIZE, 13, 7, CFU_ERROR_INVALID_ADDR);
     block(1, 0xFFFFFFFF, 7, CFU_ERROR_INVALID_ADDR);
-    block(53, 0, 7, CFU_ERROR_INVALID);
+    block(CFU_DATA_SIZE + 1, 0, 7, CFU_ERROR_INVALID);
     CHECK(FILLED(staging, 0x77));
     const uint8_t notify[CFU_SHORT_SIZE] = {CFU_NOTIFY_ON_READY, 0, 0xFE, 0x31};
     offers(notify, sizeof notify, CFU_SERVED, 0);
     CHECK(FILLED(replies, 0));
     /* E8 at 12: region 0-63 is erased, the data written, region 64-127 left */
-    block(52, 12, 0xFFFF, CFU_SUCCESS);
-    for (unsigned i = 0; i < 128; i++)
+    block(CFU_DATA_SIZE, 12, 0xFFFF, CFU_SUCCESS);
+    for (unsigned i = 0; i < STAGING; i++)
         CHECK(staging[EDGE + i] == (i < 12 ? 0xFF : i < 64 ? 0 : 0x77));
     /* a last block makes the session idle: its reply, and then the owed READY. Sequence 0 follows 0xFFFF; the CRC is wrong */
     const uint8_t last[CFU_LONG_SIZE] = {CFU_FLAG_LAST_BLOCK, 1};
@@ -182,12 +238,12 @@ static void device_calls(void)
     /* D3, D2 and D1: the replies zeroed, the rest as it was */
     BUFFER(before, CFU_DEVICE_SIZE);
     memcpy(before, device, sizeof device);
-    offers(OFFER, 15, CFU_D3, 0);
+    offers(OFFER, CFU_SHORT_SIZE - 1, CFU_D3, 0);
     CHECK(FILLED(replies, 0));
-    sends(OFFER, 16, CFU_D3, 0);
-    cfu_replies r = cfu_device_offer(AT(device), staging + EDGE, 127, OFFER, sizeof OFFER, AT(replies));
+    sends(OFFER, sizeof OFFER, CFU_D3, 0);
+    cfu_replies r = cfu_device_offer(AT(device), staging + EDGE, STAGING - 1, OFFER, sizeof OFFER, AT(replies));
     CHECK(r.number == CFU_D2 && r.count == 0);
-    r = cfu_device_content(AT(device), staging + EDGE, 127, last, sizeof last, AT(replies));
+    r = cfu_device_content(AT(device), staging + EDGE, STAGING - 1, last, sizeof last, AT(replies));
     CHECK(r.number == CFU_D2 && r.count == 0);
     CHECK(memcmp(before, device, sizeof device) == 0);
     CLEAR(device, 0);
@@ -199,9 +255,9 @@ static void device_calls(void)
 
     /* S2 to S4, and the record as it was */
     CHECK(cfu_device_set_up(AT(device), 0x0042, AT(list), 0, AT(staging)) == CFU_S2);
-    CHECK(cfu_device_set_up(AT(device), 0x0042, AT(list), 8, AT(staging)) == CFU_S2);
+    CHECK(cfu_device_set_up(AT(device), 0x0042, AT(list), CFU_COMPONENT_LIMIT + 1, AT(staging)) == CFU_S2);
     CHECK(cfu_device_set_up(AT(device), 0x0042, AT(list), 3, AT(staging)) == CFU_S3);
-    CHECK(cfu_device_set_up(AT(device), 0x0042, AT(list), 2, staging + EDGE, 127) == CFU_S4);
+    CHECK(cfu_device_set_up(AT(device), 0x0042, AT(list), 2, staging + EDGE, STAGING - 1) == CFU_S4);
     CHECK(FILLED(device, 0));
 
     /* C1 to C3 */
@@ -211,16 +267,16 @@ static void device_calls(void)
     CHECK(cfu_device_version_reply(AT(device), longer + EDGE, CFU_LONG_SIZE - 1) == CFU_C3);
     CHECK(cfu_device_reset(device + EDGE, CFU_DEVICE_SIZE + 1) == CFU_C1);
     CHECK(cfu_device_offer(device + EDGE, 0, AT(staging), OFFER, sizeof OFFER, AT(replies)).number == CFU_C1);
-    CHECK(cfu_device_offer(AT(device), AT(staging), OFFER, sizeof OFFER, replies + EDGE, 31).number == CFU_C3);
+    CHECK(cfu_device_offer(AT(device), AT(staging), OFFER, sizeof OFFER, replies + EDGE, CFU_REPLIES_SIZE - 1).number == CFU_C3);
     CHECK(cfu_device_content(device + EDGE, 0, AT(staging), last, sizeof last, AT(replies)).number == CFU_C1);
-    CHECK(cfu_device_content(AT(device), AT(staging), last, sizeof last, replies + EDGE, 31).number == CFU_C3);
+    CHECK(cfu_device_content(AT(device), AT(staging), last, sizeof last, replies + EDGE, CFU_REPLIES_SIZE - 1).number == CFU_C3);
 }
 
 static void packet_calls(void)
 {
     /* an offer with a value of its own in each field; the build document's bytes 0 to 15 */
     const cfu_offer o = {.segment = 0x11, .force_immediate_reset = 1, .force_ignore_version = 0, .id = 0x22, .token = 0x33, .version = {0x44, 0x5566, 0x77}, .need = 0x88,
-                         .least = 0x99AABB, .protocol = 2, .platform = 0xCCDD};
+                         .least = 0x99AABB, .protocol = CFU_PROTOCOL, .platform = 0xCCDD};
     CLEAR(shorter, 0x33);
     CHECK(cfu_build_offer(o, AT(shorter)) == CFU_SERVED);
     CHECK(SAME(shorter, 0x11, 0x40, 0x22, 0x33, 0x77, 0x66, 0x55, 0x44, 0x88, 0xBB, 0xAA, 0x99, 2, 0, 0xDD, 0xCC));
@@ -229,7 +285,7 @@ static void packet_calls(void)
     CHECK(p.number == CFU_SERVED && p.kind == CFU_KIND_OFFER && p.signal.code == 0 && p.signal.token == 0);
     CHECK(p.offer.segment == 0x11 && p.offer.force_immediate_reset == 1 && p.offer.force_ignore_version == 0 && p.offer.id == 0x22 && p.offer.token == 0x33);
     CHECK(p.offer.version.major == 0x44 && p.offer.version.minor == 0x5566 && p.offer.version.variant == 0x77);
-    CHECK(p.offer.need == 0x88 && p.offer.least == 0x99AABB && p.offer.protocol == 2 && p.offer.platform == 0xCCDD);
+    CHECK(p.offer.need == 0x88 && p.offer.least == 0x99AABB && p.offer.protocol == CFU_PROTOCOL && p.offer.platform == 0xCCDD);
     cfu_offer wrong = o;
     wrong.force_ignore_version = 1;
     CHECK(cfu_build_offer(wrong, AT(shorter)) == CFU_SERVED && shorter[EDGE + 1] == 0xC0);
@@ -244,71 +300,117 @@ static void packet_calls(void)
     wrong = o;
     wrong.protocol = 16;
     CHECK(cfu_build_offer(wrong, AT(shorter)) == CFU_P2);
-    CHECK(cfu_build_offer(o, shorter + EDGE, 15) == CFU_C3);
-    p = cfu_read_offer(shorter + EDGE, 15);
+    CHECK(cfu_build_offer(o, shorter + EDGE, CFU_SHORT_SIZE - 1) == CFU_C3);
+    p = cfu_read_offer(shorter + EDGE, CFU_SHORT_SIZE - 1);
     CHECK(p.number == CFU_P1 && p.kind == CFU_KIND_NONE && p.offer.platform == 0);
 
-    CHECK(cfu_build_information(2, 0x21, AT(shorter)) == CFU_SERVED);
+    CHECK(cfu_build_information(CFU_INFO_END_OFFER_LIST, 0x21, AT(shorter)) == CFU_SERVED);
     CHECK(SAME(shorter, 2, 0, 0xFF, 0x21));
     p = cfu_read_offer(AT(shorter));
-    CHECK(p.number == CFU_SERVED && p.kind == CFU_KIND_INFORMATION && p.signal.code == 2 && p.signal.token == 0x21 && p.offer.id == 0);
-    CHECK(cfu_build_information(2, 0x21, shorter + EDGE, 17) == CFU_C3);
+    CHECK(p.number == CFU_SERVED && p.kind == CFU_KIND_INFORMATION && p.signal.code == CFU_INFO_END_OFFER_LIST && p.signal.token == 0x21 && p.offer.id == 0);
+    CHECK(cfu_build_information(CFU_INFO_END_OFFER_LIST, 0x21, shorter + EDGE, CFU_SHORT_SIZE + 1) == CFU_C3);
 
-    CHECK(cfu_build_extended(1, 0x22, AT(shorter)) == CFU_SERVED);
+    CHECK(cfu_build_extended(CFU_NOTIFY_ON_READY, 0x22, AT(shorter)) == CFU_SERVED);
     CHECK(SAME(shorter, 1, 0, 0xFE, 0x22));
     p = cfu_read_offer(AT(shorter));
-    CHECK(p.number == CFU_SERVED && p.kind == CFU_KIND_EXTENDED && p.signal.code == 1 && p.signal.token == 0x22);
-    CHECK(cfu_build_extended(1, 0x22, shorter + EDGE, 0) == CFU_C3);
+    CHECK(p.number == CFU_SERVED && p.kind == CFU_KIND_EXTENDED && p.signal.code == CFU_NOTIFY_ON_READY && p.signal.token == 0x22);
+    CHECK(cfu_build_extended(CFU_NOTIFY_ON_READY, 0x22, shorter + EDGE, 0) == CFU_C3);
 
-    CHECK(cfu_build_offer_reply(0xA5, 0xE0, 2, AT(shorter)) == CFU_SERVED);
+    CHECK(cfu_build_offer_reply(0xA5, CFU_REJECT_WRONG_PROTOCOL, CFU_OFFER_REJECT, AT(shorter)) == CFU_SERVED);
     CHECK(SAME(shorter, 0, 0, 0, 0xA5, 0, 0, 0, 0, 0xE0, 0, 0, 0, 2));
     cfu_offer_reply q = cfu_read_offer_reply(AT(shorter));
-    CHECK(q.number == CFU_SERVED && q.token == 0xA5 && q.reason == 0xE0 && q.status == 2);
+    CHECK(q.number == CFU_SERVED && q.token == 0xA5 && q.reason == CFU_REJECT_WRONG_PROTOCOL && q.status == CFU_OFFER_REJECT);
     q = cfu_read_offer_reply(shorter + EDGE, 0);
     CHECK(q.number == CFU_P1 && q.token == 0 && q.reason == 0 && q.status == 0);
-    CHECK(cfu_build_offer_reply(0xA5, 0xE0, 2, shorter + EDGE, 15) == CFU_C3);
+    CHECK(cfu_build_offer_reply(0xA5, CFU_REJECT_WRONG_PROTOCOL, CFU_OFFER_REJECT, shorter + EDGE, CFU_SHORT_SIZE - 1) == CFU_C3);
 
     CLEAR(bytes, 0x66);
     CLEAR(longer, 0x33);
-    CHECK(cfu_build_content(0xC0, 3, 0x1234, 0x89ABCDEF, AT(bytes), AT(longer)) == CFU_SERVED);
+    CHECK(cfu_build_content(CFU_FLAG_FIRST_BLOCK | CFU_FLAG_LAST_BLOCK, 3, 0x1234, 0x89ABCDEF, AT(bytes), AT(longer)) == CFU_SERVED);
     CHECK(SAME(longer, 0xC0, 3, 0x34, 0x12, 0xEF, 0xCD, 0xAB, 0x89, 0x66, 0x66, 0x66));
     cfu_content c = cfu_read_content(AT(longer), AT(bytes));
-    CHECK(c.number == CFU_SERVED && c.flags == 0xC0 && c.length == 3 && c.sequence == 0x1234 && c.address == 0x89ABCDEF);
+    CHECK(c.number == CFU_SERVED && c.flags == (CFU_FLAG_FIRST_BLOCK | CFU_FLAG_LAST_BLOCK) && c.length == 3 && c.sequence == 0x1234 && c.address == 0x89ABCDEF);
     CHECK(SAME(bytes, 0x66, 0x66, 0x66));
     EDGES(bytes), EDGES(longer);
     CHECK(cfu_build_content(0x20, 3, 0, 0, AT(bytes), AT(longer)) == CFU_P2 && FILLED(longer, 0));
     CHECK(cfu_build_content(0, 0, 0, 0, AT(bytes), AT(longer)) == CFU_P2);
-    CHECK(cfu_build_content(0, 53, 0, 0, AT(bytes), AT(longer)) == CFU_P2);
-    CHECK(cfu_build_content(0, 52, 0, 0, bytes + EDGE, 51, AT(longer)) == CFU_C2);
-    CHECK(cfu_build_content(0, 52, 0, 0, AT(bytes), longer + EDGE, 59) == CFU_C3);
-    CHECK(cfu_read_content(longer + EDGE, 59, AT(bytes)).number == CFU_P1 && FILLED(bytes, 0));
-    CHECK(cfu_read_content(AT(longer), bytes + EDGE, 51).number == CFU_C3);
+    CHECK(cfu_build_content(0, CFU_DATA_SIZE + 1, 0, 0, AT(bytes), AT(longer)) == CFU_P2);
+    CHECK(cfu_build_content(0, CFU_DATA_SIZE, 0, 0, bytes + EDGE, CFU_DATA_SIZE - 1, AT(longer)) == CFU_C2);
+    CHECK(cfu_build_content(0, CFU_DATA_SIZE, 0, 0, AT(bytes), longer + EDGE, CFU_LONG_SIZE - 1) == CFU_C3);
+    CHECK(cfu_read_content(longer + EDGE, CFU_LONG_SIZE - 1, AT(bytes)).number == CFU_P1 && FILLED(bytes, 0));
+    CHECK(cfu_read_content(AT(longer), bytes + EDGE, CFU_DATA_SIZE - 1).number == CFU_C3);
 
-    CHECK(cfu_build_content_reply(0x1234, 0x0A, AT(shorter)) == CFU_SERVED);
+    CHECK(cfu_build_content_reply(0x1234, CFU_ERROR_NO_OFFER, AT(shorter)) == CFU_SERVED);
     CHECK(SAME(shorter, 0x34, 0x12, 0, 0, 0x0A));
     cfu_content_reply s = cfu_read_content_reply(AT(shorter));
-    CHECK(s.number == CFU_SERVED && s.sequence == 0x1234 && s.status == 0x0A);
-    s = cfu_read_content_reply(shorter + EDGE, 17);
+    CHECK(s.number == CFU_SERVED && s.sequence == 0x1234 && s.status == CFU_ERROR_NO_OFFER);
+    s = cfu_read_content_reply(shorter + EDGE, CFU_SHORT_SIZE + 1);
     CHECK(s.number == CFU_P1 && s.sequence == 0 && s.status == 0);
-    CHECK(cfu_build_content_reply(0x1234, 0x0A, shorter + EDGE, 15) == CFU_C3);
+    CHECK(cfu_build_content_reply(0x1234, CFU_ERROR_NO_OFFER, shorter + EDGE, CFU_SHORT_SIZE - 1) == CFU_C3);
 
-    CHECK(cfu_build_version_reply(8, 2, AT(components), AT(longer)) == CFU_P2);
-    CHECK(cfu_build_version_reply(7, 3, AT(components), AT(longer)) == CFU_P2);
-    CHECK(cfu_build_version_reply(7, 2, components + EDGE, 48, AT(longer)) == CFU_C2);
-    CHECK(cfu_build_version_reply(7, 2, AT(components), longer + EDGE, 59) == CFU_C3);
-    CHECK(cfu_read_version_reply(longer + EDGE, 59, AT(components)).number == CFU_P1);
-    CLEAR(longer, 8);
+    CHECK(cfu_build_version_reply(CFU_COMPONENT_LIMIT + 1, CFU_PROTOCOL, AT(components), AT(longer)) == CFU_P2);
+    CHECK(cfu_build_version_reply(CFU_COMPONENT_LIMIT, CFU_PROTOCOL + 1, AT(components), AT(longer)) == CFU_P2);
+    CHECK(cfu_build_version_reply(CFU_COMPONENT_LIMIT, CFU_PROTOCOL, components + EDGE, CFU_COMPONENTS_SIZE - 1, AT(longer)) == CFU_C2);
+    CHECK(cfu_build_version_reply(CFU_COMPONENT_LIMIT, CFU_PROTOCOL, AT(components), longer + EDGE, CFU_LONG_SIZE - 1) == CFU_C3);
+    CHECK(cfu_read_version_reply(longer + EDGE, CFU_LONG_SIZE - 1, AT(components)).number == CFU_P1);
+    CLEAR(longer, CFU_COMPONENT_LIMIT + 1);
     CHECK(cfu_read_version_reply(AT(longer), AT(components)).number == CFU_P2 && FILLED(components, 0));
-    CHECK(cfu_read_version_reply(AT(longer), components + EDGE, 50).number == CFU_C3);
+    CHECK(cfu_read_version_reply(AT(longer), components + EDGE, CFU_COMPONENTS_SIZE + 1).number == CFU_C3);
 }
 
-/* Contents that a check leaves: these bytes, zeros up to the block in hand, which is none, and cursor 0. */
+/* Contents that a check leaves: these bytes, zeros up to the block in hand (8), which is none, and the cursor (8), which is 0. */
 static int new_check(const uint8_t *buffer, const uint8_t *bytes, size_t count)
 {
     uint8_t wanted[CFU_CONTENTS_SIZE] = { 0 };
     memcpy(wanted, bytes, count);
-    memset(wanted + 3 + 7 * 12, 0xFF, 8);
+    memset(wanted + CFU_CONTENTS_SIZE - 16, 0xFF, 8);
     return memcmp(buffer + EDGE, wanted, sizeof wanted) == 0;
+}
+
+/* With another value at a place no call serves the record, and it stays as it is. */
+static void no_host(const uint8_t *bundle, size_t length, unsigned place, uint8_t value)
+{
+    BUFFER(before, CFU_HOST_SIZE);
+    const uint8_t kept = host[EDGE + place];
+    host[EDGE + place] = value;
+    memcpy(before, host, sizeof host);
+    memcpy(contents, new_contents, sizeof contents);
+    CHECK(cfu_host_step(AT(host), bundle, length, replies + EDGE, 0, AT(longer)).number == CFU_N1 && FILLED(longer, 0));
+    CHECK(cfu_host_step_checked(AT(host), AT(contents), bundle, length, replies + EDGE, 0, AT(longer)).number == CFU_N1 && FILLED(longer, 0));
+    CHECK(cfu_host_report(AT(host)).number == CFU_N1);
+    CHECK(memcmp(before, host, sizeof host) == 0);
+    host[EDGE + place] = kept;
+}
+
+/* Bytes of a host's record that are passed over, and flags that no record has. */
+static void host_bytes(const uint8_t *bundle, size_t length)
+{
+    /* the two numbers of a fresh host: the step is served, and writes the whole record */
+    CHECK(cfu_host_fresh(AT(host), 0xA5) == CFU_SERVED);
+    memset(host + EDGE + 2, 0x99, 8);
+    CHECK(cfu_host_report(AT(host)).number == CFU_SERVED);
+    CHECK(cfu_host_step(AT(host), bundle, length, replies + EDGE, 0, AT(longer)).length == CFU_SHORT_SIZE);
+    CHECK(SAME(host, 0xA5, 1, 0, 0, 0, 0, 0, 0, 0, 0, 0, 0, 0, 0, 1));
+    no_host(bundle, length, 1, 8);
+    no_host(bundle, length, 22, 2);
+    no_host(bundle, length, 23, 2);
+    /* H1 with status 5: of its four bytes the low one is read */
+    const uint8_t ended[CFU_HOST_SIZE] = {0xA5, 7, 1, 0, 0, 0, 5, 0x99, 0x99, 0x99};
+    memcpy(host + EDGE, ended, sizeof ended);
+    cfu_report r = cfu_host_report(AT(host));
+    CHECK(r.number == CFU_SERVED && r.ending == CFU_H1 && r.status == 5);
+    no_host(bundle, length, 2, 5);
+    no_host(bundle, length, 5, 1);
+    cfu_step a = cfu_host_step(AT(host), bundle, length, replies + EDGE, 0, AT(longer));
+    CHECK(a.number == CFU_SERVED && a.length == 0 && SAME(host, 0xA5, 7, 1, 0, 0, 0, 5));
+    /* done: the status is not read */
+    memcpy(host + EDGE, ended, sizeof ended);
+    host[EDGE + 2] = 0;
+    r = cfu_host_report(AT(host));
+    CHECK(r.number == CFU_SERVED && r.ending == CFU_DONE && r.status == 0);
+    a = cfu_host_step(AT(host), bundle, length, replies + EDGE, 0, AT(longer));
+    CHECK(a.number == CFU_SERVED && a.length == 0 && SAME(host, 0xA5, 7));
+    EDGES(host), EDGES(longer);
 }
 
 /* E13 by the step that checks the bundle each time and by the one that does not, side by side. */
@@ -361,37 +463,39 @@ static void host_calls(const uint8_t *bundle, size_t length)
     CHECK(packets == 13 && r.number == CFU_SERVED && r.completed == 2 && r.mask == 3 && r.packets == 13 && r.passes == 2);
     CHECK(r.ending == CFU_DONE && r.status == 0);
 
-    /* N1: a record that is none, and one that counts nine BUSY */
+    host_bytes(bundle, length);
+
+    /* N1: bytes that are no record */
     CLEAR(host, 0xFF);
-    CHECK(cfu_host_step(AT(host), bundle, length, replies + EDGE, 16, AT(longer)).number == CFU_N1);
+    CHECK(cfu_host_step(AT(host), bundle, length, replies + EDGE, CFU_SHORT_SIZE, AT(longer)).number == CFU_N1);
     CHECK(FILLED(host, 0xFF) && FILLED(longer, 0));
-    CHECK(cfu_host_step_checked(AT(host), AT(contents), bundle, length, replies + EDGE, 16, AT(longer)).number == CFU_N1);
+    CHECK(cfu_host_step_checked(AT(host), AT(contents), bundle, length, replies + EDGE, CFU_SHORT_SIZE, AT(longer)).number == CFU_N1);
     CHECK(cfu_host_report(AT(host)).packets == 0xFFFFFFFF);
 
     /* H2 to H4 */
     CHECK(cfu_host_fresh(AT(host), 0xA5) == CFU_SERVED);
-    CHECK(cfu_host_step(AT(host), bundle, length, replies + EDGE, 0, AT(longer)).length == 16);
+    CHECK(cfu_host_step(AT(host), bundle, length, replies + EDGE, 0, AT(longer)).length == CFU_SHORT_SIZE);
     CHECK(cfu_host_report(AT(host)).ending == CFU_RUNNING);
-    CHECK(cfu_host_step(AT(host), bundle, length, replies + EDGE, 15, AT(longer)).length == 0);
+    CHECK(cfu_host_step(AT(host), bundle, length, replies + EDGE, CFU_SHORT_SIZE - 1, AT(longer)).length == 0);
     CHECK(cfu_host_report(AT(host)).ending == CFU_H2);
     CHECK(cfu_host_fresh(AT(host), 0xA5) == CFU_SERVED);
-    CHECK(cfu_host_step(AT(host), bundle, length, replies + EDGE, 0, AT(longer)).length == 16);
+    CHECK(cfu_host_step(AT(host), bundle, length, replies + EDGE, 0, AT(longer)).length == CFU_SHORT_SIZE);
     CHECK(cfu_build_offer_reply(0xA5, 0, CFU_OFFER_READY, AT(shorter)) == CFU_SERVED);
     CHECK(cfu_host_step(AT(host), bundle, length, AT(shorter), AT(longer)).length == 0);
     CHECK(cfu_host_report(AT(host)).ending == CFU_H3);
     CHECK(cfu_host_fresh(AT(host), 0xA5) == CFU_SERVED);
-    CHECK(cfu_host_step(AT(host), bundle, length, replies + EDGE, 0, AT(longer)).length == 16);
+    CHECK(cfu_host_step(AT(host), bundle, length, replies + EDGE, 0, AT(longer)).length == CFU_SHORT_SIZE);
     CHECK(cfu_build_offer_reply(0xA5, 0, CFU_OFFER_ACCEPT, AT(shorter)) == CFU_SERVED);
-    CHECK(cfu_host_step(AT(host), bundle, length, AT(shorter), AT(longer)).length == 16);
-    CHECK(cfu_host_step(AT(host), bundle, length, AT(shorter), AT(longer)).length == 16);
+    CHECK(cfu_host_step(AT(host), bundle, length, AT(shorter), AT(longer)).length == CFU_SHORT_SIZE);
+    CHECK(cfu_host_step(AT(host), bundle, length, AT(shorter), AT(longer)).length == CFU_SHORT_SIZE);
     for (unsigned busy = 1; busy <= 9; busy++) {
         CHECK(cfu_host_report(AT(host)).ending == CFU_RUNNING);
         CHECK(cfu_build_offer_reply(0xA5, 0, CFU_OFFER_BUSY, AT(shorter)) == CFU_SERVED);
-        CHECK(cfu_host_step(AT(host), bundle, length, AT(shorter), AT(longer)).length == (busy < 9 ? 16 : 0));
+        CHECK(cfu_host_step(AT(host), bundle, length, AT(shorter), AT(longer)).length == (busy < 9 ? CFU_SHORT_SIZE : 0));
         if (busy == 9)
             break;
         CHECK(cfu_build_offer_reply(0xA5, 0, CFU_OFFER_READY, AT(shorter)) == CFU_SERVED);
-        CHECK(cfu_host_step(AT(host), bundle, length, AT(shorter), AT(longer)).length == 16);
+        CHECK(cfu_host_step(AT(host), bundle, length, AT(shorter), AT(longer)).length == CFU_SHORT_SIZE);
     }
     r = cfu_host_report(AT(host));
     CHECK(r.ending == CFU_H4 && r.packets == 3 + 8 + 8 && r.passes == 1 && r.completed == 0);
@@ -414,13 +518,13 @@ static void host_calls(const uint8_t *bundle, size_t length)
 
     /* C1 and C3 */
     CHECK(cfu_bundle_check(bundle, length, contents + EDGE, CFU_CONTENTS_SIZE - 1).number == CFU_C3);
-    CHECK(cfu_host_fresh(host + EDGE, 23, 0xA5) == CFU_C1);
-    CHECK(cfu_host_step(host + EDGE, 25, bundle, length, replies + EDGE, 0, AT(longer)).number == CFU_C1);
-    CHECK(cfu_host_step(AT(host), bundle, length, replies + EDGE, 0, longer + EDGE, 16).number == CFU_C3);
+    CHECK(cfu_host_fresh(host + EDGE, CFU_HOST_SIZE - 1, 0xA5) == CFU_C1);
+    CHECK(cfu_host_step(host + EDGE, CFU_HOST_SIZE + 1, bundle, length, replies + EDGE, 0, AT(longer)).number == CFU_C1);
+    CHECK(cfu_host_step(AT(host), bundle, length, replies + EDGE, 0, longer + EDGE, CFU_SHORT_SIZE).number == CFU_C3);
     CHECK(cfu_host_step_checked(host + EDGE, 0, AT(contents), bundle, length, replies + EDGE, 0, AT(longer)).number == CFU_C1);
     CHECK(cfu_host_step_checked(AT(host), contents + EDGE, CFU_CONTENTS_SIZE - 1, bundle, length, replies + EDGE, 0, AT(longer)).number == CFU_C1);
-    CHECK(cfu_host_step_checked(AT(host), AT(new_contents), bundle, length, replies + EDGE, 0, longer + EDGE, 59).number == CFU_C3);
-    CHECK(cfu_host_report(host + EDGE, 23).number == CFU_C1);
+    CHECK(cfu_host_step_checked(AT(host), AT(new_contents), bundle, length, replies + EDGE, 0, longer + EDGE, CFU_LONG_SIZE - 1).number == CFU_C3);
+    CHECK(cfu_host_report(host + EDGE, CFU_HOST_SIZE - 1).number == CFU_C1);
 }
 
 int main(int count, char **words)
@@ -435,6 +539,7 @@ int main(int count, char **words)
     fclose(file);
     CHECK(length == 204);
     device_calls();
+    device_bytes();
     packet_calls();
     host_calls(bundle, length);
     printf("%u passed, %u failed\n", passed, failed);

@@ -12,8 +12,11 @@ import subprocess
 import sys
 import tempfile
 
-sys.path.insert(0, os.path.join(os.path.dirname(os.path.abspath(__file__)), "..", "inspect"))
-from make import E12, V120, V130, body, bundle, cases as inspected, image, offer, record, version  # noqa: E402
+HERE = os.path.dirname(os.path.abspath(__file__))
+sys.path += [os.path.join(HERE, ".."), os.path.join(HERE, "..", "inspect")]
+import cfu  # noqa: E402
+from cfu import body, body_record, bundle, image, offer, version  # noqa: E402
+from make import E12, V120, V130, cases as inspected  # noqa: E402
 
 ALL, NOT_ALL, COMMAND_LINE, NO_FILE, BUNDLE, SET_UP, ENDED = 0, 1, 2, 3, 4, 5, 6
 failures = []
@@ -45,38 +48,39 @@ def line(mark, data, words):
     return f"{mark} {data.hex(' ').upper()}  {words}"
 
 
+TOKEN = 0xA5
+
+
 def asked(packet, status, words, answer, reason=0):
-    packet = packet[:3] + bytes([0xA5]) + packet[4:]
-    reply = bytes([0, 0, 0, 0xA5, 0, 0, 0, 0, reason, 0, 0, 0, status, 0, 0, 0])
-    return [line("->", packet, words), line("<-", reply, answer)]
+    return [line("->", packet, words), line("<-", cfu.offer_reply(TOKEN, status, reason), answer)]
 
 
 def information(code, words):
-    return asked(bytes([code, 0, 0xFF, 0]) + bytes(12), 1, f"information: {words}", "ACCEPT")
-
-
-def content(flags, sequence, address, data):
-    packet = bytes([flags, len(data), sequence, 0]) + address.to_bytes(4, "little") + data + bytes(52 - len(data))
-    reply = bytes([sequence]) + bytes(15)
-    return [line("->", packet, f"content: block {sequence + 1}, bytes {len(data)} at address {address}"), line("<-", reply, "taken")]
+    return asked(cfu.information(code, TOKEN), cfu.ACCEPT, f"information: {words}", "ACCEPT")
 
 
 def contents(data):
-    return content(0x80, 0, 0, data[:52]) + content(0x40, 1, 52, data[52:])
+    lines = []
+    for sequence, (address, flags, block) in enumerate(cfu.blocks(data)):
+        lines += [line("->", cfu.content(flags, sequence, address, block), f"content: block {sequence + 1}, bytes {len(block)} at address {address}"),
+                  line("<-", cfu.content_reply(sequence), "taken")]
+    return lines
 
 
-START = information(0, "start entire transaction")
-LIST = information(1, "start offer list")
-END = information(2, "end offer list")
-SKIPPED = asked(OFFER_1, 0, "offer for component 1", "SKIP") + ["  offer 1: SKIP: what it needs is not there"]
+SENT_1 = offer(1, V130, token=TOKEN, need=2, least=V120 >> 8)
+SENT_2 = offer(2, V120, token=TOKEN)
+START = information(cfu.START_ENTIRE_TRANSACTION, "start entire transaction")
+LIST = information(cfu.START_OFFER_LIST, "start offer list")
+END = information(cfu.END_OFFER_LIST, "end offer list")
+SKIPPED = asked(SENT_1, cfu.SKIP, "offer for component 1", "SKIP") + ["  offer 1: SKIP: what it needs is not there"]
 E13_PACKETS = (
     START
     + ["pass 1"] + LIST + SKIPPED
-    + asked(OFFER_2, 1, "offer for component 2", "ACCEPT") + ["  offer 2: ACCEPT"] + contents(image(2, V120)) + ["  offer 2: completed, blocks 2"]
+    + asked(SENT_2, cfu.ACCEPT, "offer for component 2", "ACCEPT") + ["  offer 2: ACCEPT"] + contents(image(2, V120)) + ["  offer 2: completed, blocks 2"]
     + END
     + ["pass 2"] + LIST
-    + asked(OFFER_1, 1, "offer for component 1", "ACCEPT") + ["  offer 1: ACCEPT"] + contents(image(1, V130)) + ["  offer 1: completed, blocks 2"]
-    + asked(OFFER_2, 2, "offer for component 2", "REJECT", 2) + ["  offer 2: REJECT: the component awaits a reset"]
+    + asked(SENT_1, cfu.ACCEPT, "offer for component 1", "ACCEPT") + ["  offer 1: ACCEPT"] + contents(image(1, V130)) + ["  offer 1: completed, blocks 2"]
+    + asked(SENT_2, cfu.REJECT, "offer for component 2", "REJECT", cfu.SWAP_PENDING) + ["  offer 2: REJECT: the component awaits a reset"]
     + END)
 assert sum(text.startswith("->") for text in E13_PACKETS) == 13
 
@@ -206,7 +210,7 @@ def further(command, work, case, refusal, report):
          "ended H1: the device refused a block with status 0x04: the image is for another component", report(0, 1, 5, 1), *BOTH_OLD)
     case("an image below the running version", one(2, V120, body(image(2, version(1, 0, 0)))), ENDED,
          "ended H1: the device refused a block with status 0x07: the image's version is below the running one", report(0, 1, 5, 1), *BOTH_OLD)
-    case("a block past the region", one(2, V120, record(13, bytes(52))), ENDED,
+    case("a block past the region", one(2, V120, body_record(13, bytes(52))), ENDED,
          "ended H1: the device refused a block with status 0x09: the block reaches past the region", report(0, 1, 4, 1), *BOTH_OLD)
 
     # devices that set-up refuses

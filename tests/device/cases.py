@@ -5,45 +5,33 @@ Each case starts with a '#' line that names it and its row in document 01.
 The bench device: platform 0x0042; id 1 at 0x01000200, region 0-63; id 2 at
 0x01000100, region 64-127; staging of 128 bytes.
 """
-import struct
+import os
 import sys
 
-OUT = bytearray()
+sys.path.append(os.path.join(os.path.dirname(os.path.abspath(__file__)), ".."))
+import cfu  # noqa: E402
+from cfu import FIRST, LAST, NO_SESSION as IDLE, STAGING_LIMIT, image, with_crc  # noqa: E402
 
-FIRST, LAST = 0x80, 0x40
 V1 = 0x01000200          # running version of component 1
 V2 = 0x01000100          # running version of component 2
 NEW1 = 0x01000300        # what E2 offers component 1
 NEW2 = 0x01000200        # a newer version for component 2
 TOKEN = 0xA5
-NOTHING = (0, 0, 0, 0)   # an unused slot
 
 
 # ----------------------------------------------------------------- frames
 
-def frame(kind, payload=b''):
-    assert len(payload) <= 255, (kind, len(payload))
-    OUT.append(ord(kind))
-    OUT.append(len(payload))
-    OUT.extend(payload)
-
-
-def case(text):
-    frame('#', ('# ' + text).encode('ascii'))
+script = cfu.Script(cfu.Script.SHORT)
+frame, case = script.frame, script.case
 
 
 def note(text):
-    frame('#', ('## ' + text).encode('ascii'))
+    script.text('## ' + text)
 
 
-def setup(components, lent=128, platform=0x0042, count=None):
+def setup(components, lent=128, platform=cfu.PLATFORM, count=None):
     """components: (id, running version, base, length)."""
-    count = len(components) if count is None else count
-    slots = list(components) + [NOTHING] * (7 - len(components))
-    payload = struct.pack('<HIB', platform, lent, count)
-    for slot in slots[:7]:
-        payload += struct.pack('<BIII', *slot)
-    frame('S', payload)
+    frame('S', cfu.DEVICE.pack(platform, lent, len(components) if count is None else count) + cfu.setup_list(components))
 
 
 BENCH = [(1, V1, 0, 64), (2, V2, 64, 64)]
@@ -66,54 +54,35 @@ def show():
 
 
 def lend(number):
-    frame('L', struct.pack('<I', number))
+    frame('L', number.to_bytes(4, 'little'))
 
 
 def staging(offset, count):
-    frame('B', struct.pack('<IB', offset, count))
+    frame('B', offset.to_bytes(4, 'little') + bytes([count]))
 
 
 def fill(value):
     frame('F', bytes([value]))
 
 
-IDLE = (0, 0, 0, 0)
-
-
 def offered(slot, token=TOKEN):
-    return (1, slot, token, 0)
+    return (cfu.OFFERED, slot, token, 0)
 
 
 def receiving(slot, token=TOKEN, next_one=1):
-    return (2, slot, token, next_one)
+    return (cfu.RECEIVING, slot, token, next_one)
 
 
-def record(components, stage=IDLE, owed=None, staged=None, lent=128,
-           platform=0x0042, count=None, lends=True):
+def record(components, stage=IDLE, lent=128, lends=True, **fields):
     """components as in setup; staged: {slot: version}. The staging buffer
     is lent at the record's length, unless the case has its own."""
     if lends:
         lend(lent)
-    count = len(components) if count is None else count
-    staged = staged or {}
-    payload = struct.pack('<HIB', platform, lent, count)
-    payload += struct.pack('<BBBH', *stage)
-    payload += bytes([0, 0]) if owed is None else bytes([1, owed])
-    slots = list(components) + [NOTHING] * (7 - len(components))
-    for number, slot in enumerate(slots[:7]):
-        payload += struct.pack('<BIII', *slot)
-        if number in staged:
-            payload += struct.pack('<BI', 1, staged[number])
-        else:
-            payload += struct.pack('<BI', 0, 0)
-    frame('K', payload)
+    frame('K', cfu.device_record(components, lent, stage, **fields))
 
 
-def offer_bytes(component, version, token=TOKEN, segment=0, flags=0, need=(0, 0),
-                protocol=2, byte13=0, platform=0x0042):
-    return (bytes([segment, flags, component, token]) + struct.pack('<I', version)
-            + bytes([need[0]]) + struct.pack('<I', need[1])[:3]
-            + bytes([protocol, byte13]) + struct.pack('<H', platform))
+def offer_bytes(component, version, token=TOKEN, need=(0, 0), **fields):
+    return cfu.offer(component, version, token, need=need[0], least=need[1], **fields)
 
 
 def offer(component, version, **fields):
@@ -121,56 +90,28 @@ def offer(component, version, **fields):
 
 
 def information(code, token=0x11, rest=0):
-    frame('O', bytes([code, rest, 0xFF, token]) + bytes([rest]) * 12)
+    frame('O', cfu.information(code, token, rest))
 
 
 def extended(code, token=0x22, rest=0):
-    frame('O', bytes([code, rest, 0xFE, token]) + bytes([rest]) * 12)
+    frame('O', cfu.extended(code, token, rest))
 
 
 def notify(token):
-    extended(1, token)
+    extended(cfu.NOTIFY_ON_READY, token)
 
 
-def content_bytes(flags, sequence, address, data=b'', length=None, pad=0):
-    length = len(data) if length is None else length
-    data = bytes(data[:52])
-    return (struct.pack('<BBHI', flags, length, sequence, address)
-            + data + bytes([pad]) * (52 - len(data)))
-
-
-def content(flags, sequence, address, data=b'', length=None, pad=0):
-    frame('C', content_bytes(flags, sequence, address, data, length, pad))
+def content(*fields, **more):
+    frame('C', cfu.content(*fields, **more))
 
 
 def block(flags, sequence, address, length):
     """A block whose data is 1, 2, 3 .."""
-    data = bytes((i + 1) % 256 for i in range(min(length, 52)))
+    data = bytes((i + 1) % 256 for i in range(min(length, cfu.DATA_SIZE)))
     content(flags, sequence, address, data, length)
 
 
 # ----------------------------------------------------------------- images
-
-def crc(data, start=0):
-    value = start
-    for byte in data:
-        value ^= byte << 8
-        for _ in range(8):
-            value = (value << 1) ^ (0x1021 if value & 0x8000 else 0)
-            value &= 0xFFFF
-    return value
-
-
-assert crc(b'123456789') == 0x31C3
-assert crc(b'123456789', 0xFFFF) == 0x29B1
-
-
-def image(component, version, length=64):
-    body = bytearray((37 * i + 11) % 256 for i in range(length - 2))
-    body[0:4] = struct.pack('<I', version)
-    body[4] = component
-    return bytes(body) + struct.pack('>H', crc(body))
-
 
 def damaged(whole, at=20):
     out = bytearray(whole)
@@ -179,11 +120,9 @@ def damaged(whole, at=20):
 
 
 def send(whole, sequence=0):
-    """An image as records of at most 52 bytes."""
-    places = list(range(0, len(whole), 52))
-    for number, at in enumerate(places):
-        flags = (FIRST if number == 0 else 0) | (LAST if at == places[-1] else 0)
-        content(flags, (sequence + number) % 65536, at, whole[at:at + 52])
+    """An image as blocks."""
+    for number, (at, flags, data) in enumerate(cfu.blocks(whole)):
+        content(flags, (sequence + number) % 65536, at, data)
 
 
 def offered_for_1(token=TOKEN):
@@ -272,17 +211,17 @@ show()
 # ------------------------------------------------------------ set-up: S1
 
 case('S1: staging of 65,536 bytes is served')
-setup(BENCH, lent=65536)
+setup(BENCH, lent=STAGING_LIMIT)
 show()
 case('S1: staging of 65,537 bytes')
-setup(BENCH, lent=65537)
+setup(BENCH, lent=STAGING_LIMIT + 1)
 show()
 case('S1: staging of 65,600 bytes')
 setup(BENCH, lent=65600)
 case('S1 before S2, S3 and S4: all four faults at once')
-setup([(0, V1, 70000, 1)] * 7, lent=65537, count=0)
+setup([(0, V1, 70000, 1)] * 7, lent=STAGING_LIMIT + 1, count=0)
 case('S1 before S4: staging too long and a region too short')
-setup([(1, V1, 0, 7)], lent=65537)
+setup([(1, V1, 0, 7)], lent=STAGING_LIMIT + 1)
 
 # ------------------------------------------------------------ set-up: S2
 
@@ -374,10 +313,10 @@ setup([(1, V1, 64, 0xFFFFFFC0)])
 case('S4: base 0xFFFFFFFF and length 0xFFFFFFFF')
 setup([(1, V1, 0xFFFFFFFF, 0xFFFFFFFF)])
 case('S4: the whole of 65,536 bytes is one region: served')
-setup([(1, V1, 0, 65536)], lent=65536)
+setup([(1, V1, 0, STAGING_LIMIT)], lent=STAGING_LIMIT)
 show()
 case('S4: 65,536 bytes, a region of 65,537')
-setup([(1, V1, 0, 65537)], lent=65536)
+setup([(1, V1, 0, STAGING_LIMIT + 1)], lent=STAGING_LIMIT)
 case('S4: regions that touch are served')
 setup([(1, V1, 0, 64), (2, V2, 64, 64)])
 case('S4: regions that overlap by one byte')
@@ -459,9 +398,9 @@ def d1(words, *args, **fields):
 
 
 d1('none of it: the idle bench record is served', BENCH)
-d1('state breaks S1: staging 65,537 bytes', BENCH, lent=65537)
+d1('state breaks S1: staging 65,537 bytes', BENCH, lent=STAGING_LIMIT + 1)
 case('D1: staging 65,536 bytes is served')
-record(BENCH, lent=65536)
+record(BENCH, lent=STAGING_LIMIT)
 every_entry()
 case('D1: state breaks S1, and D2 too: staging 0xFFFFFFFF')
 lend(128)
@@ -550,7 +489,7 @@ for number in [0, 1, 15, 17, 60, 255, 16]:
     show()
 
 case('D3: content reports of 0, 1, 16, 59, 60, 61 and 255 bytes')
-LONG_CONTENT = content_bytes(FIRST, 3, 0, b'\x01\x02\x03\x04') + b'\x00' * 195
+LONG_CONTENT = cfu.content(FIRST, 3, 0, b'\x01\x02\x03\x04') + b'\x00' * 195
 for number in [0, 1, 16, 59, 61, 255, 60]:
     fill(0xA5)
     offered_for_1()
@@ -587,7 +526,7 @@ offer(1, NEW1, platform=0x0041)
 offer(1, NEW1, segment=1)
 offer(1, V1)
 offer(1, NEW1, need=(9, 1))
-offer(0, 0, token=0, segment=9, flags=0xFF, need=(9, 9), protocol=0, byte13=9, platform=9)
+offer(0, 0, token=0, segment=9, flags=0xFF, need=(9, 9), protocol=0, reserved=9, platform=9)
 show()
 
 for number in [0, 1, 2, 3, 4, 15]:
@@ -787,7 +726,7 @@ send(image(1, NEW1))
 show()
 case('offer: reserved bits are ignored: byte 1 = 0x3F, byte 13 = 0xFF, byte 12 = 0xA2')
 bench()
-offer(1, NEW1, flags=0x3F, byte13=0xFF, protocol=0xA2)
+offer(1, NEW1, flags=0x3F, reserved=0xFF, protocol=0xA2)
 show()
 
 # ------------------------------------------------------------ information
@@ -1002,7 +941,7 @@ show()
 staging(0, 66)
 case('content 5: a region of 65,536 bytes: the last 52 bytes, and one further')
 fill(0xA5)
-setup([(1, V1, 0, 65536)], lent=65536)
+setup([(1, V1, 0, STAGING_LIMIT)], lent=STAGING_LIMIT)
 offer(1, NEW1)
 block(FIRST, 0, 65485, 52)
 staging(65472, 96)
@@ -1012,7 +951,7 @@ staging(65472, 96)
 staging(0, 8)
 case('content 5: a region at the end of 65,536 bytes')
 fill(0xA5)
-setup([(1, V1, 65472, 64)], lent=65536)
+setup([(1, V1, STAGING_LIMIT - 64, 64)], lent=STAGING_LIMIT)
 offer(1, NEW1)
 block(FIRST, 0, 60, 5)
 block(FIRST, 0, 60, 4)
@@ -1093,10 +1032,6 @@ def judged(words, whole, component=1, version=NEW1):
     staging(0, 130)
 
 
-def with_crc(body):
-    return bytes(body) + struct.pack('>H', crc(body))
-
-
 GOOD1 = image(1, NEW1)
 GOOD2 = image(2, NEW2)
 judged('good, component 1', GOOD1)
@@ -1108,7 +1043,7 @@ judged('wrong CRC: its high byte: 0x05', damaged(GOOD1, 62))
 judged('wrong CRC: its low byte: 0x05', damaged(GOOD1, 63))
 judged('wrong CRC: low byte first: 0x05', GOOD1[:62] + GOOD1[:61:-1])
 judged('wrong CRC: started at 0xFFFF: 0x05',
-       GOOD1[:62] + struct.pack('>H', crc(GOOD1[:62], 0xFFFF)))
+       with_crc(GOOD1[:62], 0xFFFF))
 judged('wrong id 0: 0x04', image(0, NEW1))
 judged('wrong id 2: 0x04', image(2, NEW1))
 judged('wrong id 0x81: 0x04', image(0x81, NEW1))
@@ -1424,4 +1359,4 @@ reset()
 show()
 version_reply()
 
-sys.stdout.buffer.write(OUT)
+script.write()

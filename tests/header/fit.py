@@ -7,6 +7,7 @@ Prints each misfit and ends with status 1; ends with status 0 and one line where
 so nothing in it stands unchecked.
 """
 import glob
+import itertools
 import os
 import re
 import sys
@@ -25,46 +26,65 @@ def files(*patterns):
     return "\n".join(open(name, encoding="utf-8").read() for name in names)
 
 
-def values(pairs):
-    """Names with expressions over numbers, + and *, and one another, as names with numbers."""
+def evaluated(expression, value):
+    """The number of an expression over numbers, + and *, and names with a value."""
+    total = 0
+    for term in expression.split("+"):
+        product = 1
+        for factor in map(str.strip, term.split("*")):
+            product *= int(factor.replace("_", ""), 0) if factor[:1].isdigit() else value(factor)
+        total += product
+    return total
+
+
+def values(pairs, below=None):
+    """Names with expressions over one another, and over names that stand below with their numbers, as names with numbers."""
     known = {}
 
     def value(name):
+        if name not in pairs:
+            return below[name]
         if name not in known:
-            known[name] = sum(product(term) for term in pairs[name].split("+"))
+            known[name] = evaluated(pairs[name], value)
         return known[name]
 
-    def product(term):
-        out = 1
-        for factor in term.split("*"):
-            factor = factor.strip()
-            out *= int(factor.replace("_", ""), 0) if factor[:1].isdigit() else value(factor)
-        return out
-
-    for name in pairs:
-        value(name)
-    return known
+    return {name: value(name) for name in pairs}
 
 
 # What is proved
 
-def spec_constants(*rooms):
-    """The numbers that specs/ declares, with _ for -."""
-    text = files(*(f"{room}/specs/*.antt" for room in rooms))
+def spec_pairs(crate):
+    """The constants that specs/ declares, with _ for -, each with its expression."""
     pairs = {}
-    for name, expression in re.findall(r"^abbrev pub ([A-Z][A-Z0-9-]*) : ℕ\n\1 = ([^\n]+)$", text, re.M):
+    for name, expression in re.findall(r"^abbrev pub ([A-Z][A-Z0-9-]*) : ℕ\n\1 = ([^\n]+)$", files(f"{crate}/specs/*.antt"), re.M):
         if re.fullmatch(r"[A-Z0-9a-fx\-_+* ]+", expression):
             pairs[name.replace("-", "_")] = expression.replace("-", "_")
-    return values(pairs)
+    return pairs
 
 
-def source_constants(*rooms):
-    text = files(*(f"{room}/src/*.rt" for room in rooms))
-    return values(dict(re.findall(r"^(?:pub(?:\(crate\))? )?const ([A-Z0-9_]+): \w+ = ([0-9A-Za-z_+* ]+);$", text, re.M)))
+def source_pairs(crate):
+    return dict(re.findall(r"^(?:pub(?:\(crate\))? )?const ([A-Z0-9_]+): \w+ = ([0-9A-Za-z_+* ]+);$", files(f"{crate}/src/*.rt"), re.M))
+
+
+PLACES = {"specs": spec_pairs, "src": source_pairs}
+# The crates whose constants others name.
+LIMITS = ("wire", "device_component", "bundle_layout")
+
+
+def constants(place, *patterns):
+    """The numbers that crates declare at a place; each crate has names of its own, and those of the limits."""
+    pairs = PLACES[place]
+    limits = {}
+    for crate in LIMITS:
+        limits.update(values(pairs(crate)))
+    out = {}
+    for crate in sorted(os.path.basename(path) for pattern in patterns for path in glob.glob(os.path.join(TOP, "crates", pattern))):
+        out.update(limits if crate in LIMITS else values(pairs(crate), limits))
+    return out
 
 
 def variants(name):
-    """The rows that an enum of some room names."""
+    """The rows that an enum of some crate names."""
     found = re.findall(r"^pub enum " + name + r" \{\n(.*?)^\}", files("*/src/*.rt"), re.M | re.S)
     if len(found) != 1:
         misfit(f"enum {name}: declared {len(found)} times")
@@ -72,7 +92,7 @@ def variants(name):
     return re.findall(r"^    ([A-Z]\d+),", found[0], re.M)
 
 
-# The rooms that say what a lent buffer holds.
+# The crates that say what a lent buffer holds.
 LENT = ("c_*", "*_bytes")
 
 NUMBERS = files("c_types/specs/Numbers.antt")
@@ -87,21 +107,30 @@ def found(pattern, text):
     return int(match.group(1), 0)
 
 
+def letter_of(function, letter, entry):
+    """The letter of a row's number: the definition adds it to the row's own number."""
+    named = re.search(rf"^{function} \(\w+\.{letter} k{entry}\) = (ROW-\w) \+ k$", NUMBERS, re.M)
+    if named is None:
+        misfit(f"specs/Numbers.antt: {function} of {letter} is no letter and a number")
+        return 0
+    return found(rf"^{named.group(1)} = (0x[0-9A-F]+)$", NUMBERS)
+
+
 def row_numbers():
-    """The rows, each with its number by specs/Numbers.antt."""
+    """The rows, each with its letter by specs/Numbers.antt and its number by its own name."""
     out = {}
-    for enum, function, letter in (("Verdict", "packetNumber", "P"), ("SetupVerdict", "setupNumber", "S"), ("Refusal", "deviceNumber", "D"),
-                                   ("BundleVerdict", "bundleNumber", "B"), ("StepRefusal", "stepNumber", "N")):
-        base = found(rf"^{function} \(\w+\.{letter} k(?: entry)?\) = (0x[0-9A-F]+) \+ k$", NUMBERS)
+    for enum, function, letter, entry in (("Verdict", "packetNumber", "P", ""), ("SetupVerdict", "setupNumber", "S", ""), ("Refusal", "deviceNumber", "D", ""),
+                                          ("BundleVerdict", "bundleNumber", "B", " entry"), ("StepRefusal", "stepNumber", "N", "")):
+        base = letter_of(function, letter, entry)
         rows = variants(enum)
         if not rows:
             misfit(f"enum {enum} names no row")
         for row in rows:
             out[row] = base + int(row[1:])
-    if found(r"^stepNumber \(\w+\.B k entry\) = (0x[0-9A-F]+) \+ k$", NUMBERS) != out["B1"] - 1:
+    if letter_of("stepNumber", "B", " entry") != out["B1"] - 1:
         misfit("specs/Numbers.antt: the step gives a bundle's rows other numbers than the check does")
-    for row, number in re.findall(r"^endingNumber \(?(H\d)[^=\n]* = (0x[0-9A-F]+)$", NUMBERS, re.M):
-        out[row] = int(number, 0)
+    for row, number in re.findall(r"^numberOf \(?(H\d)[^=\n]* = (\d+)$", files("host_record/specs/Record.antt"), re.M):
+        out[row] = found(r"^ROW-H = (0x[0-9A-F]+)$", NUMBERS) + int(number)
     return out
 
 
@@ -112,7 +141,7 @@ def expected_numbers():
     def say(name, place, number):
         out.setdefault(name, []).append((place, number))
 
-    lent = spec_constants(*LENT)
+    lent = constants("specs", *LENT)
     for name in ("DEVICE_SIZE", "LIST_SIZE", "HOST_SIZE", "CONTENTS_SIZE", "REPLIES_SIZE", "SHORT_SIZE", "LONG_SIZE", "DATA_SIZE", "COMPONENTS_SIZE", "SERVED"):
         say(name, "specs", lent[name])
     own = {"C1": "WRONG_RECORD", "C2": "WRONG_LIST", "C3": "WRONG_OUTPUT"}
@@ -125,15 +154,15 @@ def expected_numbers():
     for name, pattern in (("OFFER", r"Row\.served \(kind\.offer o\)"), ("INFORMATION", r"Row\.served \(kind\.information s\)"),
                           ("EXTENDED", r"Row\.served \(kind\.extended s\)"), ("NONE", r"\(P k\) any")):
         say(f"KIND_{name}", "specs/Read.antt", found(rf"^packetOf {pattern} = record \{{ [^}}]*kind = (\d+);", READ))
-    for place, read in (("specs", spec_constants), ("src", source_constants)):
-        limits = read("component", "layout")
+    for place, pairs in PLACES.items():
+        limits = constants(place, *LIMITS)
         for name in ("STAGING_LIMIT", "BUNDLE_LIMIT", "COMPONENT_LIMIT", "OFFER_LIMIT", "REGION_LEAST"):
             say(name, place, limits[name])
-        for name, number in read("wire").items():
+        for name, number in values(pairs("wire")).items():
             if not name.startswith("KIND_") and not name.endswith("BITS"):
                 say(name, f"wire, {place}", number)
     aliases = {theirs: name for name, theirs in own.items()}
-    for name, number in source_constants(*LENT).items():
+    for name, number in constants("src", *LENT).items():
         name = aliases.get(name, name)
         letter = re.fullmatch(r"ROW_([A-Z])", name)
         if letter:
@@ -143,26 +172,50 @@ def expected_numbers():
     return out
 
 
-# Places and sizes that the header's comments give, and the constants that they are
+# Places and sizes that the header's comments give, with the crate and the constants that they are. Of the fields of a component the comments give the widths:
+# each field ends where the sum of the widths says.
 
+FIELDS = r"id \((\d)\), running version \((\d)\), region base \((\d)\), region[ *\n]+length \((\d)\), "
 LAYOUTS = (
-    (r"the list that set-up takes: seven times (\d+) ", ["LISTED_SIZE"]),
-    (r"the components of a version reply: seven times (\d+) ", ["RUNNING_SIZE"]),
-    (r"\n \* +(\d+)  seven times (\d+) bytes: id \(1\), running version", ["PARTS_START", "PART_SIZE"]),
-    (r"the 16 bytes of the bundle at (\d+) \+ (\d+) i", ["HEAD", "ENTRY"]),
-    (r"\n \* +(\d+)  seven times (\d+) bytes: body offset \(4\)", ["BODIES_START", "BODY_SIZE"]),
-    (r"\n \* +(\d+)  the block that the cursor is kept for: ", ["HAND_START"]),
-    (r"\n \* +(\d+)  the host's cursor \(8\)", ["CURSOR_START"]),
+    (r"the list that set-up takes: seven times (\d+) ", "device_bytes", ["LISTED_SIZE"]),
+    (r"(\d+)  platform \(2\)", "device_bytes", ["PLATFORM_AT"]),
+    (r"(\d+)  staging length at set-up \(4\)", "device_bytes", ["STAGING_LEN_AT"]),
+    (r"(\d+)  count of components \(1\)", "device_bytes", ["COUNT_AT"]),
+    (r"(\d+)  stage \(1\): 0 idle", "device_bytes", ["STAGE_AT"]),
+    (r"(\d+)  slot \(1\): .*; (\d+) token \(1\), (\d+) next sequence \(2\)", "device_bytes", ["STAGE_AT + 1", "STAGE_AT + 2", "STAGE_AT + 3"]),
+    (r"(\d+)  owed ready-reply \(1\): .*; (\d+) its token \(1\)", "device_bytes", ["OWED_AT", "OWED_AT + 1"]),
+    (r"(\d+)  seven times (\d+) bytes: id \(1\), running version", "device_bytes", ["COMPONENTS_START", "COMPONENT_SIZE"]),
+    (r"byte (\d+) \+ (\d+) i \+ (\d+) tells whether", "device_bytes", ["COMPONENTS_START", "COMPONENT_SIZE", "STAGED_AT"]),
+    (r"the components of a version reply: seven times (\d+) ", "c_version", ["RUNNING_SIZE"]),
+    (r"the 16 bytes of the bundle at (\d+) \+ (\d+) i", "bundle_layout", ["HEAD", "ENTRY"]),
+    (r"(\d+)  row \(1\): .*; (\d+) the entry that it names \(1\)", "host_bytes", ["ROW_AT", "ENTRY_AT"]),
+    (r"(\d+)  count of offers \(1\)", "host_bytes", ["COUNT_AT"]),
+    (r"(\d+)  seven times (\d+) bytes: body offset \(4\)", "host_bytes", ["BODIES_START", "BODY_SIZE"]),
+    (r"(\d+)  the block that the cursor is kept for: its entry \(4\), and (\d+) its number", "host_bytes", ["HAND_START", "HAND_START + 4"]),
+    (r"(\d+)  the host's cursor \(8\)", "host_bytes", ["CURSOR_START"]),
+    (r"(\d+)  token \(1\)\n \* +(\d+)  stage \(1\): 0 fresh", "host_bytes", ["TOKEN_AT", "STAGE_START"]),
+    (r"(\d+)  \(4\) and (\d+) \(4\): entry and its BUSY replies", "host_bytes", ["FIRST_AT", "SECOND_AT"]),
+    (r"(\d+)  mask of completed offers \(4\), (\d+) packets \(4\), (\d+) passes \(4\)", "host_bytes", ["MASK_AT", "PACKETS_AT", "PASSES_AT"]),
+    (r"(\d+)  this pass had a SKIP \(1\), (\d+) a completed image \(1\)", "host_bytes", ["SKIPPED_AT", "LANDED_AT"]),
+    (r"a byte (\d+) or (\d+) over 1 ", "host_bytes", ["SKIPPED_AT", "LANDED_AT"]),
+)
+WIDTHS_OF = (
+    (r"bytes: " + FIELDS + r"staged \((\d)\): .*; staged version \((\d)\)", "device_bytes",
+     ["RUNNING_AT", "REGION_AT", "REGION_AT + 4", "STAGED_AT", "STAGED_AT + 1", "COMPONENT_SIZE"]),
+    (r"list: seven times " + FIELDS + "CFU_LIST_SIZE", "device_bytes", ["RUNNING_AT", "REGION_AT", "REGION_AT + 4", "LISTED_SIZE"]),
 )
 
 
 def hold_layouts(text):
-    known = spec_constants(*LENT, "layout")
-    for pattern, names in LAYOUTS:
-        match = re.search(pattern, text)
-        given = [int(number) for number in match.groups()] if match else None
-        if given != [known[name] for name in names]:
-            misfit(f"{', '.join(names)}: the header's comment has {given}, specs has {[known[name] for name in names]}")
+    layouts = [(layout, list) for layout in LAYOUTS] + [(layout, lambda widths: list(itertools.accumulate(widths))) for layout in WIDTHS_OF]
+    for (pattern, crate, names), places in layouts:
+        matches = list(re.finditer(pattern, text))
+        given = places(map(int, matches[0].groups())) if len(matches) == 1 else None
+        for place in PLACES:
+            known = constants(place, crate)
+            expected = [evaluated(name, known.__getitem__) for name in names]
+            if given != expected:
+                misfit(f"{', '.join(names)}: the header's comment has {given}, {place} of {crate} has {expected}")
 
 
 # What the header declares, and what crates/c_api/src exports with the structs of crates/c_types/src, in C's words

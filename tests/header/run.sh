@@ -36,14 +36,17 @@ slip "a function left out" '/^uint32_t cfu_device_reset(/d' cfu_device_reset
 slip "a field's width" 's/^    uint16_t minor;/    uint8_t minor;/' cfu_version
 slip "a field left out" '/^    uint32_t mask;/d' cfu_report
 slip "two fields exchanged" 's/^    uint8_t reason;/    uint8_t status;/;t;s/^    uint8_t status;/    uint8_t reason;/' cfu_offer_reply
-slip "a size" 's/^#define CFU_DEVICE_SIZE 140/#define CFU_DEVICE_SIZE 141/' CFU_DEVICE_SIZE
+slip "a size" 's/^#define CFU_DEVICE_SIZE [0-9]*/&1/' CFU_DEVICE_SIZE
 slip "a row's number" 's/^#define CFU_B7 0x4207/#define CFU_B7 0x4208/' CFU_B7
 slip "an end's number" 's/^#define CFU_H4 0x4804/#define CFU_H4 4/' CFU_H4
 slip "a code of CFU" 's/^#define CFU_OFFER_BUSY 3/#define CFU_OFFER_BUSY 4/' CFU_OFFER_BUSY
-slip "a limit" 's/^#define CFU_STAGING_LIMIT 65536/#define CFU_STAGING_LIMIT 65535/' CFU_STAGING_LIMIT
+slip "a limit" 's/^#define CFU_STAGING_LIMIT [0-9]*/&1/' CFU_STAGING_LIMIT
 slip "a kind" 's/^#define CFU_KIND_EXTENDED 3/#define CFU_KIND_EXTENDED 2/' CFU_KIND_EXTENDED
-slip "a place in a record" 's/^ \*    14  seven times 18 bytes/ *    14  seven times 19 bytes/' PART_SIZE
-slip "a place in the contents" 's/^ \*    87  the block that/ *    86  the block that/' HAND_START
+slip "a component's size in a record" 's/\( seven times [0-9]*\)\( bytes: id (1)\)/\11\2/' COMPONENT_SIZE
+slip "a place in a device's record" 's/^\( \* *[0-9]*\)\(  owed ready-reply\)/\11\2/' OWED_AT
+slip "a width in a device's record" 's/region base ([0-9])/region base (2)/' REGION_AT
+slip "a place in a host's record" 's/^\( \* *[0-9]*\)\(  mask of\)/\11\2/' MASK_AT
+slip "a place in the contents" 's/^\( \* *[0-9]*\)\(  the block that\)/\11\2/' HAND_START
 slip "a number left out" '/^#define CFU_ERROR_CRC /d' CFU_ERROR_CRC
 slip "a number that nothing has" 's/^#define CFU_SERVED 0/&\n#define CFU_B9 0x4209/' CFU_B9
 slip "a declaration that nothing has" 's/^uint32_t cfu_host_fresh(/int spare;\n&/' "int spare"

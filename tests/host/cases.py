@@ -3,55 +3,49 @@
 
 Each case starts with a '#' line that names it and its row in document 01. The bundle is E12's: two offers, each body records of 52 and 12 bytes.
 """
-import struct
+import os
 import sys
 
-OUT = bytearray()
+sys.path.append(os.path.join(os.path.dirname(os.path.abspath(__file__)), ".."))
+import cfu  # noqa: E402
+from cfu import ACCEPT, BUSY, READY, REJECT, SKIP  # noqa: E402
+from cfu import DONE, H1, H2, H3, H4  # noqa: E402
+from cfu import HOST_CLOSING as CLOSING, HOST_ENDED as ENDED, HOST_FRESH as FRESH, HOST_LISTING as LISTING  # noqa: E402
+from cfu import HOST_OFFERING as OFFERING, HOST_OPENING as OPENING, HOST_SENDING as SENDING, HOST_WAITING as WAITING  # noqa: E402
+from cfu import bundle, content_reply  # noqa: E402
+
 TOKEN = 0xA5
-FRESH, OPENING, LISTING, OFFERING, WAITING, SENDING, CLOSING, ENDED = range(8)
-DONE, H1, H2, H3, H4 = range(5)
-SKIP, ACCEPT, REJECT, BUSY, READY = range(5)
+script = cfu.Script(cfu.Script.LONG)
+case = script.case
 
 
 # ----------------------------------------------------------------- frames
 
-def frame(kind, payload):
-    OUT.extend(struct.pack('<cH', kind.encode(), len(payload)) + payload)
-
-
-def case(text):
-    frame('#', ('# ' + text).encode('ascii'))
-
-
 def over(bundle):
-    frame('B', bundle)
+    script.frame('B', bundle)
 
 
 def fresh(token=TOKEN):
-    frame('F', bytes([token]))
+    script.frame('F', bytes([token]))
 
 
-def record(stage, a=0, b=0, mask=0, packets=9, passes=1, skipped=0, landed=0, token=TOKEN):
-    frame('K', struct.pack('<BBIIIIIBB', token, stage, a, b, mask, packets, passes, skipped, landed))
+def record(stage, a=0, b=0, packets=9, passes=1, token=TOKEN, **fields):
+    script.frame('K', cfu.host_record(token, stage, a, b, packets=packets, passes=passes, **fields))
 
 
 def step(reply=b''):
-    frame('R', reply)
+    script.frame('R', reply)
 
 
 # ---------------------------------------------------------------- replies
 
-def offer_reply(status, reason=0, token=TOKEN):
-    return bytes([0, 0, 0, token, 0, 0, 0, 0, reason, 0, 0, 0, status, 0, 0, 0])
+def offer_reply(status, token=TOKEN):
+    return cfu.offer_reply(token, status)
 
 
 def answer(*statuses):
     for status in statuses:
         step(offer_reply(status))
-
-
-def content_reply(sequence, status=0):
-    return struct.pack('<HHB', sequence, 0, status) + bytes(11)
 
 
 def blocks(*sequences):
@@ -61,30 +55,16 @@ def blocks(*sequences):
 
 # ---------------------------------------------------------------- bundles
 
-def body(*sizes):
-    at, out = 0, b''
-    for size in sizes:
-        out += struct.pack('<IB', at, size) + bytes((37 * i + 11) % 256 for i in range(at, at + size))
-        at += size
-    return out
-
-
 def offer(component, *sizes):
-    return (bytes([0, 0, component, 0, 0, 3, 0, 1]) + bytes([0, 0, 0, 0, 2, 0, 0x42, 0]), body(*sizes))
+    """An offer with a body of records of these sizes, one behind the other."""
+    ends = [sum(sizes[:i + 1]) for i in range(len(sizes))]
+    records = (cfu.body_record(end - size, cfu.filling(end - size, end)) for size, end in zip(sizes, ends))
+    return cfu.offer(component, cfu.version(1, 3)), b''.join(records)
 
 
-def bundle(*offers):
-    at = 8 + 24 * len(offers)
-    table, bodies = b'', b''
-    for fields, data in offers:
-        table += fields + struct.pack('<II', at + len(bodies), len(data))
-        bodies += data
-    return bytes([len(offers), 1]) + bytes(6) + table + bodies
-
-
-TWO = bundle(offer(1, 52, 12), offer(2, 52, 12))
-SEVEN = bundle(*(offer(k, k) for k in range(1, 8)))
-NONE = bytes([0, 1]) + bytes(6)
+TWO = bundle([offer(1, 52, 12), offer(2, 52, 12)])
+SEVEN = bundle([offer(k, k) for k in range(1, 8)])
+NONE = bundle([])
 MORE = TWO + bytes(1)
 
 STAGES = [('opening', OPENING), ('listing', LISTING), ('offering', OFFERING), ('waiting', WAITING), ('closing', CLOSING)]
@@ -289,7 +269,7 @@ step()
 # --------------------------------------------------------- refused bundles
 
 for name, bad in [('B1', TWO[:7]), ('B2', TWO[:7] + b'\x01' + TWO[8:]), ('B3', NONE), ('B4', TWO[:55]), ('B5', TWO[:35] + b'\x01' + TWO[36:]),
-                  ('B6', bundle(offer(1, 52), offer(1, 52))), ('B7', MORE), ('B8', bundle(offer(1, 52), offer(2, 53)))]:
+                  ('B6', bundle([offer(1, 52), offer(1, 52)])), ('B7', MORE), ('B8', bundle([offer(1, 52), offer(2, 53)]))]:
     case('a refused bundle: %s' % name)
     over(bad)
     fresh()
@@ -312,4 +292,4 @@ case('the same record over a bundle that is served again')
 over(TWO)
 answer(ACCEPT)
 
-sys.stdout.buffer.write(bytes(OUT))
+script.write()

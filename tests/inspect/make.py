@@ -7,72 +7,21 @@ make.py e12    writes the bundle of E12, in E13's first order, to standard outpu
 import os
 import sys
 
-LIMIT = 65536  # bytes in a bundle, and in the program's buffer
+sys.path.append(os.path.join(os.path.dirname(os.path.abspath(__file__)), ".."))
+import cfu  # noqa: E402
+from cfu import BUNDLE_LIMIT as LIMIT, body, body_record as record, bundle, image, offer, version  # noqa: E402
 
-
-# Numbers and checksums
 
 def little(value, size):
     return value.to_bytes(size, "little")
 
 
-def version(major, minor, variant):
-    return variant + (minor << 8) + (major << 24)
-
-
-def crc(data):
-    """CRC-16/XMODEM: polynomial 0x1021, start 0, no reflection, no final change."""
-    value = 0
-    for byte in data:
-        value ^= byte << 8
-        for _ in range(8):
-            value = (value << 1 ^ 0x1021 if value & 0x8000 else value << 1) & 0xFFFF
-    return value
-
-
-assert crc(b"123456789") == 0x31C3
-
-
-# The parts of a bundle
-
-def image(component, number, size=64):
-    """Version, component, free bytes that depend on their place, CRC with the high byte first."""
-    data = bytearray((37 * i + 11) % 256 for i in range(size))
-    data[0:4] = little(number, 4)
-    data[4] = component
-    data[size - 2:] = crc(data[:size - 2]).to_bytes(2, "big")
-    assert data[size - 2] != data[size - 1], "a CRC that reads the same both ways shows nothing"
-    return bytes(data)
-
-
-def record(address, data):
-    return little(address, 4) + bytes([len(data)]) + data
-
-
-def body(data, size=52):
-    return b"".join(record(i, data[i:i + size]) for i in range(0, len(data), size))
-
-
-def offer(component, number, need=0, least=0, platform=0x0042):
-    return (bytes([0, 0, component, 0]) + little(number, 4) + bytes([need]) + little(least, 3)
-            + bytes([2, 0]) + little(platform, 2))
-
-
-def bundle(parts):
-    """The head, an entry of 24 bytes for each (offer, body), and the bodies in order."""
-    at = 8 + 24 * len(parts)
-    head = bytes([len(parts), 1]) + bytes(6)
-    table = b""
-    for packet, blocks in parts:
-        table += packet + little(at, 4) + little(len(blocks), 4)
-        at += len(blocks)
-    return head + table + b"".join(blocks for _, blocks in parts)
-
-
-V130 = version(1, 3, 0)
-V120 = version(1, 2, 0)
+V130 = version(1, 3)
+V120 = version(1, 2)
 E12 = bundle([(offer(1, V130, need=2, least=V120 >> 8), body(image(1, V130))), (offer(2, V120), body(image(2, V120)))])
 assert len(E12) == 204 and E12[8 + 8:8 + 12] == bytes([2, 2, 0, 1])
+for whole in (image(1, V130), image(2, V120)):
+    assert whole[-2] != whole[-1], "a CRC that reads the same both ways shows nothing"
 
 
 # Cases: a bundle, and the lines that are printed of it
@@ -100,15 +49,15 @@ def edited(data, *edits):
 
 def entry(i):
     """Where entry i of the table stands, from 1."""
-    return 8 + 24 * (i - 1)
+    return cfu.entry_start(i - 1)
 
 
 def offset_of(i):
-    return entry(i) + 16
+    return entry(i) + cfu.ENTRY_OFFSET
 
 
 def length_of(i):
-    return entry(i) + 20
+    return entry(i) + cfu.ENTRY_LENGTH
 
 
 def simple(count, first=1, size=1):
@@ -165,7 +114,7 @@ refused("255-offers", edited(E12, (0, 255)), 3, 0)
 
 # B4
 refused("a-byte-short-of-the-table", E12[:55], 4, 0)
-refused("seven-offers-a-byte-short", bundle(simple(7))[:8 + 24 * 7 - 1], 4, 0)
+refused("seven-offers-a-byte-short", bundle(simple(7))[:entry(8) - 1], 4, 0)
 refused("the-table-alone", E12[:56], 7, 2)
 
 # B5, each clause at the first and at a later entry

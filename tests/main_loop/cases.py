@@ -4,16 +4,20 @@
 cases.py stdin     writes the frames to standard output
 cases.py stdout    writes the lines that the program must print
 """
+import os
 import sys
 
-frames = b""
+sys.path.append(os.path.join(os.path.dirname(os.path.abspath(__file__)), ".."))
+import cfu  # noqa: E402
+from cfu import ACCEPT, BUSY, FIRST, LAST, READY, REJECT, SKIP, UNSUPPORTED, content_reply  # noqa: E402
+
+script = cfu.Script(cfu.Script.SHORT)
 lines = ["set-up: served"]
 
 
 def case(channel, packet, line):
-    """A frame is a channel, a length and a packet; its answer is one line."""
-    global frames
-    frames += channel.encode() + bytes([len(packet)]) + packet
+    """A frame is a channel and a packet; its answer is one line."""
+    script.frame(channel, packet)
     lines.append(line)
 
 
@@ -33,31 +37,23 @@ def changed(packet, place, new):
 
 
 def information(code, token=0x11):
-    return bytes([code, 0, 0xFF, token]) + bytes(12)
+    return cfu.information(code, token)
 
 
 def extended(code, token=READY_TOKEN):
-    return bytes([code, 0, 0xFE, token]) + bytes(12)
+    return cfu.extended(code, token)
 
 
 def offer_reply(status, reason=0, token=0xA5):
-    return bytes([0, 0, 0, token, 0, 0, 0, 0, reason, 0, 0, 0, status, 0, 0, 0])
+    return cfu.offer_reply(token, status, reason)
 
 
 def content(flags, length, sequence, address, data=b""):
-    return bytes([flags, length]) + sequence.to_bytes(2, "little") + address.to_bytes(4, "little") + data + bytes(52 - len(data))
-
-
-def content_reply(sequence, status):
-    return sequence.to_bytes(2, "little") + bytes([0, 0, status]) + bytes(11)
+    return cfu.content(flags, sequence, address, data, length)
 
 
 def reply(*packets):
     return "reply " + ", then ".join(spaced(p) for p in packets)
-
-
-SKIP, ACCEPT, REJECT, BUSY, READY, UNSUPPORTED = 0, 1, 2, 3, 4, 0xFF
-FIRST, LAST = 0x80, 0x40
 
 
 def asks(packet, *expected):
@@ -65,7 +61,7 @@ def asks(packet, *expected):
 
 
 def sends(packet, status):
-    case("C", packet, reply(content_reply(int.from_bytes(packet[2:4], "little"), status)))
+    case("C", packet, reply(content_reply(cfu.CONTENT.unpack(packet)[2], status)))
 
 
 def offered():
@@ -114,21 +110,7 @@ asks(extended(2), UNSUPPORTED, 0, READY_TOKEN)
 
 
 # A whole update of component 1 to 1.3.0, with a ready-reply owed
-
-def crc(data):
-    """CRC-16/XMODEM."""
-    value = 0
-    for byte in data:
-        value ^= byte << 8
-        for _ in range(8):
-            value = (value << 1 ^ 0x1021 if value & 0x8000 else value << 1) & 0xFFFF
-    return value
-
-
-assert crc(b"123456789") == 0x31C3
-IMAGE = bytes.fromhex("00 03 00 01 01") + bytes(range(5, 62))
-IMAGE += crc(IMAGE).to_bytes(2, "big")
-assert len(IMAGE) == 64
+IMAGE = cfu.image(1, cfu.version(1, 3), free=lambda start, end: bytes(range(start, end)))
 
 asks(information(0), ACCEPT, 0, 0x11)
 asks(extended(1), READY, 0, READY_TOKEN)
@@ -147,11 +129,11 @@ case("V", b"", "versions " + spaced(bytes.fromhex("02 00 00 02 00 03 00 01 00 01
 asks(OFFER, REJECT, 0)
 
 # the input ends inside a frame
-frames += b"O\x10" + OFFER[:15]
+script.bytes += b"O\x10" + OFFER[:15]
 lines.append("cut frame")
 
 if sys.argv[1:] == ["stdin"]:
-    sys.stdout.buffer.write(frames)
+    script.write()
 elif sys.argv[1:] == ["stdout"]:
     sys.stdout.write("".join(line + "\n" for line in lines))
 else:

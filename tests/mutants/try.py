@@ -1,12 +1,12 @@
 #!/usr/bin/env python3
-"""Writes each impostor as a changed definition, and names the statement that it breaks.
+"""Writes each mutant as a changed definition, and names the statement that it breaks.
 
-usage: tests/impostors/try.py [NAME ..]
+usage: tests/mutants/try.py [NAME ..]
 
-An impostor is a wrong device or host written into the definitions themselves, so that no contract can catch it: only a statement about the definitions
+A mutant is a wrong device or host written into the definitions themselves, so that no contract can catch it: only a statement about the definitions
 can. A copy of the repository is made with the definitions, the declared types and the statements that compute (E1 to E10, E13 in both orders, the
-chain of seven, the mixed case, the need cycle), and no function. Each file NAME.impostor changes one line of a definition; the line `breaks:` says
-which proof must fail, or `nothing` where no statement that computes sees it and docs/IMPOSTORS.md says what does. Status 1 where it comes otherwise."""
+chain of seven, the mixed case, the need cycle), and no function. Each file NAME.mutant changes one line of a definition; the line `breaks:` says
+which proof must fail, or `nothing` where no statement that computes sees it and docs/WRONG_PROGRAMS.md says what does. Status 1 where it comes otherwise."""
 import glob
 import os
 import re
@@ -14,11 +14,12 @@ import shutil
 import subprocess
 import sys
 import tempfile
+from concurrent.futures import ThreadPoolExecutor
 
 HERE = os.path.dirname(os.path.abspath(__file__))
 TOP = os.path.dirname(os.path.dirname(HERE))
-ROOMS = ['wire', 'offers', 'contents', 'versions', 'crc16', 'image', 'component', 'slots', 'session', 'offering', 'receiving', 'device', 'records', 'layout', 'bundle', 'host_record',
-         'table', 'decide', 'make', 'host', 'update']
+CRATES = ['wire', 'wire_offer', 'wire_content', 'wire_version', 'crc16', 'image', 'device_component', 'device_slots', 'device_session', 'device_offering',
+          'device_receiving', 'device', 'bundle_records', 'bundle_layout', 'bundle', 'host_record', 'host_table', 'host_decide', 'host_packet', 'host', 'update']
 # the statements that compute, and what they stand on
 PROOFS = {'wire': ['Tests'], 'device': ['Bench'], 'update': ['Fitting', 'Goodness', 'Bench', 'Cases']}
 
@@ -45,22 +46,22 @@ def definitions(folder):
     table = open(os.path.join(TOP, 'crates.txt'), encoding='utf-8').read().split('\n')
     with open(os.path.join(folder, 'crates.txt'), 'w', encoding='utf-8') as out:
         for line in table:
-            if line.split(':')[0] in ROOMS:
+            if line.split(':')[0] in CRATES:
                 name, rest = line.split(':')
-                out.write(name + ': ' + ' '.join(d for d in rest.split() if d in ROOMS) + '\n')
-    for room in ROOMS:
-        source, target = os.path.join(TOP, 'crates', room), os.path.join(folder, 'crates', room)
+                out.write(name + ': ' + ' '.join(d for d in rest.split() if d in CRATES) + '\n')
+    for crate in CRATES:
+        source, target = os.path.join(TOP, 'crates', crate), os.path.join(folder, 'crates', crate)
         shutil.copytree(os.path.join(source, 'specs'), os.path.join(target, 'specs'))
         os.makedirs(os.path.join(target, 'src'))
         for path in glob.glob(os.path.join(source, 'src', '*.rt')):
             with open(os.path.join(target, 'src', os.path.basename(path)), 'w', encoding='utf-8') as out:
                 out.write(types_only(open(path, encoding='utf-8').read()))
-        if room in PROOFS:
+        if crate in PROOFS:
             os.makedirs(os.path.join(target, 'proofs'))
-            for name in PROOFS[room]:
+            for name in PROOFS[crate]:
                 shutil.copy(os.path.join(source, 'proofs', name + '.antt'), os.path.join(target, 'proofs'))
             with open(os.path.join(target, 'proofs', 'Lib.antt'), 'w', encoding='utf-8') as out:
-                out.write(''.join(f'pub mod {name}\n' for name in PROOFS[room]))
+                out.write(''.join(f'pub mod {name}\n' for name in PROOFS[crate]))
     subprocess.run(['git', 'init', '-q', folder], check=True)
 
 
@@ -69,31 +70,41 @@ def check(folder):
     return done.returncode, done.stdout + done.stderr
 
 
+def tried(name, whole):
+    """Whether a mutant breaks what its file says, and the words for it. It is written into a copy of the proved definitions, so that only what it touches is
+    checked again."""
+    lines = open(os.path.join(HERE, name + '.mutant'), encoding='utf-8').read().split('\n')
+    field = {l.split(': ', 1)[0]: l.split(': ', 1)[1] for l in lines if ': ' in l and not l.startswith('--')}
+    folder = os.path.join(os.path.dirname(whole), name)
+    shutil.copytree(whole, folder, symlinks=True)
+    path = os.path.join(folder, field['file'])
+    before = open(path, encoding='utf-8').read()
+    assert before.count(field['old']) == 1, (name, before.count(field['old']))
+    with open(path, 'w', encoding='utf-8') as out:
+        out.write(before.replace(field['old'], field['new']))
+    status, said = check(folder)
+    errors = [l for l in said.split('\n') if ': error: `' in l]
+    first = re.search(r'error: `([\w-]+)`', errors[0]).group(1) if errors else 'nothing'
+    good = (status != 0) == (field['breaks'] != 'nothing') and first == field['breaks']
+    shutil.rmtree(folder)
+    return good, f"{'as said' if good else 'NOT AS SAID'}  {name}: {lines[0][3:]}\n    breaks {first}" + ('' if good else f", not {field['breaks']}")
+
+
 def main():
     bad = 0
     with tempfile.TemporaryDirectory() as folder:
-        definitions(folder)
-        status, said = check(folder)
+        whole = os.path.join(folder, 'definitions')
+        os.makedirs(whole)
+        definitions(whole)
+        status, said = check(whole)
         if status != 0:
             print('the definitions themselves do not pass:\n' + said[-2000:])
             return 1
-        wanted = sys.argv[1:] or sorted(os.path.basename(p)[:-len('.impostor')] for p in glob.glob(os.path.join(HERE, '*.impostor')))
-        for name in wanted:
-            lines = open(os.path.join(HERE, name + '.impostor'), encoding='utf-8').read().split('\n')
-            field = {l.split(': ', 1)[0]: l.split(': ', 1)[1] for l in lines if ': ' in l and not l.startswith('--')}
-            path = os.path.join(folder, field['file'])
-            before = open(path, encoding='utf-8').read()
-            assert before.count(field['old']) == 1, (name, before.count(field['old']))
-            with open(path, 'w', encoding='utf-8') as out:
-                out.write(before.replace(field['old'], field['new']))
-            status, said = check(folder)
-            errors = [l for l in said.split('\n') if ': error: `' in l]
-            first = re.search(r'error: `([\w-]+)`', errors[0]).group(1) if errors else 'nothing'
-            good = (status != 0) == (field['breaks'] != 'nothing') and first == field['breaks']
-            bad += not good
-            print(f"{'as said' if good else 'NOT AS SAID'}  {name}: {lines[0][3:]}\n    breaks {first}" + ('' if good else f", not {field['breaks']}"))
-            with open(path, 'w', encoding='utf-8') as out:
-                out.write(before)
+        wanted = sys.argv[1:] or sorted(os.path.basename(p)[:-len('.mutant')] for p in glob.glob(os.path.join(HERE, '*.mutant')))
+        with ThreadPoolExecutor(2) as pool:
+            for good, told in pool.map(lambda name: tried(name, whole), wanted):
+                bad += not good
+                print(told, flush=True)
     return 1 if bad else 0
 
 

@@ -6,35 +6,30 @@ Use: tests/packets/cases.py > crates/run_packets/stdin
 A frame is kind (1 byte), length n (1 byte), payload (n bytes). Kind '#' is text: the case's name, which the line begins with. A capital letter
 builds a packet from its fields, in wire order and little-endian; a small letter reads a packet's bytes; 'x' takes the CRC of a message."""
 
-import struct
+import os
 import sys
 
+sys.path.append(os.path.join(os.path.dirname(os.path.abspath(__file__)), ".."))
+import cfu  # noqa: E402
 
-def frame(kind, payload):
-    sys.stdout.buffer.write(kind.encode() + bytes([len(payload)]) + payload)
+script = cfu.Script(cfu.Script.SHORT)
 
 
 def case(name, kind, payload):
-    frame("#", (name + ":").encode())
-    frame(kind, payload)
+    script.text(name + ":")
+    script.frame(kind, payload)
 
 
 # A version is its three parts: major, minor, variant. A component is version, id, platform.
 
-def version(v):
-    major, minor, variant = v
-    return struct.pack("<BHB", variant, minor, major)
-
-
 def build_version_reply(what, count, protocol, components):
-    assert len(components) == 7
-    payload = bytes([count, protocol]) + b"".join(version(v) + struct.pack("<BH", id, platform) for v, id, platform in components)
+    assert len(components) == cfu.COMPONENT_LIMIT
+    payload = bytes([count, protocol]) + b"".join(cfu.RUNNING.pack(cfu.version(*v), id, platform) for v, id, platform in components)
     case(f"version reply, build, {what}", "V", payload)
 
 
 def build_offer(what, segment, i, v, id, token, offered, need, least, protocol, platform):
-    payload = bytes([segment, i, v, id, token]) + version(offered) + struct.pack("<BIBH", need, least, protocol, platform)
-    case(f"offer, build, {what}", "O", payload)
+    case(f"offer, build, {what}", "O", cfu.OFFER_FIELDS.pack(segment, i, v, id, token, cfu.version(*offered), need, least, protocol, platform))
 
 
 def build_information(what, code, token):
@@ -50,12 +45,12 @@ def build_offer_reply(what, token, reason, status):
 
 
 def build_content(what, flags, length, sequence, address, data):
-    assert len(data) == 52
-    case(f"content, build, {what}", "C", struct.pack("<BBHI", flags, length, sequence, address) + data)
+    assert len(data) == cfu.DATA_SIZE
+    case(f"content, build, {what}", "C", cfu.CONTENT.pack(flags, length, sequence, address, data))
 
 
 def build_content_reply(what, sequence, status):
-    case(f"content reply, build, {what}", "S", struct.pack("<HB", sequence, status))
+    case(f"content reply, build, {what}", "S", cfu.CONTENT_REPLY_FIELDS.pack(sequence, status))
 
 
 def read(kind, name):
@@ -74,7 +69,7 @@ crc = read("x", "CRC")
 
 NO_COMPONENT = ((0, 0, 0), 0, 0)
 LARGEST = ((255, 65535, 255), 255, 65535)
-COUNTING = bytes(range(60))
+COUNTING = bytes(range(cfu.LONG_SIZE))
 
 
 def with_bytes(p, at):
@@ -85,7 +80,7 @@ def with_bytes(p, at):
 
 
 def filled(b, count, protocol):
-    return with_bytes([b] * 60, {0: count, 3: protocol})
+    return with_bytes([b] * cfu.LONG_SIZE, {0: count, 3: protocol})
 
 
 def counting(count, protocol):
@@ -253,13 +248,13 @@ def crc_cases():
 # No packet: a payload one byte too short or too long, kinds that there are not, and at the end a cut frame, which ends the program.
 
 def bad_frames():
-    for kind, n in (("V", 51), ("O", 17), ("I", 2), ("E", 2), ("R", 3), ("C", 60), ("S", 3)):
+    for kind, n in cfu.BUILT_FROM.items():
         for m in (n - 1, n + 1):
             case(f"frame {kind} of {m} bytes", kind, bytes(m))
     for kind in ("?", "\0", "X"):
         case(f"frame of kind {ord(kind):02x}", kind, b"\x01\x02")
-    frame("#", b"a cut frame comes next, and nothing of it is shown\n")
-    sys.stdout.buffer.write(b"x\x03\x12\x34")
+    script.text("a cut frame comes next, and nothing of it is shown\n")
+    script.bytes += b"x\x03\x12\x34"
 
 
 version_cases()
@@ -270,3 +265,4 @@ content_cases()
 content_reply_cases()
 crc_cases()
 bad_frames()
+script.write()

@@ -6,45 +6,37 @@ use cfu_updater::bundle_records::{Next, Tally};
 use cfu_updater::wire::address::RegionAddress;
 use cfu_updater::wire::version::Version;
 
-/// A record: address (4), length (1), data.
-fn record(address: u32, data: &[u8]) -> Vec<u8> {
-    [&address.to_le_bytes()[..], &[data.len() as u8], data].concat()
-}
+#[allow(dead_code)] // each test uses some of it
+mod layout;
+use layout::*;
 
 /// E12's body: records of 52 and 12 bytes, for a region of 64.
 fn body(filling: u8) -> Vec<u8> {
-    [record(0, &[filling; 52]), record(52, &[filling; 12])].concat()
-}
-
-/// A bundle of offers, each 16 bytes, with their bodies: byte 0 count, byte 1 = 1, 2-7 zero; then the table; then the bodies without gaps.
-fn bundle(offers: &[([u8; 16], Vec<u8>)]) -> Vec<u8> {
-    let mut b = vec![offers.len() as u8, 1, 0, 0, 0, 0, 0, 0];
-    let mut at = 8 + 24 * offers.len() as u32;
-    for (offer, body) in offers {
-        b.extend(offer);
-        b.extend(at.to_le_bytes());
-        b.extend((body.len() as u32).to_le_bytes());
-        at += body.len() as u32;
-    }
-    for (_, body) in offers {
-        b.extend(body);
-    }
-    b
+    [record_bytes(0, &[filling; 52]), record_bytes(52, &[filling; 12])].concat()
 }
 
 /// Component 1 at 1.3.0, which needs component 2 at 1.2; component 2 at 1.2.0: E13's first order.
-const ONE: [u8; 16] = [0, 0, 1, 0, 0, 3, 0, 1, 2, 2, 0, 1, 2, 0, 0x42, 0];
-const TWO: [u8; 16] = [0, 0, 2, 0, 0, 2, 0, 1, 0, 0, 0, 0, 2, 0, 0x42, 0];
+const ONE: [u8; SHORT_SIZE] = [0, 0, 1, 0, 0, 3, 0, 1, 2, 2, 0, 1, 2, 0, 0x42, 0];
+const TWO: [u8; SHORT_SIZE] = [0, 0, 2, 0, 0, 2, 0, 1, 0, 0, 0, 0, 2, 0, 0x42, 0];
 
 fn e12() -> Vec<u8> {
-    bundle(&[(ONE, body(0xAA)), (TWO, body(0xBB))])
+    bundle_of(&[(ONE, body(0xAA)), (TWO, body(0xBB))])
 }
 
 /// E12 with these bytes put at a place.
 fn with(at: usize, bytes: &[u8]) -> Vec<u8> {
     let mut b = e12();
-    b[at..at + bytes.len()].copy_from_slice(bytes);
+    put(&mut b, at, bytes);
     b
+}
+
+/// Where the entries of E12 say where their bodies start and how long they are.
+fn offset_of(entry: usize) -> usize {
+    entry_start(entry - 1) + entry_at::OFFSET
+}
+
+fn length_of(entry: usize) -> usize {
+    entry_start(entry - 1) + entry_at::LENGTH
 }
 
 /// The check answers this row and entry, and no contents.
@@ -85,39 +77,39 @@ fn e12_is_accepted_with_its_contents() {
 
 #[test]
 fn one_offer_and_seven() {
-    assert_eq!(accepted(&bundle(&[(ONE, record(0, &[1]))])).count, 1);
+    assert_eq!(accepted(&bundle_of(&[(ONE, record_bytes(0, &[1]))])).count, 1);
     let mut seven = vec![];
     for id in [1, 2, 3, 4, 5, 6, 0xDF] {
         let mut offer = TWO;
-        offer[2] = id;
-        seven.push((offer, record(0, &[id])));
+        offer[offer_at::ID] = id;
+        seven.push((offer, record_bytes(0, &[id])));
     }
-    let c = accepted(&bundle(&seven));
+    let c = accepted(&bundle_of(&seven));
     assert_eq!(c.count, 7);
     assert_eq!(c.table.map(|e| e.offer.id), [1, 2, 3, 4, 5, 6, 0xDF]);
-    assert_eq!(c.table[6].offset, 8 + 7 * 24 + 6 * 6);
+    assert_eq!(c.table[6].offset as usize, entry_start(7) + 6 * (record_at::DATA + 1));
 }
 
 #[test]
 fn b1_too_short_or_too_long() {
-    for n in 0..8 {
+    for n in 0..BUNDLE_HEAD {
         refused(&e12()[..n], BundleVerdict::B1, 0);
     }
     // 65,536 bytes are allowed: 1,149 records of 52 and one of 6 behind a table of one.
-    let mut long: Vec<u8> = (0..1149).flat_map(|_| record(0, &[7; 52])).collect();
-    long.extend(record(0, &[7; 6]));
-    let b = bundle(&[(ONE, long.clone())]);
-    assert_eq!(b.len(), 65536);
+    let mut long: Vec<u8> = (0..1149).flat_map(|_| record_bytes(0, &[7; 52])).collect();
+    long.extend(record_bytes(0, &[7; 6]));
+    let b = bundle_of(&[(ONE, long.clone())]);
+    assert_eq!(b.len(), BUNDLE_LIMIT);
     assert_eq!(accepted(&b).table[0].records, 1150);
     long.push(0);
-    refused(&bundle(&[(ONE, long)]), BundleVerdict::B1, 0);
+    refused(&bundle_of(&[(ONE, long)]), BundleVerdict::B1, 0);
 }
 
 #[test]
 fn b2_head() {
     refused(&with(1, &[0]), BundleVerdict::B2, 0);
     refused(&with(1, &[2]), BundleVerdict::B2, 0);
-    for at in 2..8 {
+    for at in 2..BUNDLE_HEAD {
         refused(&with(at, &[1]), BundleVerdict::B2, 0);
     }
     // Before B3.
@@ -129,7 +121,7 @@ fn b3_count_and_b4_table() {
     for count in [0, 8, 255] {
         refused(&with(0, &[count]), BundleVerdict::B3, 0);
     }
-    for n in 8..56 {
+    for n in BUNDLE_HEAD..entry_start(2) {
         refused(&e12()[..n], BundleVerdict::B4, 0);
     }
     // A table that just fits is read: the third entry is a body's bytes, and no offer.
@@ -138,42 +130,52 @@ fn b3_count_and_b4_table() {
 
 #[test]
 fn b5_offers() {
-    for (entry, start) in [(1, 8), (2, 32)] {
-        for (byte, value) in [(0, 1), (1, 0x40), (1, 1), (3, 0xA5), (13, 1), (12, 1), (12, 0x12), (2, 0), (2, 0xE0), (2, 0xFD), (2, 0xFF)] {
+    let ids = [0, 0xE0, 0xFD, 0xFF].map(|id| (offer_at::ID, id));
+    let others = [
+        (offer_at::SEGMENT, 1),
+        (offer_at::FLAGS, 0x40),
+        (offer_at::FLAGS, 1),
+        (offer_at::TOKEN, 0xA5),
+        (offer_at::RESERVED, 1),
+        (offer_at::PROTOCOL, 1),
+        (offer_at::PROTOCOL, 0x12),
+    ];
+    for (entry, start) in [(1, entry_start(0)), (2, entry_start(1))] {
+        for (byte, value) in others.into_iter().chain(ids) {
             refused(&with(start + byte, &[value]), BundleVerdict::B5, entry);
         }
     }
     // The first such entry, and before B7 of an earlier one.
-    let mut b = with(8, &[1]);
-    b[32] = 1;
+    let mut b = with(entry_start(0), &[1]);
+    b[entry_start(1)] = 1;
     refused(&b, BundleVerdict::B5, 1);
-    let mut b = with(24, &[57]);
-    b[32] = 1;
+    let mut b = with(offset_of(1), &[57]);
+    b[entry_start(1)] = 1;
     refused(&b, BundleVerdict::B5, 2);
 }
 
 #[test]
 fn b6_repeated_id() {
-    refused(&bundle(&[(ONE, body(1)), (ONE, body(2))]), BundleVerdict::B6, 2);
-    refused(&bundle(&[(ONE, body(1)), (TWO, body(2)), (ONE, body(3))]), BundleVerdict::B6, 3);
+    refused(&bundle_of(&[(ONE, body(1)), (ONE, body(2))]), BundleVerdict::B6, 2);
+    refused(&bundle_of(&[(ONE, body(1)), (TWO, body(2)), (ONE, body(3))]), BundleVerdict::B6, 3);
     // Before B7.
-    refused(&bundle(&[(ONE, body(1)), (ONE, body(2))])[..203], BundleVerdict::B6, 2);
+    refused(&bundle_of(&[(ONE, body(1)), (ONE, body(2))])[..203], BundleVerdict::B6, 2);
 }
 
 #[test]
 fn b7_offsets_and_the_end() {
-    refused(&with(24, &[55]), BundleVerdict::B7, 1);
-    refused(&with(24, &[57]), BundleVerdict::B7, 1);
-    refused(&with(48, &[129]), BundleVerdict::B7, 2);
+    refused(&with(offset_of(1), &[55]), BundleVerdict::B7, 1);
+    refused(&with(offset_of(1), &[57]), BundleVerdict::B7, 1);
+    refused(&with(offset_of(2), &[129]), BundleVerdict::B7, 2);
     // A first body that is longer than it is: the second does not start where it ends.
-    refused(&with(28, &[75]), BundleVerdict::B7, 2);
-    refused(&with(28, &u32::MAX.to_le_bytes()), BundleVerdict::B7, 2);
+    refused(&with(length_of(1), &[75]), BundleVerdict::B7, 2);
+    refused(&with(length_of(1), &u32::MAX.to_le_bytes()), BundleVerdict::B7, 2);
     // The last end is not the file's.
     refused(&e12()[..203], BundleVerdict::B7, 2);
     refused(&[e12(), vec![0]].concat(), BundleVerdict::B7, 2);
-    refused(&with(52, &u32::MAX.to_le_bytes()), BundleVerdict::B7, 2);
+    refused(&with(length_of(2), &u32::MAX.to_le_bytes()), BundleVerdict::B7, 2);
     // Before B8.
-    refused(&bundle(&[(ONE, vec![]), (TWO, body(2))])[..129], BundleVerdict::B7, 2);
+    refused(&bundle_of(&[(ONE, vec![]), (TWO, body(2))])[..129], BundleVerdict::B7, 2);
 }
 
 #[test]
@@ -183,14 +185,14 @@ fn b8_bodies() {
         vec![0; 4],
         [0, 0, 0, 0, 0].to_vec(),
         [0, 0, 0, 0, 2, 7].to_vec(),
-        record(0, &[7; 53]),
+        record_bytes(0, &[7; 53]),
         [body(7), vec![0]].concat(),
         [body(7), vec![0, 0, 0, 0, 0]].concat(),
     ];
     for body_1 in &broken {
-        refused(&bundle(&[(ONE, body_1.clone())]), BundleVerdict::B8, 1);
-        refused(&bundle(&[(ONE, body_1.clone()), (TWO, body(2))]), BundleVerdict::B8, 1);
-        refused(&bundle(&[(TWO, body(2)), (ONE, body_1.clone())]), BundleVerdict::B8, 2);
+        refused(&bundle_of(&[(ONE, body_1.clone())]), BundleVerdict::B8, 1);
+        refused(&bundle_of(&[(ONE, body_1.clone()), (TWO, body(2))]), BundleVerdict::B8, 1);
+        refused(&bundle_of(&[(TWO, body(2)), (ONE, body_1.clone())]), BundleVerdict::B8, 2);
     }
 }
 
@@ -214,7 +216,7 @@ fn a_body_is_walked_record_by_record() {
     assert_eq!(next_record(&b, 187, 204), second);
     assert_eq!(next_record(&b, 204, 204), Next::End);
     assert_eq!(tally(&b, 130, 204), Tally::Records(2));
-    let far = record(0xFFFFFFFF, &[1, 2, 3]);
+    let far = record_bytes(0xFFFFFFFF, &[1, 2, 3]);
     let whole = Next::Record {
         address: RegionAddress::new(0xFFFFFFFF),
         start: 5,
@@ -238,7 +240,7 @@ fn a_body_that_ends_inside_a_record_is_broken() {
     }
     for size in [0, 53, 255] {
         let mut b = [7; 300];
-        b[4] = size;
-        assert_eq!(next_record(&b, 0, 5 + size as u64), Next::Bad, "length {size}");
+        b[record_at::LENGTH] = size;
+        assert_eq!(next_record(&b, 0, record_at::DATA as u64 + size as u64), Next::Bad, "length {size}");
     }
 }

@@ -10,7 +10,7 @@ import tempfile
 
 SCRIPT = os.path.join(os.path.dirname(os.path.abspath(__file__)), '..', '..', 'tools', 'rust_crate')
 
-CRATES = '# rooms\nlow:\nhigh: low\n\n# programs, and what they print with\nshow: io\ntool: show high low io\n'
+CRATES = '# rooms\nlow:\nhigh: low\n\n# programs, and what they print with\nrun_print: io\ntool: run_print high low io\n'
 LOW = '''// The low room: [brackets] and <signs> in words, `a[0]` as code.
 ghost use mathlib.Core.Path.{_≡_};
 ghost use lib.ListN.{length,

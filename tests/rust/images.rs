@@ -1,6 +1,6 @@
 //! The CRC, a region of the staging buffer, the image in it, a component's versions, and set-up: document 01, "The device", rows S1 to S4, and the
 //! addresses of E8 and E9. Written from that document.
-use cfu_updater::device_component::record::{Component, Listed};
+use cfu_updater::device_component::record::{Component, Fixed, Listed};
 use cfu_updater::device_component::rule::VersionVerdict;
 use cfu_updater::device_component::setup::{setup_verdict, SetupVerdict};
 use cfu_updater::crc16::crc16;
@@ -9,6 +9,10 @@ use cfu_updater::image::region::{Region, StagingOffset};
 use cfu_updater::wire::address::RegionAddress;
 use cfu_updater::wire::version::Version;
 
+#[allow(dead_code)] // each test uses some of it
+mod layout;
+use layout::*;
+
 fn region(base: u32, len: u32) -> Region {
     Region {
         base: StagingOffset::new(base),
@@ -16,14 +20,19 @@ fn region(base: u32, len: u32) -> Region {
     }
 }
 
-/// An image of `size` bytes: version, id, filling, and the CRC of all before it, high byte first.
+/// An image of `size` bytes.
 fn image(size: usize, version: Version, id: u8) -> Vec<u8> {
-    let mut m: Vec<u8> = (0..size - 2).map(|i| i as u8).collect();
-    m[..4].copy_from_slice(&version.bytes());
-    m[4] = id;
-    let crc = crc16(&m);
-    m.extend(crc.to_be_bytes());
+    let mut m: Vec<u8> = (0..size).map(|i| i as u8).collect();
+    make_image(&mut m, version.number(), id);
     m
+}
+
+/// A component as set-up makes it.
+fn component(id: u8, running: Version, region: Region) -> Component {
+    Component::listed(Listed {
+        fixed: Fixed { id, region },
+        running,
+    })
 }
 
 #[test]
@@ -91,28 +100,22 @@ fn an_image_is_read_from_its_region() {
 
 /// Set-up of components with these ids and regions, over a buffer of n bytes.
 fn set_up(n: usize, count: u8, some: &[(u8, u32, u32)]) -> SetupVerdict {
-    let listed = |(id, base, len)| {
-        Component::listed(Listed {
-            id,
-            running: Version::new(1, 0, 0),
-            region: region(base, len),
-        })
-    };
-    let mut parts = [listed((0, 0, 0)); 7];
-    for (part, told) in parts.iter_mut().zip(some) {
-        *part = listed(*told);
+    let made = |(id, base, len)| component(id, Version::new(1, 0, 0), region(base, len));
+    let mut components = [made((0, 0, 0)); COMPONENT_LIMIT];
+    for (component, told) in components.iter_mut().zip(some) {
+        *component = made(*told);
     }
-    setup_verdict(n, count, parts)
+    setup_verdict(n, count, components)
 }
 
 #[test]
 fn set_up_rows_s1_to_s4() {
     let bench = [(1, 0, 64), (2, 64, 64)];
     assert_eq!(set_up(128, 2, &bench), SetupVerdict::Fine);
-    assert_eq!(set_up(65536, 2, &bench), SetupVerdict::Fine);
+    assert_eq!(set_up(STAGING_LIMIT, 2, &bench), SetupVerdict::Fine);
     // S1 comes first, over a count, ids and regions that are wrong too.
-    assert_eq!(set_up(65537, 2, &bench), SetupVerdict::S1);
-    assert_eq!(set_up(65537, 0, &[]), SetupVerdict::S1);
+    assert_eq!(set_up(STAGING_LIMIT + 1, 2, &bench), SetupVerdict::S1);
+    assert_eq!(set_up(STAGING_LIMIT + 1, 0, &[]), SetupVerdict::S1);
     for count in [0, 8, 255] {
         assert_eq!(set_up(128, count, &bench), SetupVerdict::S2, "count {count}");
     }
@@ -139,11 +142,7 @@ fn set_up_rows_s1_to_s4() {
 #[test]
 fn a_staged_version_is_effective_until_a_reset_makes_it_running() {
     let (old, new) = (Version::new(1, 2, 0), Version::new(1, 3, 0));
-    let c = Component::listed(Listed {
-        id: 1,
-        running: old,
-        region: region(0, 64),
-    });
+    let c = component(1, old, region(0, 64));
     assert!(!c.is_pending());
     assert_eq!(c.effective(), old);
     let staged = c.with_staged(new);
@@ -157,11 +156,7 @@ fn a_staged_version_is_effective_until_a_reset_makes_it_running() {
 /// Offer check 7 asks for a greater version than the running one; image judgement and D1 refuse only a lower one. All as 32-bit numbers.
 #[test]
 fn versions_against_the_running_one() {
-    let c = Component::listed(Listed {
-        id: 1,
-        running: Version::new(1, 2, 7),
-        region: region(0, 64),
-    });
+    let c = component(1, Version::new(1, 2, 7), region(0, 64));
     let lower = [Version::new(1, 2, 6), Version::new(1, 1, 255), Version::new(0, 65535, 255)];
     let greater = [Version::new(1, 2, 8), Version::new(1, 3, 0), Version::new(2, 0, 0), Version::new(255, 65535, 255)];
     for v in lower {

@@ -11,6 +11,10 @@ use cfu_updater::wire::address::RegionAddress;
 use cfu_updater::wire::verdict::Verdict;
 use cfu_updater::wire::version::Version;
 
+#[allow(dead_code)] // each test uses some of it
+mod layout;
+use layout::*;
+
 /// Packets to read: all zeros, all ones, then a fixed sequence of arbitrary bytes.
 fn samples<const N: usize>() -> Vec<[u8; N]> {
     let mut state: u64 = 0x0042;
@@ -34,7 +38,7 @@ fn running(id: u8, major: u8, minor: u16, platform: u16) -> Running {
 
 /// A reply with these components, then empty ones.
 fn version_reply(count: u8, protocol: u8, some: &[Running]) -> VersionReply {
-    let mut components = [running(0, 0, 0, 0); 7];
+    let mut components = [running(0, 0, 0, 0); COMPONENT_LIMIT];
     components[..some.len()].copy_from_slice(some);
     VersionReply {
         count,
@@ -59,7 +63,7 @@ fn e2() -> OfferFields {
     }
 }
 
-const E2: [u8; 16] = [0, 0, 1, 0xA5, 0, 3, 0, 1, 0, 0, 0, 0, 2, 0, 0x42, 0];
+const E2: [u8; SHORT_SIZE] = [0, 0, 1, 0xA5, 0, 3, 0, 1, 0, 0, 0, 0, 2, 0, 0x42, 0];
 
 /// The content of E8: the first block, 52 bytes at address 12.
 fn e8() -> ContentFields {
@@ -84,8 +88,8 @@ fn a_version_is_variant_minor_major() {
 
 #[test]
 fn e1_version_reply_both_ways() {
-    let mut packet = [0; 60];
-    packet[..20].copy_from_slice(&[2, 0, 0, 2, 0, 2, 0, 1, 0, 1, 0x42, 0, 0, 1, 0, 1, 0, 2, 0x42, 0]);
+    let mut packet = [0; LONG_SIZE];
+    put(&mut packet, 0, &[2, 0, 0, 2, 0, 2, 0, 1, 0, 1, 0x42, 0, 0, 1, 0, 1, 0, 2, 0x42, 0]);
     let fields = version_reply(2, 2, &[running(1, 1, 2, 0x42), running(2, 1, 1, 0x42)]);
     let built = build_version_reply(fields);
     assert_eq!((built.verdict, built.packet), (Verdict::Served, packet));
@@ -95,13 +99,13 @@ fn e1_version_reply_both_ways() {
 
 #[test]
 fn version_reply_p2_either_way() {
-    let mut packet = [0; 60];
+    let mut packet = [0; LONG_SIZE];
     for (count, protocol) in [(8, 2), (255, 2), (2, 0), (2, 1), (2, 3), (7, 15)] {
         let built = build_version_reply(version_reply(count, protocol, &[running(1, 1, 2, 0x42)]));
-        assert_eq!((built.verdict, built.packet), (Verdict::P2, [0; 60]), "count {count} protocol {protocol}");
-        packet[0] = count;
-        packet[3] = protocol;
-        packet[9] = 1;
+        assert_eq!((built.verdict, built.packet), (Verdict::P2, [0; LONG_SIZE]), "count {count} protocol {protocol}");
+        packet[version_reply_at::COUNT] = count;
+        packet[version_reply_at::PROTOCOL] = protocol;
+        packet[version_reply_at::COMPONENTS + 5] = 1;
         let read = read_version_reply(&packet);
         assert_eq!((read.verdict, read.reply), (Verdict::P2, version_reply(0, 0, &[])), "count {count} protocol {protocol}");
     }
@@ -111,22 +115,26 @@ fn version_reply_p2_either_way() {
 
 #[test]
 fn version_reply_read_and_built_again() {
-    for mut packet in samples::<60>() {
-        packet[0] %= 9;
-        packet[3] = packet[3] & 0xF3 | 2;
+    for mut packet in samples::<LONG_SIZE>() {
+        packet[version_reply_at::COUNT] %= COMPONENT_LIMIT as u8 + 2;
+        packet[version_reply_at::PROTOCOL] = packet[version_reply_at::PROTOCOL] & 0xF3 | 2;
         let read = read_version_reply(&packet);
-        if packet[0] > 7 || packet[3] % 16 != 2 {
+        let count = packet[version_reply_at::COUNT] as usize;
+        if count > COMPONENT_LIMIT || packet[version_reply_at::PROTOCOL] % 16 != 2 {
             assert_eq!(read.verdict, Verdict::P2);
             continue;
         }
-        let mut expected = [0; 60];
-        expected[0] = packet[0];
-        expected[3] = 2;
-        let used = 4 + 8 * packet[0] as usize;
-        for i in (4..used).filter(|i| i % 8 != 0) {
-            expected[i] = packet[i];
+        let mut expected = [0; LONG_SIZE];
+        expected[version_reply_at::COUNT] = packet[version_reply_at::COUNT];
+        expected[version_reply_at::PROTOCOL] = 2;
+        for component in 0..count {
+            let start = version_reply_at::COMPONENTS + version_reply_at::COMPONENT_SIZE * component;
+            for i in 0..version_reply_at::COMPONENT_SIZE {
+                // Byte 4 is reserved.
+                expected[start + i] = if i == 4 { 0 } else { packet[start + i] };
+            }
         }
-        assert!(read.reply.components[packet[0] as usize..].iter().all(|c| *c == running(0, 0, 0, 0)));
+        assert!(read.reply.components[count..].iter().all(|c| *c == running(0, 0, 0, 0)));
         let built = build_version_reply(read.reply);
         assert_eq!((built.verdict, built.packet), (Verdict::Served, expected));
     }
@@ -161,7 +169,7 @@ fn each_field_of_an_offer_at_its_byte() {
         force_ignore_version: true,
         ..fields
     };
-    packet[1] = 0x80;
+    packet[offer_at::FLAGS] = 0x80;
     assert_eq!(build_offer(other).packet, packet);
     assert_eq!(read_offer_packet(&packet), OfferPacket::Offer(other));
 }
@@ -178,7 +186,7 @@ fn offer_p2() {
     ];
     for fields in cases {
         let built = build_offer(fields);
-        assert_eq!((built.verdict, built.packet), (Verdict::P2, [0; 16]), "{fields:?}");
+        assert_eq!((built.verdict, built.packet), (Verdict::P2, [0; SHORT_SIZE]), "{fields:?}");
     }
     let largest = OfferFields { id: 0xFD, least: 0xFFFFFF, protocol: 15, ..e2() };
     assert_eq!(build_offer(largest).verdict, Verdict::Served);
@@ -187,40 +195,38 @@ fn offer_p2() {
 #[test]
 fn information_and_extended() {
     let s = Signal { code: 2, token: 0xA5 };
-    let mut packet = [0; 16];
-    packet[..4].copy_from_slice(&[2, 0, 0xFF, 0xA5]);
+    let mut packet = [0; SHORT_SIZE];
+    put(&mut packet, 0, &[2, 0, 0xFF, 0xA5]);
     assert_eq!(build_information(s), packet);
     assert_eq!(read_offer_packet(&packet), OfferPacket::Information(s));
-    packet[2] = 0xFE;
+    packet[signal_at::KIND] = 0xFE;
     assert_eq!(build_extended(s), packet);
     assert_eq!(read_offer_packet(&packet), OfferPacket::Extended(s));
 }
 
 #[test]
 fn byte_2_decides_the_kind_and_reserved_bits_are_zeroed() {
-    for mut packet in samples::<16>() {
-        for kind in [packet[2], 0xFD, 0xFE, 0xFF] {
-            packet[2] = kind;
+    for mut packet in samples::<SHORT_SIZE>() {
+        for kind in [packet[signal_at::KIND], 0xFD, 0xFE, 0xFF] {
+            packet[signal_at::KIND] = kind;
             let mut expected = packet;
             let built = match read_offer_packet(&packet) {
                 OfferPacket::Refused => panic!("P1 of 16 bytes"),
                 OfferPacket::Offer(o) => {
                     assert!(kind <= 0xFD);
-                    expected[1] &= 0xC0;
-                    expected[12] &= 0x0F;
-                    expected[13] = 0;
+                    expected[offer_at::FLAGS] &= 0xC0;
+                    expected[offer_at::PROTOCOL] &= 0x0F;
+                    expected[offer_at::RESERVED] = 0;
                     build_offer(o).packet
                 }
                 OfferPacket::Information(s) => {
                     assert_eq!(kind, 0xFF);
-                    expected = [0; 16];
-                    (expected[0], expected[2], expected[3]) = (packet[0], kind, packet[3]);
+                    expected = signal_packet(kind, packet[signal_at::CODE], packet[signal_at::TOKEN]);
                     build_information(s)
                 }
                 OfferPacket::Extended(s) => {
                     assert_eq!(kind, 0xFE);
-                    expected = [0; 16];
-                    (expected[0], expected[2], expected[3]) = (packet[0], kind, packet[3]);
+                    expected = signal_packet(kind, packet[signal_at::CODE], packet[signal_at::TOKEN]);
                     build_extended(s)
                 }
             };
@@ -231,16 +237,16 @@ fn byte_2_decides_the_kind_and_reserved_bits_are_zeroed() {
 
 #[test]
 fn e2_offer_reply_both_ways() {
-    let mut packet = [0; 16];
-    packet[3] = 0xA5;
-    packet[12] = 1;
+    let mut packet = [0; SHORT_SIZE];
+    packet[offer_reply_at::TOKEN] = 0xA5;
+    packet[offer_reply_at::STATUS] = 1;
     let fields = OfferReply { token: 0xA5, reason: 0, status: 1 };
     assert_eq!(build_offer_reply(fields), packet);
     let read = read_offer_reply(&packet);
     assert_eq!((read.verdict, read.reply), (Verdict::Served, fields));
-    for packet in samples::<16>() {
-        let mut expected = [0; 16];
-        for i in [3, 8, 12] {
+    for packet in samples::<SHORT_SIZE>() {
+        let mut expected = [0; SHORT_SIZE];
+        for i in [offer_reply_at::TOKEN, offer_reply_at::REASON, offer_reply_at::STATUS] {
             expected[i] = packet[i];
         }
         assert_eq!(build_offer_reply(read_offer_reply(&packet).reply), expected);
@@ -249,10 +255,10 @@ fn e2_offer_reply_both_ways() {
 
 #[test]
 fn e8_content_both_ways() {
-    let mut packet = [0; 60];
-    packet[..8].copy_from_slice(&[0x80, 52, 0x34, 0x12, 12, 0, 0, 0]);
-    for i in 0..52 {
-        packet[8 + i] = i as u8 + 1;
+    let mut packet = [0; LONG_SIZE];
+    put(&mut packet, 0, &[0x80, 52, 0x34, 0x12, 12, 0, 0, 0]);
+    for i in 0..DATA_SIZE {
+        packet[content_at::DATA + i] = i as u8 + 1;
     }
     let built = build_content(e8());
     assert_eq!((built.verdict, built.packet), (Verdict::Served, packet));
@@ -266,36 +272,37 @@ fn content_p2() {
         let built = build_content(ContentFields { flags, ..e8() });
         let served = [0, 0x40, 0x80, 0xC0].contains(&flags);
         assert_eq!(built.verdict == Verdict::Served, served, "flags {flags}");
-        assert!(served || (built.verdict, built.packet) == (Verdict::P2, [0; 60]), "flags {flags}");
+        assert!(served || (built.verdict, built.packet) == (Verdict::P2, [0; LONG_SIZE]), "flags {flags}");
     }
     for length in 0..=255 {
         let built = build_content(ContentFields { length, ..e8() });
         let served = (1..=52).contains(&length);
         assert_eq!(built.verdict == Verdict::Served, served, "length {length}");
         // Unused data is written as zero.
-        assert!(built.packet[8 + (length as usize).min(52)..].iter().all(|b| *b == 0), "length {length}");
-        assert!(served || (built.verdict, built.packet) == (Verdict::P2, [0; 60]), "length {length}");
+        assert!(built.packet[content_at::DATA + (length as usize).min(DATA_SIZE)..].iter().all(|b| *b == 0), "length {length}");
+        assert!(served || (built.verdict, built.packet) == (Verdict::P2, [0; LONG_SIZE]), "length {length}");
     }
 }
 
 /// Flags and length are handed out as they stand, those of E10 too, for the device's checks to judge.
 #[test]
 fn content_read_and_built_again() {
-    for packet in samples::<60>() {
-        for (flags, length) in [(packet[0], packet[1]), (0xC0, packet[1] % 53), (0x40, 53)] {
+    for packet in samples::<LONG_SIZE>() {
+        let own = packet[content_at::LENGTH];
+        for (flags, length) in [(packet[content_at::FLAGS], own), (0xC0, own % 53), (0x40, 53)] {
             let mut packet = packet;
-            packet[0] = flags;
-            packet[1] = length;
+            packet[content_at::FLAGS] = flags;
+            packet[content_at::LENGTH] = length;
             let read = read_content(&packet);
             assert_eq!((read.verdict, read.content.flags, read.content.length), (Verdict::Served, flags, length));
             let mut expected = packet;
-            expected[8 + (length as usize).min(52)..].fill(0);
-            assert_eq!(read.content.data, expected[8..]);
+            expected[content_at::DATA + (length as usize).min(DATA_SIZE)..].fill(0);
+            assert_eq!(read.content.data, expected[content_at::DATA..]);
             let built = build_content(read.content);
             if flags % 0x40 == 0 && (1..=52).contains(&length) {
                 assert_eq!((built.verdict, built.packet), (Verdict::Served, expected));
             } else {
-                assert_eq!((built.verdict, built.packet), (Verdict::P2, [0; 60]));
+                assert_eq!((built.verdict, built.packet), (Verdict::P2, [0; LONG_SIZE]));
             }
         }
     }
@@ -303,15 +310,15 @@ fn content_read_and_built_again() {
 
 #[test]
 fn e7_content_reply_both_ways() {
-    let mut packet = [0; 16];
-    packet[..5].copy_from_slice(&[0x34, 0x12, 0, 0, 0x0A]);
+    let mut packet = [0; SHORT_SIZE];
+    put(&mut packet, 0, &[0x34, 0x12, 0, 0, 0x0A]);
     let fields = ContentReply { sequence: 0x1234, status: 0x0A };
     assert_eq!(build_content_reply(fields), packet);
     let read = read_content_reply(&packet);
     assert_eq!((read.verdict, read.reply), (Verdict::Served, fields));
-    for packet in samples::<16>() {
-        let mut expected = [0; 16];
-        for i in [0, 1, 4] {
+    for packet in samples::<SHORT_SIZE>() {
+        let mut expected = [0; SHORT_SIZE];
+        for i in [content_reply_at::SEQUENCE, content_reply_at::SEQUENCE + 1, content_reply_at::STATUS] {
             expected[i] = packet[i];
         }
         assert_eq!(build_content_reply(read_content_reply(&packet).reply), expected);
@@ -324,14 +331,14 @@ fn p1_every_reader_at_every_other_length() {
     let bytes = [0xFF; 100];
     for n in 0..=100 {
         let p = &bytes[..n];
-        if n != 16 {
+        if n != SHORT_SIZE {
             assert_eq!(read_offer_packet(p), OfferPacket::Refused, "{n} bytes");
             let offer = read_offer_reply(p);
             assert_eq!((offer.verdict, offer.reply), (Verdict::P1, OfferReply { token: 0, reason: 0, status: 0 }), "{n} bytes");
             let content = read_content_reply(p);
             assert_eq!((content.verdict, content.reply), (Verdict::P1, ContentReply { sequence: 0, status: 0 }), "{n} bytes");
         }
-        if n != 60 {
+        if n != LONG_SIZE {
             let version = read_version_reply(p);
             assert_eq!((version.verdict, version.reply), (Verdict::P1, version_reply(0, 0, &[])), "{n} bytes");
             let content = read_content(p);
@@ -340,7 +347,7 @@ fn p1_every_reader_at_every_other_length() {
                 length: 0,
                 sequence: 0,
                 address: RegionAddress::new(0),
-                data: [0; 52],
+                data: [0; DATA_SIZE],
             };
             assert_eq!((content.verdict, content.content), (Verdict::P1, zero), "{n} bytes");
         }

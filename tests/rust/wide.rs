@@ -1,21 +1,20 @@
 //! Numbers from outside whose sum passes 32 bits, and E13: document 01, "The bundle", "The device", "The host", rows B7, S4 and N1. Written from that
 //! document. `cargo test` runs these cases with the usize of the machine; tests/rust/wide.sh runs them with a usize of 32 bits.
 use cfu_updater::bundle::check;
-use cfu_updater::device_component::record::Listed;
+use cfu_updater::device_component::record::{Fixed, Listed};
 use cfu_updater::device_component::setup::SetupVerdict;
-use cfu_updater::crc16::crc16;
-use cfu_updater::host_decide::{Action, Move};
+use cfu_updater::host_decide::Action;
 use cfu_updater::device::setup::set_up;
 use cfu_updater::host::inner::inner_step;
 use cfu_updater::host::step::step;
 use cfu_updater::host_bytes::{are_contents, contents_bytes, is_kept, keep, read_body, read_cursor};
-use cfu_updater::host_record::fits::{body_at, is_last};
+use cfu_updater::host_record::fits::{body_at, in_hand, is_last};
 use cfu_updater::host_record::record::{End, Host, HostStage, Place};
 use cfu_updater::host_record::report::Progress;
 use cfu_updater::image::region::{Region, StagingOffset};
 use cfu_updater::bundle_layout::{BundleVerdict, Checked};
-use cfu_updater::host_packet::action::made;
-use cfu_updater::host_packet::answer::{Sent, StepAnswer, StepRefusal};
+use cfu_updater::host_packet::action::written;
+use cfu_updater::host_packet::answer::{Sent, StepRefusal, Written};
 use cfu_updater::bundle_records::walk::next_record;
 use cfu_updater::bundle_records::Next;
 use cfu_updater::update::{run, RunRefusal};
@@ -23,17 +22,18 @@ use cfu_updater::wire::address::RegionAddress;
 use cfu_updater::wire::version::Version;
 use cfu_updater::wire::words::{word16_at, word32_at};
 
-/// Component 1 at 1.3.0, which needs component 2 at 1.2; component 2 at 1.2.0.
-const ONE: [u8; 16] = [0, 0, 1, 0, 0, 3, 0, 1, 2, 2, 0, 1, 2, 0, 0x42, 0];
-const TWO: [u8; 16] = [0, 0, 2, 0, 0, 2, 0, 1, 0, 0, 0, 0, 2, 0, 0x42, 0];
+#[allow(dead_code)] // each test uses some of it
+mod layout;
+use layout::*;
 
-/// An image of 64 bytes: version, id, filling, and the CRC of all before it, high byte first.
+/// Component 1 at 1.3.0, which needs component 2 at 1.2; component 2 at 1.2.0.
+const ONE: [u8; SHORT_SIZE] = [0, 0, 1, 0, 0, 3, 0, 1, 2, 2, 0, 1, 2, 0, 0x42, 0];
+const TWO: [u8; SHORT_SIZE] = [0, 0, 2, 0, 0, 2, 0, 1, 0, 0, 0, 0, 2, 0, 0x42, 0];
+
+/// An image of 64 bytes.
 fn image(version: Version, id: u8) -> Vec<u8> {
-    let mut m = vec![0x5A; 62];
-    m[..4].copy_from_slice(&version.bytes());
-    m[4] = id;
-    let crc = crc16(&m);
-    m.extend(crc.to_be_bytes());
+    let mut m = vec![0x5A; 64];
+    make_image(&mut m, version.number(), id);
     m
 }
 
@@ -43,21 +43,12 @@ fn images() -> [Vec<u8>; 2] {
 
 /// An image as records of 52 and 12 bytes.
 fn body(m: &[u8]) -> Vec<u8> {
-    [&[0, 0, 0, 0, 52][..], &m[..52], &[52, 0, 0, 0, 12], &m[52..]].concat()
+    [record_bytes(0, &m[..52]), record_bytes(52, &m[52..])].concat()
 }
 
 /// A bundle of two offers with their bodies, from byte 56 and from byte 130 on.
-fn bundle(offers: [([u8; 16], &[u8]); 2]) -> Vec<u8> {
-    let mut b = vec![2, 1, 0, 0, 0, 0, 0, 0];
-    for (i, (offer, _)) in offers.iter().enumerate() {
-        b.extend(offer);
-        b.extend((56 + 74 * i as u32).to_le_bytes());
-        b.extend(74u32.to_le_bytes());
-    }
-    for (_, m) in offers {
-        b.extend(body(m));
-    }
-    b
+fn bundle(offers: [([u8; SHORT_SIZE], &[u8]); 2]) -> Vec<u8> {
+    bundle_of(&offers.map(|(offer, m)| (offer, body(m))))
 }
 
 fn one_first() -> Vec<u8> {
@@ -73,13 +64,12 @@ fn region(base: u32, len: u32) -> Region {
 }
 
 /// Two components, 1 at 1.2.0 and 2 at 1.1.0, with these regions.
-fn listed(one: Region, two: Region) -> [Listed; 7] {
+fn listed(one: Region, two: Region) -> [Listed; COMPONENT_LIMIT] {
     let part = |id, minor, region| Listed {
-        id,
+        fixed: Fixed { id, region },
         running: Version::new(1, minor, 0),
-        region,
     };
-    let mut list = [part(0, 0, region(0, 0)); 7];
+    let mut list = [part(0, 0, region(0, 0)); COMPONENT_LIMIT];
     list[0] = part(1, 2, one);
     list[1] = part(2, 1, two);
     list
@@ -102,10 +92,21 @@ fn moved(offset: u32, length: u32, records: u32) -> Checked {
     c
 }
 
-/// N1: nothing is sent, and the record is unchanged.
+/// What an action sends over the body of an entry, and the packet, which held other bytes before.
+fn laid(b: &[u8], c: Checked, entry: u32, cursor: usize, action: Action) -> (Written, [u8; LONG_SIZE]) {
+    let mut packet = [0x5A; LONG_SIZE];
+    (written(&mut packet, b, body_at(c.table, entry), cursor, action, 5), packet)
+}
+
+/// The bundle lacks what is to be sent, which is N1: nothing is sent, the packet is zero, and the cursor stays.
 #[track_caller]
-fn n1(a: StepAnswer, h: Host) {
-    assert_eq!((a.refusal, a.sent, a.packet, a.host), (StepRefusal::N1, Sent::Nothing, [0; 60], h));
+fn lacks(written: (Written, [u8; LONG_SIZE]), cursor: usize) {
+    let nothing = Written {
+        served: false,
+        sent: Sent::Nothing,
+        cursor,
+    };
+    assert_eq!(written, (nothing, [0; LONG_SIZE]));
 }
 
 /// E13: 13 packets in 2 passes where component 1 comes first, 9 in 1 where it comes second. Both images are staged.
@@ -145,14 +146,14 @@ fn regions_past_32_bits() {
 fn bodies_past_32_bits() {
     for next in [0u32, 55, 56, 130] {
         let mut b = one_first();
-        b[28..32].copy_from_slice(&0xFFFFFFFFu32.to_le_bytes());
-        b[48..52].copy_from_slice(&next.to_le_bytes());
-        b[52..56].copy_from_slice(&(204 - next).to_le_bytes());
+        put(&mut b, entry_start(0) + entry_at::LENGTH, &0xFFFFFFFFu32.to_le_bytes());
+        put(&mut b, entry_start(1) + entry_at::OFFSET, &next.to_le_bytes());
+        put(&mut b, entry_start(1) + entry_at::LENGTH, &(204 - next).to_le_bytes());
         let c = check(&b);
         assert_eq!((c.verdict, c.place), (BundleVerdict::B7, 2), "{next}");
     }
     let mut b = one_first();
-    b[52..56].copy_from_slice(&0xFFFFFFFFu32.to_le_bytes());
+    put(&mut b, entry_start(1) + entry_at::LENGTH, &0xFFFFFFFFu32.to_le_bytes());
     let c = check(&b);
     assert_eq!((c.verdict, c.place), (BundleVerdict::B7, 2));
 }
@@ -161,11 +162,16 @@ fn bodies_past_32_bits() {
 fn blocks_past_32_bits() {
     let b = one_first();
     let h = sending(0, 0xFFFFFFFF);
-    n1(step(h, &b, &[0; 16]), h);
+    // Nothing is sent, and the record is unchanged.
+    let n1 = (StepRefusal::N1, Sent::Nothing, [0; LONG_SIZE], h);
+    let a = step(h, &b, &[0; SHORT_SIZE]);
+    assert_eq!((a.refusal, a.sent, a.packet, a.host), n1);
     for records in [0, 2, 0xFFFFFFFF] {
         let c = moved(56, 74, records);
-        let a = inner_step(c, 113, h, &b, &[0; 16]);
-        n1(a.step, h);
+        let mut packet = [0x5A; LONG_SIZE];
+        let hand = body_at(c.table, in_hand(h.stage));
+        let a = inner_step(&mut packet, c.verdict, c.place, c.count, hand, 113, h, &b, &[0; SHORT_SIZE]);
+        assert_eq!((a.refusal, a.sent, packet, a.host), n1);
         assert_eq!(a.cursor, 113);
         let place = Place {
             entry: 0,
@@ -179,37 +185,25 @@ fn blocks_past_32_bits() {
 fn offers_past_32_bits() {
     let b = one_first();
     let c = check(&b);
-    let h = Host::fresh(5);
     for entry in [2, 0x0AAAAAAA, 0x0AAAAAAB, 0x15555555, 0xFFFFFFFE, 0xFFFFFFFF] {
-        let m = Move {
-            action: Action::Offer(entry),
-            host: sending(0, 0),
-        };
-        let a = made(&b, body_at(c.table, entry), 9, h, m);
+        let a = laid(&b, c, entry, 9, Action::Offer(entry));
         if entry == 2 {
             // The table ends, but the bytes go on.
-            assert_eq!((a.step.refusal, a.step.sent), (StepRefusal::Served, Sent::Offer));
+            assert_eq!((a.0.served, a.0.sent, a.0.cursor), (true, Sent::Offer, 9));
         } else {
-            n1(a.step, h);
+            lacks(a, 9);
         }
-        assert_eq!(a.cursor, 9);
     }
 }
 
 /// N1 for a block of a body whose end passes 32 bits, also where what is left of that end in 32 bits is the end of a body.
 fn ends_past_32_bits() {
     let b = one_first();
-    let h = sending(0, 0);
-    let m = Move {
-        action: Action::Block(Place { entry: 0, block: 1 }),
-        host: h,
-    };
-    let a = made(&b, body_at(moved(56, 74, 2).table, 0), 113, h, m);
-    assert_eq!((a.step.refusal, a.step.sent, a.cursor), (StepRefusal::Served, Sent::Content, 130));
+    let block = Action::Block(Place { entry: 0, block: 1 });
+    let (a, _) = laid(&b, moved(56, 74, 2), 0, 113, block);
+    assert_eq!((a.served, a.sent, a.cursor), (true, Sent::Content, 130));
     for (offset, length) in [(0xFFFFFFFF, 131), (131, 0xFFFFFFFF), (0xFFFFFFFF, 0xFFFFFFFF)] {
-        let a = made(&b, body_at(moved(offset, length, 2).table, 0), 113, h, m);
-        n1(a.step, h);
-        assert_eq!(a.cursor, 113);
+        lacks(laid(&b, moved(offset, length, 2), 0, 113, block), 113);
     }
     for end in [1 << 32, (1 << 32) + 130, u64::MAX] {
         assert_eq!(next_record(&b, 113, end), Next::Bad, "{end}");

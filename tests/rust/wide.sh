@@ -24,5 +24,7 @@ build() {
     "$rustc" --edition 2021 --target wasm32-unknown-unknown -D warnings -C overflow-checks=on -C opt-level=2 -C panic=abort --out-dir "$out" "$@"
 }
 build --crate-type rlib --crate-name cfu_updater "$crate/src/lib.rs" || fail "the crate does not build"
-build --crate-type cdylib --crate-name wide --extern cfu_updater="$out/libcfu_updater.rlib" tests/rust/wide/lib.rs || fail "the cases do not build"
+# Beside wide.rs and the formats that it uses.
+mkdir "$crate/tests/wide" && cp tests/rust/wide/lib.rs "$crate/tests/wide" || fail "the cases are not copied"
+build --crate-type cdylib --crate-name wide --extern cfu_updater="$out/libcfu_updater.rlib" "$crate/tests/wide/lib.rs" || fail "the cases do not build"
 node tests/rust/wide/wide.mjs "$out/wide.wasm" || fail "a case"

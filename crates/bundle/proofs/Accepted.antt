@@ -8,9 +8,9 @@ use native.Mathlib.Omega.{arith}
 use borrow.Author.Tests.{ltb-false, leb-true, eqb-true, eqb-false, not-false}
 use lib.Dec.{ltb, leb, eqb}
 use lib.ListN.{length, getD, take, drop, length-take, length-drop}
-use lib.Seq.{getD-drop}
 use Rattle.wire.specs.Bytes.{Packet, Bytes, number, bytesAt}
 use Rattle.wire.specs.Checks.{firstOf, any}
+use Rattle.wire.proofs.Bounds.{first-bytes, rest-bytes}
 use Rattle.wire.proofs.Tests.{both, neither}
 use Rattle.bundle_records.specs.Record.{Block, headIn, isSound, blockIn, restOf}
 use Rattle.bundle_records.specs.Parse.{Parsed, whole, broken, more, after, parse, recordsOf, blocksOf}
@@ -19,7 +19,7 @@ use Rattle.bundle_records.specs.declared.Head.the-variants.{Empty, Cut, Whole}
 use Rattle.bundle_layout.specs.Layout.{ENTRY, HEAD, BUNDLE-LIMIT, OFFER-LIMIT, countIn, tableEnd, entriesFrom, entriesIn, idIn, offsetIn, lengthIn, bodyIn}
 use Rattle.bundle_layout.specs.Rows.{Row, served, B, firstEntry, badLength, badCount, badOffer, badBody, isBad, repeated, cutTable, badHead, named, rowB5, rowB6, rowB7, rowB8, bundleRow}
 use Rattle.bundle.specs.Contents.{blocksIn}
-use Rattle.bundle.proofs.table.Laws.{entry-is}
+use Rattle.bundle.proofs.table.Laws.{length-entries, entry-is, skips, none-of}
 use Rattle.bundle.proofs.chain.Laws.{bodies-inside}
 
 -- a row that refuses nothing, and the rows after it
@@ -27,9 +27,9 @@ passes : (t : Bool) (k e : ℕ) (rest : Row) → cond t (B k e) rest ≡ served 
 passes true k e rest h = let z : _≡_ {A = ℕ} 0 1 = cc in absurd (omega arith)
 passes false k e rest h = (refl, h)
 
--- no entry is named
-unnamed : (place : ℕ) → named place ≡ false → place ≡ 0
-unnamed place h = eqb-true place 0 (not-false (eqb place 0) h)
+-- a number that is not unlike x is x
+is : (v x : ℕ) → not (eqb v x) ≡ false → v ≡ x
+is v x h = eqb-true v x (not-false (eqb v x) h)
 
 -- what the rows say of a bundle that none refuses
 pub record Passes (b : List ℕ) : Type 0 where
@@ -57,23 +57,11 @@ rows-pass b h =
       b1 = p1 .0;
       b3 = p3 .0;
       b4 = p4 .0;
-      b5 = unnamed (rowB5 b) (p5 .0);
-      b6 = unnamed (rowB6 b) (p6 .0);
-      b7 = unnamed (rowB7 b) (p7 .0);
-      b8 = unnamed (rowB8 b) (p8 .0);
+      b5 = is (rowB5 b) 0 (p5 .0);
+      b6 = is (rowB6 b) 0 (p6 .0);
+      b7 = is (rowB7 b) 0 (p7 .0);
+      b8 = is (rowB8 b) 0 (p8 .0);
     }
-
--- an entry that a search does not name, and the entries after it
-skips : (t : Bool) (k rest : ℕ) → cond t (suc k) rest ≡ 0 → (t ≡ false) × (rest ≡ 0)
-skips true k rest h = absurd (omega arith)
-skips false k rest h = (refl, h)
-
--- p holds of no entry, where the search names none
-none-of : (p : List ℕ → Bool) (k : ℕ) (es : List (List ℕ)) (i : ℕ) → firstEntry p (suc k) es ≡ 0 → i < length es → p (getD es i []) ≡ false
-unfolding firstEntry
-none-of p k [] i h l = absurd (not-suc-le-zero l)
-none-of p k (e ∷ es) zero h l = skips (p e) k _ h .0
-none-of p k (e ∷ es) (suc i) h l = none-of p (suc k) es i (skips (p e) k _ h .1) (le-of-suc-le-suc l)
 
 -- entry i has none of the ids seen, where the search names none
 unseen : (seen : List ℕ) (k : ℕ) (es : List (List ℕ)) (i : ℕ) → repeated seen (suc k) es ≡ 0 → i < length es → any (eqb (idIn (getD es i []))) seen ≡ false
@@ -94,30 +82,13 @@ apart seen k (e ∷ es) zero (suc j) h m l = λ q.
 apart seen k (e ∷ es) (suc i) (suc j) h m l =
     apart (idIn e ∷ seen) (suc k) es i j (skips (any (eqb (idIn e)) seen) k _ h .1) (le-of-suc-le-suc m) (le-of-suc-le-suc l)
 
--- a part of bytes is bytes
-pub take-bytes : (n : ℕ) (q : List ℕ) → Bytes q → Bytes (take n q)
-take-bytes zero q h i = omega arith
-take-bytes (suc n) [] h i = omega arith
-take-bytes (suc n) (x ∷ q) h zero = h zero
-take-bytes (suc n) (x ∷ q) h (suc i) = take-bytes n q (λ j. h (suc j)) i
-
--- and so is what follows a part
-pub drop-bytes : (n : ℕ) (q : List ℕ) → Bytes q → Bytes (drop n q)
-drop-bytes n q h i = rw (getD-drop n q i 0) (h (n + i))
-
--- a table of n entries has n
-entries-length : (n : ℕ) (q : List ℕ) → length (entriesFrom n q) ≡ n
-unfolding entriesFrom
-entries-length zero q = refl
-entries-length (suc n) q = ap suc (entries-length n (drop ENTRY q))
-
--- each of 24 bytes
+-- the entries of a table are of 24 bytes each
 entries-packet : (n : ℕ) (q : List ℕ) → Bytes q → ENTRY * n ≤ length q → (i : ℕ) → i < n → Packet ENTRY (getD (entriesFrom n q) i [])
 unfolding entriesFrom
 entries-packet zero q h l i m = absurd (not-suc-le-zero m)
-entries-packet (suc n) q h l zero m = record { size = length-take ENTRY q ∙ omega arith; bytes = take-bytes ENTRY q h }
+entries-packet (suc n) q h l zero m = record { size = length-take ENTRY q ∙ omega arith; bytes = first-bytes ENTRY q h }
 entries-packet (suc n) q h l (suc i) m =
-    entries-packet n (drop ENTRY q) (drop-bytes ENTRY q h) (omega (arith, length-drop ENTRY q)) i (le-of-suc-le-suc m)
+    entries-packet n (drop ENTRY q) (rest-bytes ENTRY q h) (omega (arith, length-drop ENTRY q)) i (le-of-suc-le-suc m)
 
 -- a record that content can carry: 1 to 52 bytes
 pub record Carried (r : Block) : Type 0 where
@@ -198,10 +169,6 @@ pub record Offered (e : List ℕ) : Type 0 where
   pub low : 1 ≤ idIn e
   pub high : idIn e ≤ 0xDF
 
--- a byte that is not unlike x is x
-is : (v x : ℕ) → not (eqb v x) ≡ false → v ≡ x
-is v x h = eqb-true v x (not-false (eqb v x) h)
-
 -- what B5 says of an offer that it passes
 offered : (e : List ℕ) → badOffer e ≡ false → Offered e
 unfolding any
@@ -250,14 +217,14 @@ accepted b bytes h =
     let count = neither (ltb (countIn b) 1) (ltb OFFER-LIMIT (countIn b)) (p .b3) in
     let most : length b ≤ BUNDLE-LIMIT = ltb-false BUNDLE-LIMIT (length b) (size .1) in
     let table : tableEnd (countIn b) ≤ length b = ltb-false (length b) (tableEnd (countIn b)) (p .b4) in
-    let es : length (entriesFrom (countIn b) (drop HEAD b)) ≡ countIn b = entries-length (countIn b) (drop HEAD b) in
+    let es : length (entriesFrom (countIn b) (drop HEAD b)) ≡ countIn b = length-entries b in
     record {
       some = ltb-false (countIn b) 1 (count .0);
       few = ltb-false OFFER-LIMIT (countIn b) (count .1);
       entries = es;
       table = table;
       places = entry-is b;
-      packet = entries-packet (countIn b) (drop HEAD b) (drop-bytes HEAD b bytes) (omega (arith, length-drop HEAD b));
+      packet = entries-packet (countIn b) (drop HEAD b) (rest-bytes HEAD b bytes) (omega (arith, length-drop HEAD b));
       offer = λ i l. offered (entry b i) (none-of badOffer 0 (entriesIn b) i (p .b5) (omega arith));
       ids = λ i j l m e. ids (p .b6) i j (omega arith) (omega arith) e;
       inside = λ i l. rw (entry-is b i l) (bodies-inside b (p .b7) i l);

@@ -1,7 +1,7 @@
 -- Every well-formed layout within the limits is accepted. Assumes nothing.
 use mathlib.Core.Path.{_≡_, refl, sym, ap, ap₂, _∙_}
 use mathlib.Core.Bool.{false}
-use mathlib.Core.List.{List, [], _∷_, _++_, append-assoc, map}
+use mathlib.Core.List.{List, [], _∷_, _++_, append-assoc, map, flatten}
 use Prim.Native.Nat.{ℕ, zero, suc, _+_, _*_, _^_, _≤_, _<_}
 use native.Mathlib.Nat.{not-suc-le-zero}
 use native.Mathlib.Omega.{arith}
@@ -10,14 +10,14 @@ use lib.Dec.{eqb}
 use lib.ListN.{length, getD, drop, length-append, List·getD-append}
 use lib.Seq.{take-at, drop-at, drop-drop, getD-append-add}
 use Rattle.wire.specs.Bytes.{number, bytesOf, bytesAt}
-use Rattle.wire.specs.Checks.{any, firstOf}
+use Rattle.wire.specs.Checks.{any, All, firstOf}
 use Rattle.wire.proofs.words.Laws.{round}
 use Rattle.bundle_records.specs.Record.{Block}
 use Rattle.bundle_records.specs.Parse.{whole, recordsOf, written}
 use Rattle.bundle_records.proofs.Written.{written-reads}
 use Rattle.bundle_layout.specs.Layout.{BUNDLE-LIMIT, OFFER-LIMIT, HEAD, ENTRY, tableEnd, entriesFrom, entriesIn, idIn, offsetIn, lengthIn, bodyIn}
 use Rattle.bundle_layout.specs.Rows.{firstEntry, badLength, badHead, badCount, cutTable, badOffer, repeated, gap, isBad, badBody, rowB5, rowB6, rowB7, rowB8, bundleRow}
-use Rattle.bundle.specs.Contents.{joined, All, Part, tableBytes, bundleBytes, GoodPart, LayoutAccepted}
+use Rattle.bundle.specs.Contents.{Part, tableBytes, bundleBytes, GoodPart, LayoutAccepted}
 
 -- a part's body, its entry where the body stands at `at`, and the entries of a layout
 
@@ -109,11 +109,11 @@ entry-id at (p ∷ ps) (suc i) g = entry-id (at + length (bodyOf p)) ps i (g .1)
 
 -- row B7
 
-chained : (size at k : ℕ) (ps : List Part) → All GoodPart ps → size < 256 ^ 4 → at + length (joined (map bodyOf ps)) ≡ size → gap size at k (entriesOf at ps) ≡ 0
-unfolding gap entriesOf joined
+chained : (size at k : ℕ) (ps : List Part) → All GoodPart ps → size < 256 ^ 4 → at + length (flatten (map bodyOf ps)) ≡ size → gap size at k (entriesOf at ps) ≡ 0
+unfolding gap entriesOf flatten
 chained size at k [] g f e = rw (eq-eqb at size (omega arith))
 chained size at k (p ∷ ps) g f e =
-    let l = length-append (bodyOf p) (joined (map bodyOf ps)) in
+    let l = length-append (bodyOf p) (flatten (map bodyOf ps)) in
     let s = g .0 .packet .size in
     rw (entry-offset at p s (omega arith), eq-eqb at at refl, entry-length at p s (omega arith))
     (chained size (at + length (bodyOf p)) (suc k) ps (g .1) f (omega arith))
@@ -126,13 +126,13 @@ parses p g = rw (written-reads (p .blocks) (g .sound)) (go (p .blocks) (g .some)
   go [] h = absurd (not-suc-le-zero h)
   go (r ∷ rs) h = refl
 
-all-parse : (b : List ℕ) (at k : ℕ) (ps : List Part) → All GoodPart ps → length b < 256 ^ 4 → at + length (joined (map bodyOf ps)) ≡ length b → drop at b ≡ joined (map bodyOf ps)
+all-parse : (b : List ℕ) (at k : ℕ) (ps : List Part) → All GoodPart ps → length b < 256 ^ 4 → at + length (flatten (map bodyOf ps)) ≡ length b → drop at b ≡ flatten (map bodyOf ps)
     → firstEntry (badBody b) k (entriesOf at ps) ≡ 0
-unfolding firstEntry entriesOf joined bodyIn
+unfolding firstEntry entriesOf flatten bodyIn
 all-parse b at k [] g f e d = refl
 all-parse b at k (p ∷ ps) g f e d =
     let w = bodyOf p in
-    let j = joined (map bodyOf ps) in
+    let j = flatten (map bodyOf ps) in
     let l = length-append w j in
     let s = g .0 .packet .size in
     let n : drop (at + length w) b ≡ j = sym (drop-drop (length w) at b) ∙ ap (drop (length w)) d ∙ drop-at w j (length w) refl in
@@ -142,22 +142,22 @@ all-parse b at k (p ∷ ps) g f e d =
 -- the bundle of a layout
 
 module _ (ps : List Part) (g : All GoodPart ps) where
-  bundle-length : length (bundleBytes ps) ≡ tableEnd (length ps) + length (joined (map bodyOf ps))
+  bundle-length : length (bundleBytes ps) ≡ tableEnd (length ps) + length (flatten (map bodyOf ps))
   unfolding bundleBytes
   bundle-length =
       let l = length-table (tableEnd (length ps)) ps g in
-      let m = length-append (tableBytes (tableEnd (length ps)) ps) (joined (map bodyOf ps)) in omega arith
+      let m = length-append (tableBytes (tableEnd (length ps)) ps) (flatten (map bodyOf ps)) in omega arith
 
   bundle-entries : entriesIn (bundleBytes ps) ≡ entriesOf (tableEnd (length ps)) ps
   unfolding bundleBytes entriesIn
-  bundle-entries = table-entries (tableEnd (length ps)) ps (joined (map bodyOf ps)) g
+  bundle-entries = table-entries (tableEnd (length ps)) ps (flatten (map bodyOf ps)) g
 
-  bundle-bodies : drop (tableEnd (length ps)) (bundleBytes ps) ≡ joined (map bodyOf ps)
+  bundle-bodies : drop (tableEnd (length ps)) (bundleBytes ps) ≡ flatten (map bodyOf ps)
   unfolding bundleBytes
   bundle-bodies =
       let at = tableEnd (length ps) in
       sym (drop-drop (ENTRY * length ps) HEAD (bundleBytes ps))
-      ∙ drop-at (tableBytes at ps) (joined (map bodyOf ps)) (ENTRY * length ps) (length-table at ps g)
+      ∙ drop-at (tableBytes at ps) (flatten (map bodyOf ps)) (ENTRY * length ps) (length-table at ps g)
 
   -- no row applies to it
 

@@ -1,66 +1,35 @@
 -- The bodies of an accepted bundle tile the file, and each parses into records. Assumes nothing.
 use mathlib.Core.Path.{_≡_, refl, sym, ap, _∙_}
 use mathlib.Core.Bool.{Bool, true, false}
-use mathlib.Core.List.{List, [], _∷_, _++_, map}
+use mathlib.Core.List.{List, [], _∷_, _++_, map, flatten}
 use Prim.Native.Nat.{ℕ, suc, _+_, _-_, _<_}
 use native.Mathlib.Omega.{arith}
-use borrow.Author.Tests.{eqb-true, not-false}
+use borrow.Author.Tests.{eqb-true}
 use lib.Dec.{eqb}
 use lib.ListN.{length, take, drop, take-append-drop}
 use lib.Seq.{drop-drop, drop-length}
 use Rattle.wire.specs.Bytes.{Bytes}
-use Rattle.wire.specs.Checks.{firstOf}
+use Rattle.wire.specs.Checks.{All}
+use Rattle.wire.proofs.Bounds.{first-bytes, rest-bytes}
 use Rattle.bundle_records.specs.Parse.{Parsed, whole, broken, recordsOf}
-use Rattle.bundle_records.proofs.Parts.{bytes-take, bytes-drop}
 use Rattle.bundle_records.proofs.Written.{reads-written}
 use Rattle.bundle_layout.specs.Layout.{OFFER-LIMIT, countIn, tableEnd, entriesIn, offsetIn, lengthIn, bodyIn}
-use Rattle.bundle_layout.specs.Rows.{Row, served, B, firstEntry, badLength, badHead, badCount, cutTable, gap, rowB5, rowB6, rowB7, rowB8, isBad, badBody, named, bundleRow}
-use Rattle.bundle.specs.Contents.{joined, All, GoodBody, AcceptedTiles}
+use Rattle.bundle_layout.specs.Rows.{firstEntry, gap, rowB7, rowB8, isBad, badBody}
+use Rattle.bundle.specs.Contents.{GoodBody, AcceptedTiles}
 use Rattle.bundle.proofs.Limits.{inside}
 use Rattle.bundle.proofs.table.Laws.{length-entries}
-
--- no row applies
-
-skip : (t : Bool) (k e : ℕ) (cs : List (Bool × Row)) → firstOf ((t, B k e) ∷ cs) served ≡ served → (t ≡ false) × (firstOf cs served ≡ served)
-unfolding firstOf
-skip true k e cs h = (cc, cc)
-skip false k e cs h = (refl, h)
-
-none-named : (place : ℕ) → named place ≡ false → place ≡ 0
-none-named place h = eqb-true place 0 (not-false (eqb place 0) h)
-
--- an accepted bundle has an entry, and rows B7 and B8 name none
-pub record Passed (b : List ℕ) : Type 0 where
-  pub some : 0 < countIn b
-  pub chained : rowB7 b ≡ 0
-  pub parsed : rowB8 b ≡ 0
-
-pub passed : (b : List ℕ) → bundleRow b ≡ served → Passed b
-unfolding bundleRow
-passed b h =
-    let h1 = skip (badLength b) 1 0 _ h in
-    let h2 = skip (badHead b) 2 0 _ (h1 .1) in
-    let h3 = skip (badCount b) 3 0 _ (h2 .1) in
-    let h4 = skip (cutTable b) 4 0 _ (h3 .1) in
-    let h5 = skip (named (rowB5 b)) 5 (rowB5 b) _ (h4 .1) in
-    let h6 = skip (named (rowB6 b)) 6 (rowB6 b) _ (h5 .1) in
-    let h7 = skip (named (rowB7 b)) 7 (rowB7 b) _ (h6 .1) in
-    let h8 = skip (named (rowB8 b)) 8 (rowB8 b) _ (h7 .1) in record {
-      some = inside 1 OFFER-LIMIT (countIn b) (h3 .0) .0;
-      chained = none-named (rowB7 b) (h7 .0);
-      parsed = none-named (rowB8 b) (h8 .0);
-    }
+use Rattle.bundle.proofs.Accepted.{rows-pass}
 
 -- the bodies from a place on, one after the other, are what stands there
-tiles : (b : List ℕ) (at k : ℕ) (es : List (List ℕ)) → 0 < k → 1 < k + length es → gap (length b) at k es ≡ 0 → drop at b ≡ joined (map (bodyIn b) es)
-unfolding gap joined bodyIn
+tiles : (b : List ℕ) (at k : ℕ) (es : List (List ℕ)) → 0 < k → 1 < k + length es → gap (length b) at k es ≡ 0 → drop at b ≡ flatten (map (bodyIn b) es)
+unfolding gap flatten bodyIn
 tiles b at k [] z l h = go (eqb at (length b)) refl where
   go : (x : Bool) → eqb at (length b) ≡ x → drop at b ≡ []
   go true q = rw (eqb-true at (length b) q) (drop-length b)
   go false q = let w : k - 1 ≡ 0 = rw q at h in absurd (omega arith)
 tiles b at k (e ∷ es) z l h = go (eqb (offsetIn e) at) refl (λ q. tiles b (offsetIn e + lengthIn e) (suc k) es (omega arith) (omega arith) q) where
-  go : (x : Bool) → eqb (offsetIn e) at ≡ x → (gap (length b) (offsetIn e + lengthIn e) (suc k) es ≡ 0 → drop (offsetIn e + lengthIn e) b ≡ joined (map (bodyIn b) es))
-      → drop at b ≡ joined (map (bodyIn b) (e ∷ es))
+  go : (x : Bool) → eqb (offsetIn e) at ≡ x → (gap (length b) (offsetIn e + lengthIn e) (suc k) es ≡ 0 → drop (offsetIn e + lengthIn e) b ≡ flatten (map (bodyIn b) es))
+      → drop at b ≡ flatten (map (bodyIn b) (e ∷ es))
   go true q ih =
       rw (← eqb-true (offsetIn e) at q)
       (sym (take-append-drop (lengthIn e) (drop (offsetIn e) b))
@@ -82,14 +51,15 @@ good-bodies b k (x ∷ es) h z e = go (badBody b x) refl (λ q. good-bodies b (s
   go true q ih = let w : k ≡ 0 = rw q at e in absurd (omega arith)
   go false q ih =
       let body = take (lengthIn x) (drop (offsetIn x) b) in
-      (good-body body (bytes-take (lengthIn x) (drop (offsetIn x) b) (bytes-drop (offsetIn x) b h)) (recordsOf body) refl q, ih (rw q at e))
+      (good-body body (first-bytes (lengthIn x) (drop (offsetIn x) b) (rest-bytes (offsetIn x) b h)) (recordsOf body) refl q, ih (rw q at e))
 
 pub accepted-tiles : AcceptedTiles
 unfolding rowB7 rowB8
 accepted-tiles b h e =
-    let p = passed b e in
+    let p = rows-pass b e in
+    let some = inside 1 OFFER-LIMIT (countIn b) (p .b3) .0 in
     let at = tableEnd (countIn b) in
     let l = length-entries b in (
-      sym (take-append-drop at b) ∙ ap (λ (t : List ℕ). take at b ++ t) (tiles b at 1 (entriesIn b) (omega arith) (omega (arith, p .some)) (p .chained)),
-      good-bodies b 1 (entriesIn b) h (omega arith) (p .parsed),
+      sym (take-append-drop at b) ∙ ap (λ (t : List ℕ). take at b ++ t) (tiles b at 1 (entriesIn b) (omega arith) (omega (arith, some)) (p .b7)),
+      good-bodies b 1 (entriesIn b) h (omega arith) (p .b8),
     )

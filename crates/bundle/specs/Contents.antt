@@ -2,12 +2,13 @@
 use Prim.Native.Nat.{ℕ, _+_, _-_, _≤_, _<_}
 use mathlib.Core.Path.{_≡_}
 use mathlib.Core.Bool.{false}
-use mathlib.Core.List.{List, [], _∷_, _++_, map}
+use mathlib.Core.List.{List, [], _∷_, _++_, map, flatten}
 use lib.ListN.{length, getD, take, replicate}
 use Rattle.wire.specs.Bytes.{Packet, Bytes, bytesOf}
+use Rattle.wire.specs.Checks.{All}
 use Rattle.wire_offer.specs.Offer.{fieldsIn}
-use Rattle.bundle_records.specs.Record.{Block}
-use Rattle.bundle_records.specs.Parse.{whole, recordsOf, blocksOf, AllSound, written}
+use Rattle.bundle_records.specs.Record.{Block, Sound}
+use Rattle.bundle_records.specs.Parse.{whole, recordsOf, blocksOf, written}
 use Rattle.bundle_layout.specs.declared.Entry.{Entry}
 use Rattle.bundle_layout.specs.declared.Checked.{Checked}
 use Rattle.bundle_layout.specs.Layout.{blankEntry, BUNDLE-LIMIT, OFFER-LIMIT, countIn, tableEnd, entriesIn, offerIn, idIn, offsetIn, lengthIn, bodyIn}
@@ -26,7 +27,7 @@ entryIn b e = record {
   records = length (blocksIn b e);
 }
 
--- what the check tells: the row, the entry that it names, and the count and the table of seven, which are zero where a row refuses
+-- what the check tells: the row, the entry that it names, and the count and the table, which are zero where a row refuses
 pub record Contents : Type 0 where
   pub row : Row
   pub place : ℕ
@@ -53,27 +54,17 @@ toldChecked c = record { row = rowOf (c .verdict) (c .place); place = c .place; 
 abbrev pub bodiesOf : List ℕ → List (List ℕ)
 bodiesOf b = map (bodyIn b) (entriesIn b)
 
--- lists one after the other
-unfoldable pub joined : List (List ℕ) → List ℕ
-joined [] = []
-joined (l ∷ ls) = l ++ joined ls
-
--- every member of a list has p
-abbrev pub All : {A : Type 0} → (A → Type 0) → List A → Type 0
-All p [] = Unit {0}
-All p (x ∷ xs) = p x × All p xs
-
 -- a body that parses into a non-empty list of records
 pub record GoodBody (body : List ℕ) : Type 0 where
   pub blocks : List Block
   pub reads : recordsOf body ≡ whole blocks
   pub some : 0 < length blocks
-  pub sound : AllSound blocks
+  pub sound : All Sound blocks
 
 -- an accepted bundle's bodies tile the file, and each parses into a non-empty list of records
 abbrev pub AcceptedTiles : Type 0
 AcceptedTiles = (b : List ℕ) → Bytes b → bundleRow b ≡ served
-    → (b ≡ take (tableEnd (countIn b)) b ++ joined (bodiesOf b)) × All GoodBody (bodiesOf b)
+    → (b ≡ take (tableEnd (countIn b)) b ++ flatten (bodiesOf b)) × All GoodBody (bodiesOf b)
 
 -- a layout: offers of 16 bytes, each with its records
 pub record Part : Type 0 where
@@ -89,14 +80,14 @@ tableBytes at (p ∷ ps) =
 -- the bundle of a layout
 unfoldable pub bundleBytes : List Part → List ℕ
 bundleBytes ps =
-    length ps ∷ 1 ∷ replicate 6 0 ++ (tableBytes (tableEnd (length ps)) ps ++ joined (map (λ p. written (p .blocks)) ps))
+    length ps ∷ 1 ∷ replicate 6 0 ++ (tableBytes (tableEnd (length ps)) ps ++ flatten (map (λ p. written (p .blocks)) ps))
 
 -- a part that B5 and B8 allow
 pub record GoodPart (p : Part) : Type 0 where
   pub packet : Packet 16 (p .offer)
   pub offer : badOffer (p .offer) ≡ false
   pub some : 0 < length (p .blocks)
-  pub sound : AllSound (p .blocks)
+  pub sound : All Sound (p .blocks)
 
 -- any well-formed layout within the limits is accepted
 abbrev pub LayoutAccepted : Type 0

@@ -9,12 +9,6 @@ use bundle_layout::head::table_end;
 use bundle_layout::parts::length_in;
 use bundle_layout::parts::offset_in;
 
-fn wide(x: u32) -> u64
-    ensures { λ r. ⌜ r ≡ x ⌝ }
-{
-    x as u64
-}
-
 // B7: the first entry whose body does not start where the table or the previous body ends; the last entry where the last end is not the file's; or 0.
 pub(crate) fn gap_place(b: &[u8]) -> u8
     requires { ⌜ (countIn (now b) ≤ OFFER-LIMIT) × (tableEnd (countIn (now b)) ≤ length (now b)) ⌝ }
@@ -25,11 +19,11 @@ pub(crate) fn gap_place(b: &[u8]) -> u8
     let mut i: u8 = 0;
     while i < count {
         let e = entry_at(b, i);
-        let offset = wide(offset_in(e));
+        let offset = offset_in(e) as u64;
         if offset != at {
             return i + 1;
         }
-        at = offset + wide(length_in(e));
+        at = offset + length_in(e) as u64;
         i += 1;
     }
     if at == b.len() as u64 { 0 } else { count }

@@ -6,14 +6,14 @@ ghost use Prim.Native.Nat.{_+_, _-_, _≤_};
 ghost use lib.ListN.{length, take, drop, replicate};
 ghost use Rattle.wire_offer.specs.Offer.{fieldsIn};
 ghost use Rattle.bundle_records.specs.Parse.{recordsOf, blocksOf};
-ghost use Rattle.bundle_layout.specs.Layout.{BUNDLE-LIMIT, OFFER-LIMIT, ENTRY, countIn, tableEnd, entriesIn, offerIn, idIn, offsetIn, lengthIn};
+ghost use Rattle.bundle_layout.specs.Layout.{BUNDLE-LIMIT, OFFER-LIMIT, ENTRY, blankEntry, countIn, tableEnd, entriesIn, offerIn, idIn, offsetIn, lengthIn};
 ghost use Rattle.bundle_layout.specs.Rows.{rowB5, rowB7, rowB8, badOffer};
-ghost use Rattle.bundle_layout.specs.Layout.{blankEntry};
 ghost use Rattle.bundle.specs.Contents.{entryIn};
 use crate::table::entry_at;
 use bundle_layout::Entry;
 use bundle_layout::blank::no_entries;
 use bundle_layout::blank::no_offer;
+use bundle_layout::limits::OFFER_LIMIT;
 use bundle_layout::parts::length_in;
 use bundle_layout::parts::offset_in;
 use bundle_records::Tally;
@@ -25,7 +25,7 @@ use wire_offer::offer::OfferFields;
 // What row B8 says (an entry, or 0), and the contents table where it says 0.
 pub struct Filled {
     pub place: u8,
-    pub table: [Entry; 7],
+    pub table: [Entry; OFFER_LIMIT],
 }
 
 // The fields of 16 bytes that row B5 allows, by the one reader of the offer channel.
@@ -67,10 +67,10 @@ fn contents_in(b: &[u8], e: &[u8]) -> Entry
     let size = length_in(e);
     let records = records_in(b, offset, size);
     Entry {
-        offer: offer,
-        offset: offset,
+        offer,
+        offset,
         length: size,
-        records: records,
+        records,
     }
 }
 
@@ -90,14 +90,11 @@ pub(crate) fn contents_of(b: &[u8]) -> Filled
         if x.records == 0 {
             return Filled {
                 place: i + 1,
-                table: table,
+                table,
             };
         }
         table[i as usize] = x;
         i += 1;
     }
-    Filled {
-        place: 0,
-        table: table,
-    }
+    Filled { place: 0, table }
 }

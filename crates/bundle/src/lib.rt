@@ -47,6 +47,6 @@ pub fn check(b: &[u8]) -> Checked
         verdict: BundleVerdict::Fine,
         place: 0,
         count: b[0],
-        table: table,
+        table,
     }
 }

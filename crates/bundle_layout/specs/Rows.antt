@@ -29,16 +29,23 @@ numberOf B6 = 6
 numberOf B7 = 7
 numberOf B8 = 8
 
+-- a row refuses
+abbrev pub isRefused : BundleVerdict → Bool
+isRefused v = not (eqb (numberOf v) 0)
+
+-- the row of a number, with its entry
+abbrev pub rowAt : (number entry : ℕ) → Row
+rowAt number entry = cond (eqb number 0) served (B number entry)
+
 abbrev pub rowOf : BundleVerdict → ℕ → Row
-rowOf Fine entry = served
-rowOf B1 entry = B 1 entry
-rowOf B2 entry = B 2 entry
-rowOf B3 entry = B 3 entry
-rowOf B4 entry = B 4 entry
-rowOf B5 entry = B 5 entry
-rowOf B6 entry = B 6 entry
-rowOf B7 entry = B 7 entry
-rowOf B8 entry = B 8 entry
+rowOf v entry = rowAt (numberOf v) entry
+
+-- the verdict of a number; from 8 on it is B8
+abbrev pub VERDICTS : List BundleVerdict
+VERDICTS = Fine ∷ B1 ∷ B2 ∷ B3 ∷ B4 ∷ B5 ∷ B6 ∷ B7 ∷ []
+
+abbrev pub verdictOf : ℕ → BundleVerdict
+verdictOf number = getD VERDICTS number B8
 
 -- the first entry of which p holds, the first being number k
 unfoldable pub firstEntry : (List ℕ → Bool) → ℕ → List (List ℕ) → ℕ
@@ -55,7 +62,7 @@ badHead b =
     not (eqb (getD b 1 0) 1)
     || any (λ i. not (eqb (getD b i 0) 0)) (2 ∷ 3 ∷ 4 ∷ 5 ∷ 6 ∷ 7 ∷ [])
 
--- B3: count not 1-7
+-- B3: count not 1 to the limit
 abbrev pub badCount : List ℕ → Bool
 badCount b = ltb (countIn b) 1 || ltb OFFER-LIMIT (countIn b)
 

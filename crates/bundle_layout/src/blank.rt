@@ -6,6 +6,7 @@ ghost use Rattle.bundle_layout.specs.Layout.{OFFER-LIMIT, blankEntry};
 use crate::BundleVerdict;
 use crate::Checked;
 use crate::Entry;
+use crate::limits::OFFER_LIMIT;
 use wire::version::Version;
 use wire_offer::offer::OfferFields;
 
@@ -31,18 +32,18 @@ fn no_entry() -> Entry
 {
     let offer = no_offer();
     Entry {
-        offer: offer,
+        offer,
         offset: 0,
         length: 0,
         records: 0,
     }
 }
 
-pub fn no_entries() -> [Entry; 7]
+pub fn no_entries() -> [Entry; OFFER_LIMIT]
     ensures { λ r. ⌜ r ≡ replicate OFFER-LIMIT blankEntry ⌝ }
 {
     let none = no_entry();
-    [none; 7]
+    [none; OFFER_LIMIT]
 }
 
 // A refusal: its row and entry, with no contents.
@@ -51,8 +52,8 @@ pub fn refused(verdict: BundleVerdict, place: u8) -> Checked
 {
     let none = no_entries();
     Checked {
-        verdict: verdict,
-        place: place,
+        verdict,
+        place,
         count: 0,
         table: none,
     }

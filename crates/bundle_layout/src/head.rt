@@ -2,11 +2,11 @@
 ghost use mathlib.Core.Path.{_≡_};
 ghost use Rattle.bundle_layout.specs.Layout.{tableEnd};
 ghost use Rattle.bundle_layout.specs.Rows.{badLength, badHead, badCount, cutTable};
-use crate::bytes::byte;
 use crate::limits::BUNDLE_LIMIT;
 use crate::limits::ENTRY;
 use crate::limits::HEAD;
 use crate::limits::OFFER_LIMIT;
+use wire::words::byte_at;
 
 // B1: under 8 or over 65,536 bytes.
 pub fn bad_length(b: &[u8]) -> bool
@@ -19,21 +19,21 @@ pub fn bad_length(b: &[u8]) -> bool
 pub fn bad_head(b: &[u8]) -> bool
     ensures { λ r. ⌜ r ≡ badHead (now (b .entry)) ⌝ }
 {
-    (byte(b, 1) != 1)
-        | (byte(b, 2) != 0)
-        | (byte(b, 3) != 0)
-        | (byte(b, 4) != 0)
-        | (byte(b, 5) != 0)
-        | (byte(b, 6) != 0)
-        | (byte(b, 7) != 0)
+    (byte_at(b, 1) != 1)
+        | (byte_at(b, 2) != 0)
+        | (byte_at(b, 3) != 0)
+        | (byte_at(b, 4) != 0)
+        | (byte_at(b, 5) != 0)
+        | (byte_at(b, 6) != 0)
+        | (byte_at(b, 7) != 0)
 }
 
-// B3: count not 1-7.
+// B3: count not 1 to the limit.
 pub fn bad_count(b: &[u8]) -> bool
     ensures { λ r. ⌜ r ≡ badCount (now (b .entry)) ⌝ }
 {
-    let count = byte(b, 0);
-    (count < 1) | (OFFER_LIMIT < count)
+    let count = byte_at(b, 0);
+    (count < 1) | (OFFER_LIMIT < count as usize)
 }
 
 // Where the table of n offers ends.
@@ -47,5 +47,5 @@ pub fn table_end(n: u8) -> usize
 pub fn cut_table(b: &[u8]) -> bool
     ensures { λ r. ⌜ r ≡ cutTable (now (b .entry)) ⌝ }
 {
-    b.len() < table_end(byte(b, 0))
+    b.len() < table_end(byte_at(b, 0))
 }

@@ -4,7 +4,7 @@
 pub const BUNDLE_LIMIT: usize = 65536;
 
 // The most offers.
-pub const OFFER_LIMIT: u8 = 7;
+pub const OFFER_LIMIT: usize = 7;
 
 // The head, and an entry of the table.
 pub const HEAD: usize = 8;

@@ -8,13 +8,14 @@ use borrow.Author.Tests.{ne-eqb, le-ltb, le-leb}
 use lib.ListN.{length, take, drop, length-append, length-drop, take-append-drop}
 use lib.Seq.{take-at, drop-at, drop-drop, length-take-le}
 use Rattle.wire.specs.Bytes.{Bytes, bytesOf, bytesAt}
+use Rattle.wire.specs.Checks.{All}
 use Rattle.wire.specs.declared.address.RegionAddress.{RegionAddress}
+use Rattle.wire.proofs.Bounds.{first-bytes, rest-bytes}
 use Rattle.wire.proofs.words.Laws.{round, back, split}
 use Rattle.bundle_records.specs.declared.Head.{Head}
 use Rattle.bundle_records.specs.declared.Head.the-variants.{Empty, Cut, Whole}
 use Rattle.bundle_records.specs.Record.{DATA-LIMIT, Block, Sound, blockBytes, headIn, blockIn, restOf}
-use Rattle.bundle_records.specs.Parse.{Parsed, whole, broken, more, after, parse, recordsOf, AllSound, written, WrittenReads, ReadsWritten}
-use Rattle.bundle_records.proofs.Parts.{bytes-take, bytes-drop}
+use Rattle.bundle_records.specs.Parse.{Parsed, whole, broken, more, after, parse, recordsOf, written, WrittenReads, ReadsWritten}
 use Rattle.bundle_records.proofs.Heads.{Found, Seen, seen}
 use Rattle.bundle_records.proofs.Parsing.{records-by, rest-short}
 
@@ -52,7 +53,7 @@ module _ (body : List ℕ) (a : RegionAddress) (n : ℕ) (h : Bytes body) (f : F
     address = let e = ap (λ (b : RegionAddress). b .0) (f .placed) in omega (arith, h 0, h 1, h 2, h 3);
     some = rw data-length (f .some);
     few = rw data-length (f .few);
-    bytes = bytes-take n (drop 5 body) (bytes-drop 5 body h);
+    bytes = first-bytes n (drop 5 body) (rest-bytes 5 body h);
   }
 
   block-back : blockBytes (blockIn a n body) ++ restOf n body ≡ body
@@ -65,7 +66,7 @@ module _ (body : List ℕ) (a : RegionAddress) (n : ℕ) (h : Bytes body) (f : F
 
 -- a body is the records that it reads as
 abbrev Exact : List ℕ → List Block → Type 0
-Exact body rs = AllSound rs × (written rs ≡ body)
+Exact body rs = All Sound rs × (written rs ≡ body)
 
 exact-more : (r : Block) (q : Parsed) (rs : List Block) (body rest : List ℕ) → Sound r → blockBytes r ++ rest ≡ body → ((ts : List Block) → q ≡ whole ts → Exact rest ts)
     → more r q ≡ whole rs → Exact body rs
@@ -88,7 +89,7 @@ unfolding parse written
 exact zero [] rs h l p = let q : rs ≡ [] = cc in rw q (tt, refl)
 exact zero (x ∷ body) rs h l p = absurd (not-suc-le-zero l)
 exact (suc f) body rs h l p =
-    exact-step f body rs h (λ n ts q. exact f (restOf n body) ts (bytes-drop (5 + n) body h) (rest-short body n f l) q) (headIn body) (seen body) p
+    exact-step f body rs h (λ n ts q. exact f (restOf n body) ts (rest-bytes (5 + n) body h) (rest-short body n f l) q) (headIn body) (seen body) p
 
 pub reads-written : ReadsWritten
 reads-written body rs h p = exact (length body) body rs h (omega arith) p

@@ -4,6 +4,7 @@ use mathlib.Core.Path.{_≡_}
 use mathlib.Core.List.{List, [], _∷_, _++_}
 use lib.ListN.{length}
 use Rattle.wire.specs.Bytes.{Bytes}
+use Rattle.wire.specs.Checks.{All}
 use Rattle.bundle_records.specs.declared.Head.{Head}
 use Rattle.bundle_records.specs.declared.Head.the-variants.{Empty, Cut, Whole}
 use Rattle.bundle_records.specs.declared.Tally.{Tally}
@@ -45,11 +46,6 @@ abbrev pub blocksOf : Parsed → List Block
 blocksOf (whole rs) = rs
 blocksOf broken = []
 
--- each record can be written
-abbrev pub AllSound : List Block → Type 0
-AllSound [] = Unit {0}
-AllSound (r ∷ rs) = Sound r × AllSound rs
-
 -- records written out, one after the other
 unfoldable pub written : List Block → List ℕ
 written [] = []
@@ -57,8 +53,8 @@ written (r ∷ rs) = blockBytes r ++ written rs
 
 -- what is written out is read back
 abbrev pub WrittenReads : Type 0
-WrittenReads = (rs : List Block) → AllSound rs → recordsOf (written rs) ≡ whole rs
+WrittenReads = (rs : List Block) → All Sound rs → recordsOf (written rs) ≡ whole rs
 
 -- a body that reads as records is those records written out
 abbrev pub ReadsWritten : Type 0
-ReadsWritten = (body : List ℕ) (rs : List Block) → Bytes body → recordsOf body ≡ whole rs → (AllSound rs) × (written rs ≡ body)
+ReadsWritten = (body : List ℕ) (rs : List Block) → Bytes body → recordsOf body ≡ whole rs → (All Sound rs) × (written rs ≡ body)

@@ -30,10 +30,7 @@ fn first(s: &[u8]) -> Head
     let size = s[4];
     if is_sound(size, n - 5) {
         let address = RegionAddress::new(words::word32(s[0], s[1], s[2], s[3]));
-        Head::Whole {
-            address: address,
-            size: size,
-        }
+        Head::Whole { address, size }
     } else {
         Head::Cut
     }
@@ -57,9 +54,9 @@ pub fn next_record(bytes: &[u8], at: usize, end: u64) -> Next
         Head::Whole { address, size } => {
             let start = at + 5;
             Next::Record {
-                address: address,
-                start: start,
-                size: size,
+                address,
+                start,
+                size,
                 next: start + size as usize,
             }
         }

@@ -17,11 +17,11 @@ use Rattle.device.specs.Refusals.{refusalOf}
 use Rattle.device.specs.Offer.{offerEntry}
 use Rattle.device.specs.Content.{contentEntry}
 use Rattle.device.specs.Entries.{setUpOf, versionEntry}
-use Rattle.device_bytes.specs.Layout.{componentsBytes, deviceBytes, componentsIn, deviceIn, readDevice, listIn}
+use Rattle.device_bytes.specs.Layout.{componentsBytes, deviceBytes, componentsIn, deviceIn, stagedFit, isRecord, readDevice, withSessionBytes, withComponentBytes, listIn}
 use Rattle.bundle_layout.specs.Rows.{bundleRow}
 use Rattle.bundle.specs.Contents.{checkOf}
 use Rattle.host.specs.Inner.{innerOf}
-use Rattle.host_bytes.specs.Layout.{hostBytes, hostIn, readHost, bodiesBytes, contentsBytes, contentsIn}
+use Rattle.host_bytes.specs.Layout.{hostBytes, hostIn, flagsFit, readHost, bodiesBytes, contentsBytes, contentsIn}
 use Rattle.c_device.specs.Device.{setUpCall, versionsCall, offerCall, contentCall}
 use Rattle.c_host.specs.Host.{checkCall, stepCheckedCall, stepCheckedContents}
 use Rattle.c_build.specs.Build.{buildOfferCall}
@@ -30,11 +30,12 @@ use Rattle.c_api.specs.Bench.{CallsHold}
 use Rattle.c_api.proofs.Packets.{packets-hold}
 
 pub calls-hold : CallsHold
-unfolding flatten same firstOf any pairs offerBytes fieldsIn buildOf kindIn readOf flat replyBytes within blank put eraseOf writeOf firstFrom find badIds badRegions setupVerdict breaksD1 refusalOf rejections needUnmet offerVerdict onOffer offerEntry contentVerdict takeBlock onBlock contentEntry setUpOf versionEntry componentsBytes deviceBytes componentsIn deviceIn readDevice listIn bundleRow checkOf innerOf hostBytes hostIn readHost bodiesBytes contentsBytes contentsIn setUpCall versionsCall offerCall contentCall checkCall stepCheckedCall stepCheckedContents buildOfferCall readOfferCall
+unfolding flatten same firstOf any pairs offerBytes fieldsIn buildOf kindIn readOf flat replyBytes within blank put eraseOf writeOf firstFrom find badIds badRegions setupVerdict breaksD1 refusalOf rejections needUnmet offerVerdict onOffer offerEntry contentVerdict takeBlock onBlock contentEntry setUpOf versionEntry componentsBytes deviceBytes componentsIn deviceIn stagedFit isRecord readDevice withSessionBytes withComponentBytes listIn bundleRow checkOf innerOf hostBytes hostIn readHost bodiesBytes contentsBytes contentsIn setUpCall versionsCall offerCall contentCall checkCall stepCheckedCall stepCheckedContents buildOfferCall readOfferCall flagsFit
 calls-hold = record {
   sets-up = refl;
   versions = refl;
   accepts = refl;
+  passes-over = refl;
   takes = refl;
   refuses = refl;
   sending = refl;

@@ -10,6 +10,7 @@ use lib.ListN.{length, replicate}
 use Rattle.wire.specs.Rows.{Row, served, P, Told}
 use Rattle.wire.specs.Version.{versionOf}
 use Rattle.wire.proofs.Tests.{both, served-true}
+use Rattle.wire.proofs.version.Laws.{minor-of}
 use Rattle.wire_offer.specs.Offer as offer
 use Rattle.wire_offer.specs.Signal.{informationBytes, extendedBytes}
 use Rattle.wire_offer.specs.Reply as offerReply
@@ -24,7 +25,7 @@ use Rattle.wire_version.specs.Reply as versions
 use Rattle.wire_version.specs.declared.VersionReply.{VersionReply}
 use Rattle.wire_version.proofs.Laws.{known, version-reply-r1}
 use Rattle.c_version.specs.Layout.{RUNNING-SIZE, COMPONENTS-SIZE, componentsIn}
-use Rattle.c_version.proofs.Back.{components-write-back, components-seven, components-fit, components-first}
+use Rattle.c_version.proofs.Back.{components-write-back, components-all, components-fit, components-first}
 use Rattle.c_types.specs.declared.types.CVersion.{CVersion}
 use Rattle.c_types.specs.declared.types.COffer.{COffer}
 use Rattle.c_types.specs.Numbers.{SERVED, WRONG-LIST, WRONG-OUTPUT, packetNumber, sized}
@@ -69,9 +70,8 @@ flag-back (suc (suc f)) h = absurd (omega (arith, leb-true (suc (suc f)) 1 h))
 parts-back : (v : CVersion) → FitsCVersion v → partsOf (versionOf (v .major) (v .minor) (v .variant)) ≡ v
 parts-back v f =
     let n = v .variant + v .minor * 256 + v .major * 16777216 in
-    let m : n / 256 ≡ v .minor + v .major * 65536 = omega arith in
     let a : n / 16777216 ≡ v .major = omega arith in
-    let b : n / 256 % 65536 ≡ v .minor = omega arith in
+    let b : n / 256 % 65536 ≡ v .minor = minor-of (v .major) (v .minor) (v .variant) (f .variant) (f .minor) in
     let c : n % 256 ≡ v .variant = omega arith in simp (a, b, c)
 
 -- the fields of an offer whose flags fit read back
@@ -125,9 +125,9 @@ version-reply-calls-read-back count protocol components packet bytes q l h =
     let s = right-size components packet COMPONENTS-SIZE WRONG-LIST (built LONG-SIZE packet (versions.buildOf r)) (omega arith) h in
     let b = built-served LONG-SIZE packet (versions.buildOf r) (rw (s .1) at h) in
     let k = known count protocol (allowed-served r (b .0)) in
-    let e = version-reply-r1 r (record { count = omega arith; protocol = omega arith; size = components-seven components; each = components-fit 7 components q }) (b .0) in
+    let e = version-reply-r1 r (record { count = omega arith; protocol = omega arith; size = components-all components; each = components-fit 7 components q }) (b .0) in
     let z : (7 - count) * RUNNING-SIZE ≡ length components - count * RUNNING-SIZE = omega arith in
-    let w = components-first count (7 - count) es (omega (arith, components-seven components)) in
+    let w = components-first count (7 - count) es (omega (arith, components-all components)) in
     rw (eq-eqb (length bytes) COMPONENTS-SIZE l, s .1, b .1) (ap versionsBy e ∙ rw (w, z, components-write-back components (record { size = s .0; bytes = q })))
 
 -- a packet without P2 is what its build left, where it was served

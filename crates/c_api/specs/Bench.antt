@@ -51,6 +51,19 @@ receiving = 0x42 ∷ 0x00 ∷ 128 ∷ 0 ∷ 0 ∷ 0 ∷ 2 ∷ 2 ∷ 0 ∷ 0xA5 �
 abbrev pub owing : List ℕ
 owing = 0x42 ∷ 0x00 ∷ 128 ∷ 0 ∷ 0 ∷ 0 ∷ 2 ∷ 1 ∷ 0 ∷ 0xA5 ∷ 0 ∷ 0 ∷ 1 ∷ 0x5A ∷ components
 
+-- idle, with other bytes where an idle session and a component with nothing staged have none; and what E2's offer leaves of it: the session is written anew
+abbrev pub strewnComponents : List ℕ
+strewnComponents =
+    1 ∷ 0x00 ∷ 0x02 ∷ 0x00 ∷ 0x01 ∷ 0 ∷ 0 ∷ 0 ∷ 0 ∷ 64 ∷ 0 ∷ 0 ∷ 0 ∷ 0 ∷ 0 ∷ 0 ∷ 0 ∷ 9
+    ∷ 2 ∷ 0x00 ∷ 0x01 ∷ 0x00 ∷ 0x01 ∷ 64 ∷ 0 ∷ 0 ∷ 0 ∷ 64 ∷ 0 ∷ 0 ∷ 0 ∷ 0 ∷ 0 ∷ 0 ∷ 0 ∷ 0
+    ∷ replicate 90 0
+
+abbrev pub strewn : List ℕ
+strewn = 0x42 ∷ 0x00 ∷ 128 ∷ 0 ∷ 0 ∷ 0 ∷ 2 ∷ 0 ∷ 9 ∷ 9 ∷ 9 ∷ 9 ∷ 0 ∷ 9 ∷ strewnComponents
+
+abbrev pub strewnOffered : List ℕ
+strewnOffered = 0x42 ∷ 0x00 ∷ 128 ∷ 0 ∷ 0 ∷ 0 ∷ 2 ∷ 1 ∷ 0 ∷ 0xA5 ∷ 0 ∷ 0 ∷ 0 ∷ 0 ∷ strewnComponents
+
 -- E2's offer and its reply; a first block of one byte with sequence 0x1234, and its reply
 abbrev pub offer : List ℕ
 offer = 0x00 ∷ 0x00 ∷ 0x01 ∷ 0xA5 ∷ 0x00 ∷ 0x03 ∷ 0x00 ∷ 0x01 ∷ 0x00 ∷ 0x00 ∷ 0x00 ∷ 0x00 ∷ 0x02 ∷ 0x00 ∷ 0x42 ∷ 0x00 ∷ []
@@ -125,6 +138,8 @@ pub record CallsHold : Type 0 where
       ≡ leaves SERVED (2 ∷ 0 ∷ 0 ∷ 2 ∷ 0 ∷ 2 ∷ 0 ∷ 1 ∷ 0 ∷ 1 ∷ 0x42 ∷ 0 ∷ 0 ∷ 1 ∷ 0 ∷ 1 ∷ 0 ∷ 2 ∷ 0x42 ∷ 0 ∷ replicate 40 0)
   pub accepts : offerCall device 128 offer (replicate 32 9)
       ≡ record { number = SERVED; count = 1; device = offered; replies = accepted ++ replicate 16 0 }
+  pub passes-over : offerCall strewn 128 offer (replicate 32 9)
+      ≡ record { number = SERVED; count = 1; device = strewnOffered; replies = accepted ++ replicate 16 0 }
   pub takes : contentCall owing (replicate 128 0) block (replicate 32 9)
       ≡ record { number = SERVED; count = 1; device = receiving; replies = taken ++ replicate 16 0 }
   pub refuses : offerCall device 127 offer (replicate 32 9) ≡ record { number = 0x4402; count = 0; device = device; replies = replicate 32 0 }

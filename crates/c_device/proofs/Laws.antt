@@ -1,5 +1,5 @@
 -- The replies of an answer, one after the other, and the record that a call leaves. Assumes nothing.
-use mathlib.Core.Path.{_≡_, refl, sym, ap, subst, _∙_}
+use mathlib.Core.Path.{_≡_, refl, sym, ap, _∙_}
 use mathlib.Core.Bool.{cond}
 use mathlib.Core.List.{List, [], _∷_, _++_, flatten, append-nil}
 use Prim.Native.Nat.{ℕ, _-_}
@@ -19,7 +19,7 @@ use Rattle.device.specs.declared.record.Device.{Device}
 use Rattle.device_bytes.specs.Layout.{deviceBytes}
 use Rattle.c_types.specs.declared.types.CReplies.{CReplies}
 use Rattle.c_types.specs.Numbers.{setupNumber, deviceNumber, filledTo}
-use Rattle.device_in_place.specs.InPlace.{keptBy, leftBy}
+use Rattle.device_in_place.specs.InPlace.{keptBy}
 use Rattle.c_device.specs.Device.{REPLIES-SIZE, madeBy, toldReplies, repliedBy}
 use Rattle.c_types.specs.Lent.{Left, leaves}
 use Rattle.c_types.proofs.lent.Laws.{stored}
@@ -81,6 +81,6 @@ stored-made v lent b d n e h f g =
     stored lent b n e h ∙ ap (λ (t : List ℕ). leaves n (cond (eqb n 0) t lent)) g ∙ ap (leaves n) (made-by v lent d f)
     ∙ ap (λ (m : ℕ). leaves m (madeBy (setup.rowOf v) lent d)) f
 
--- what an outcome leaves, told by another that is the same
-pub answers : (r : CReplies) (device replies : List ℕ) {x y : Outcome} → x ≡ y → toldReplies r (leftBy device x) replies ≡ repliedBy device x → toldReplies r (leftBy device y) replies ≡ repliedBy device y
-answers r device replies e h = subst (λ (o : Outcome). toldReplies r (leftBy device o) replies ≡ repliedBy device o) e h
+-- an outcome, told by another that is the same
+pub answers : (r : CReplies) (left replies : List ℕ) {x y : Outcome} → x ≡ y → toldReplies r left replies ≡ repliedBy left x → toldReplies r left replies ≡ repliedBy left y
+answers r left replies e h = h ∙ ap (repliedBy left) e

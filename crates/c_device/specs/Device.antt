@@ -2,13 +2,14 @@
 use Prim.Native.Nat.{ℕ}
 use mathlib.Core.List.{List, flatten}
 use lib.ListN.{length}
+use Rattle.wire.specs.Codes.{COMPONENT-LIMIT}
 use Rattle.device_component.specs.Setup as setup
 use Rattle.device.specs.declared.record.Device.{Device}
 use Rattle.device.specs.Refusals.{Outcome}
 use Rattle.device.specs.Entries.{setUpOf, versionEntry, Reset, resetEntry}
 use Rattle.device.specs.Offer.{offerEntry}
 use Rattle.device.specs.Content.{contentEntry, contentStaging}
-use Rattle.device_in_place.specs.InPlace.{keptBy}
+use Rattle.device_in_place.specs.InPlace.{keptBy, offerLeaves, contentLeaves}
 use Rattle.device_bytes.specs.Layout.{DEVICE-SIZE, LIST-SIZE, deviceBytes, readDevice, listIn}
 use Rattle.c_types.specs.declared.types.CReplies.{CReplies}
 use Rattle.c_types.specs.Numbers.{WRONG-RECORD, WRONG-LIST, WRONG-OUTPUT, setupNumber, deviceNumber, sized, filledTo}
@@ -27,8 +28,8 @@ unfoldable pub setUpCall : (device : List ℕ) → (platform : ℕ) → (list : 
 setUpCall device platform list count n =
     sized device DEVICE-SIZE (leaves WRONG-RECORD device)
     (sized list LIST-SIZE (leaves WRONG-LIST device)
-    (leaves (setupNumber (setUpOf platform (listIn 7 list) count n .row))
-    (madeBy (setUpOf platform (listIn 7 list) count n .row) device (setUpOf platform (listIn 7 list) count n .device))))
+    (leaves (setupNumber (setUpOf platform (listIn COMPONENT-LIMIT list) count n .row))
+    (madeBy (setUpOf platform (listIn COMPONENT-LIMIT list) count n .row) device (setUpOf platform (listIn COMPONENT-LIMIT list) count n .device))))
 
 -- the version reply, and the packet that it leaves
 unfoldable pub versionsCall : (device packet : List ℕ) → Left
@@ -57,11 +58,11 @@ toldReplies r device replies = record { number = r .number; count = r .count; de
 abbrev pub refusedReplies : (number : ℕ) → (device replies : List ℕ) → Replied
 refusedReplies number device replies = record { number = number; count = 0; device = device; replies = replies }
 
-abbrev pub repliedBy : (device : List ℕ) → Outcome → Replied
-repliedBy device o = record {
+abbrev pub repliedBy : (left : List ℕ) → Outcome → Replied
+repliedBy left o = record {
   number = deviceNumber (o .row);
   count = length (o .sent);
-  device = keptBy (o .row) device (deviceBytes (o .device));
+  device = left;
   replies = filledTo REPLIES-SIZE (flatten (o .sent));
 }
 
@@ -69,13 +70,13 @@ unfoldable pub offerCall : (device : List ℕ) → (n : ℕ) → (report replies
 offerCall device n report replies =
     sized device DEVICE-SIZE (refusedReplies WRONG-RECORD device replies)
     (sized replies REPLIES-SIZE (refusedReplies WRONG-OUTPUT device replies)
-    (repliedBy device (offerEntry (readDevice device) n report)))
+    (repliedBy (offerLeaves device (offerEntry (readDevice device) n report)) (offerEntry (readDevice device) n report)))
 
 unfoldable pub contentCall : (device staging report replies : List ℕ) → Replied
 contentCall device staging report replies =
     sized device DEVICE-SIZE (refusedReplies WRONG-RECORD device replies)
     (sized replies REPLIES-SIZE (refusedReplies WRONG-OUTPUT device replies)
-    (repliedBy device (contentEntry (readDevice device) staging report)))
+    (repliedBy (contentLeaves device (contentEntry (readDevice device) staging report)) (contentEntry (readDevice device) staging report)))
 
 -- the staging buffer after a content packet
 unfoldable pub contentCallStaging : (device staging report replies : List ℕ) → List ℕ

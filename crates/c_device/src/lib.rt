@@ -5,7 +5,7 @@ ghost use Prim.Native.Nat.{ℕ};
 ghost use lib.ListN.{length};
 ghost use Rattle.device.specs.Refusals.{sentWith};
 ghost use Rattle.device.specs.declared.record.Device.{Device};
-ghost use Rattle.device_in_place.specs.InPlace.{outcomeOf, leftBy};
+ghost use Rattle.device_in_place.specs.InPlace.{outcomeOf};
 ghost use Rattle.c_types.specs.Numbers.{filledTo};
 ghost use Rattle.c_device.specs.Device.{REPLIES-SIZE, toldReplies, repliedBy, setUpCall, versionsCall, resetCall, offerCall, contentCall, contentCallStaging};
 ghost use Rattle.c_types.specs.Lent.{leaves};
@@ -28,6 +28,7 @@ use device_bytes::read_list;
 use device_in_place::Reply;
 use device_in_place::content::content_in_place;
 use device_in_place::offer::offer_in_place;
+use device_session::effect::Replies;
 use device_session::owed::Owed;
 use wire::words;
 
@@ -42,13 +43,15 @@ fn joined(first: [u8; 16], second: [u8; 16]) -> [u8; 32]
 }
 
 // The replies that are sent: the one that is due and the READY that was owed, zeros behind them.
-fn replies_of(due: bool, reply: [u8; 16], ready: Owed) -> [u8; 32]
-    ensures { λ r. ⌜ r ≡ filledTo REPLIES-SIZE (flatten (sentWith due reply ready)) ⌝ }
+fn replies_of(replies: Replies) -> [u8; 32]
+    ensures { λ r. ⌜ r ≡ filledTo REPLIES-SIZE (flatten (sentWith replies)) ⌝ }
 {
     let none = [0u8; 16];
+    let reply = replies.reply;
+    let ready = replies.ready;
     match ready {
         Owed::Nothing => {
-            if due {
+            if replies.due {
                 joined(reply, none)
             } else {
                 joined(none, none)
@@ -56,7 +59,7 @@ fn replies_of(due: bool, reply: [u8; 16], ready: Owed) -> [u8; 32]
         }
         Owed::Token(token) => {
             let b = ready_reply(token);
-            if due {
+            if replies.due {
                 joined(reply, b)
             } else {
                 joined(b, none)
@@ -66,28 +69,28 @@ fn replies_of(due: bool, reply: [u8; 16], ready: Owed) -> [u8; 32]
 }
 
 // How many they are.
-fn count_of(due: bool, reply: [u8; 16], ready: Owed) -> u32
-    ensures { λ r. ⌜ r ≡ length (sentWith due reply ready) ⌝ }
+fn count_of(replies: Replies) -> u32
+    ensures { λ r. ⌜ r ≡ length (sentWith replies) ⌝ }
 {
+    let ready = replies.ready;
     match ready {
-        Owed::Nothing => { if due { 1 } else { 0 } }
-        Owed::Token(_) => { if due { 2 } else { 1 } }
+        Owed::Nothing => { if replies.due { 1 } else { 0 } }
+        Owed::Token(_) => { if replies.due { 2 } else { 1 } }
     }
 }
 
 // What an answer leaves; the record is left already.
 fn answered(a: Reply, replies: &mut [u8]) -> CReplies
     requires { ⌜ length (now replies) ≡ REPLIES-SIZE ⌝ }
-    ensures { λ r. ⌜ ((device : List ℕ) → (d : Device) → toldReplies r (leftBy device (outcomeOf a d)) (now (replies .exit)) ≡ repliedBy device (outcomeOf a d)) ⌝ }
+    ensures { λ r. ⌜ ((left : List ℕ) → (d : Device) → toldReplies r left (now (replies .exit)) ≡ repliedBy left (outcomeOf a d)) ⌝ }
 {
     let refusal = a.refusal;
-    let reply = a.reply;
-    let ready = a.ready;
-    let out = replies_of(a.due, reply, ready);
+    let sent = a.replies;
+    let out = replies_of(sent);
     words::copy(replies, &out);
     CReplies {
         number: device_number(refusal),
-        count: count_of(a.due, reply, ready),
+        count: count_of(sent),
     }
 }
 

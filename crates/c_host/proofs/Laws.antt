@@ -1,54 +1,55 @@
--- What is sent of a packet, the record that a step leaves, and what the inner step over contents is. Assumes nothing.
-use mathlib.Core.Path.{_≡_, refl, sym, ap, ap₂, _∙_}
+-- What is sent of a packet, what a step leaves, and what the inner step over contents is. Assumes nothing.
+use mathlib.Core.Path.{_≡_, refl, sym, ap, _∙_}
 use mathlib.Core.Bool.{Bool, true, false, true≢false, cond}
 use mathlib.Core.List.{List, [], _∷_, flatten, append-nil}
-use Prim.Native.Nat.{ℕ, _+_}
+use Prim.Native.Nat.{ℕ}
 use native.Mathlib.Omega.{arith}
-use borrow.Author.Tests.{eq-eqb, ne-eqb}
-use lib.Dec.{eqb, leb}
-use lib.ListN.{length, getD, take, replicate}
+use borrow.Author.Tests.{eq-eqb, ne-eqb, eqb-true, leb-true}
+use lib.Dec.{eqb}
+use lib.ListN.{length, getD, take}
 use lib.Seq.{length-take-le}
 use Rattle.wire.specs.Bytes.{copyOf}
-use Rattle.bundle_records.specs.Walk.{nextOf}
-use Rattle.bundle_records.specs.declared.Next.{Next}
-use Rattle.bundle_records.specs.declared.Next.the-variants as next
-use Rattle.bundle_layout.specs.Layout.{tableEnd}
+use Rattle.wire.proofs.Tests.{both}
 use Rattle.bundle_layout.specs.Rows as bundle
+use Rattle.bundle_layout.specs.declared.BundleVerdict.{BundleVerdict}
+use Rattle.bundle_layout.proofs.Numbers.{row-verdict}
 use Rattle.host_record.specs.declared.record.Host.{Host}
-use Rattle.host_record.specs.declared.record.Place.{Place}
+use Rattle.host_record.specs.declared.record.HostStage.{HostStage}
 use Rattle.host_record.specs.declared.fits.Body.{Body}
-use Rattle.host_record.specs.Fits.{inHand}
-use Rattle.host_decide.specs.declared.Action.{Action}
-use Rattle.host_decide.specs.declared.Action.the-variants as action
-use Rattle.host_decide.specs.declared.Decided.{Decided}
-use Rattle.host_decide.specs.declared.Decided.the-variants as decided
-use Rattle.host_decide.specs.declared.Move.{Move}
-use Rattle.host_decide.specs.Decide.{entryOf, decisionOf}
-use Rattle.host_packet.specs.Answer.{B, N, rowOf, sentBy, refusedBy}
-use Rattle.host_packet.specs.Made.{Laid, laidRecord, laidOf, laidBy, recordStart, writtenOf, stepOfLaid, madeOf}
-use Rattle.host_packet.specs.declared.answer.Written.{Written}
+use Rattle.host_record.specs.Fits.{bodyOf, inHand}
+use Rattle.host_packet.specs.Answer.{rowOf, sentBy, isRefused}
+use Rattle.host_packet.specs.Made.{InnerStep}
+use Rattle.host_packet.specs.declared.answer.Sent.{Sent}
+use Rattle.host_packet.specs.declared.answer.Sent.the-variants as sent
 use Rattle.host_packet.specs.declared.answer.StepRefusal.{StepRefusal}
 use Rattle.host_packet.specs.declared.answer.StepRefusal.the-variants.{Served, Bundle, N1}
-use Rattle.host.specs.Inner.{innerOn, innerBy, innerOf}
-use Rattle.host_bytes.specs.Layout.{ROW-AT, ENTRY-AT, COUNT-AT, CONTENTS-SIZE, hostBytes, readHost, contentsIn, bodyRead, cursorFor, keptWith, keptBy, contentsAfter}
+use Rattle.host_packet.specs.Packet.{PACKET-SIZE}
+use Rattle.host.specs.Inner.{innerOf, lent, cursorAt}
+use Rattle.host_bytes.specs.Layout.{ROW-AT, ENTRY-AT, COUNT-AT, CONTENTS-SIZE, hostBytes, readHost, rowIn, contentsIn, bodyRead, cursorIn, areContents, isRow, isKept, cursorFor, keptWith, keptIn, keptBy}
 use Rattle.host_bytes.proofs.Contents.{body-read}
-use Rattle.c_types.specs.Numbers.{SERVED, stepNumber}
+use Rattle.c_types.specs.declared.types.CStep.{CStep}
+use Rattle.c_types.specs.Numbers.{stepNumber}
 use Rattle.c_types.specs.Lent.{Left, leaves}
-use Rattle.c_host.specs.Host.{toldStep, refusedStep, stepBy, innerOver}
+use Rattle.c_host.specs.Host.{lengthOf, answeredBy, toldStep, stepBy, innerOver}
 use Rattle.c_types.proofs.lent.Laws.{stored}
 
 -- how many bytes are sent: none, the first 16, all 60
-pub sent-none : 0 ≡ length (flatten {A = ℕ} [])
+sent-none : 0 ≡ length (flatten {A = ℕ} [])
 unfolding flatten
 sent-none = refl
 
-pub sent-short : (p : List ℕ) → length p ≡ 60 → 16 ≡ length (flatten (take 16 p ∷ []))
+sent-short : (p : List ℕ) → length p ≡ 60 → 16 ≡ length (flatten (take 16 p ∷ []))
 unfolding flatten
 sent-short p h = rw (append-nil (take 16 p)) (sym (length-take-le 16 p (omega arith)))
 
-pub sent-long : (p : List ℕ) → length p ≡ 60 → 60 ≡ length (flatten (p ∷ []))
+sent-long : (p : List ℕ) → length p ≡ 60 → 60 ≡ length (flatten (p ∷ []))
 unfolding flatten
 sent-long p h = rw (append-nil p) (sym h)
+
+length-sent : (s : Sent) (p : List ℕ) → length p ≡ 60 → lengthOf s ≡ length (flatten (sentBy s p))
+length-sent sent.Nothing p h = sent-none
+length-sent sent.Offer p h = sent-short p h
+length-sent sent.Content p h = sent-long p h
 
 -- what is kept of a record, by the number
 kept-step : (r : StepRefusal) (before after : List ℕ) (n : ℕ) → n ≡ stepNumber (rowOf r) → cond (eqb n 0) after before ≡ keptBy (rowOf r) before after
@@ -63,75 +64,45 @@ stored-step r lent b h n e k f g =
     stored lent b n e k ∙ ap (λ (t : List ℕ). leaves n (cond (eqb n 0) t lent)) g ∙ ap (leaves n) (kept-step r lent (hostBytes h) n f)
     ∙ ap (λ (m : ℕ). leaves m (keptBy (rowOf r) lent (hostBytes h))) f
 
--- where nothing can be laid, the packet is zeros
-abbrev Zeroed : Laid → Type 0
-Zeroed l = l .served ≡ false → l .packet ≡ replicate 60 0
+-- what a step leaves: the answer, the record and the packet
+pub step-left : (refusal : StepRefusal) (sent : Sent) (next : Host) (a : CStep) (host left packet : List ℕ) → length packet ≡ 60 → a ≡ answeredBy refusal sent
+    → left ≡ keptBy (rowOf refusal) host (hostBytes next)
+    → toldStep a left packet ≡ stepBy host (record { row = rowOf refusal; sent = sentBy sent packet; packet = packet; host = next })
+step-left refusal sent next a host left packet whole e f = rw (e, f, length-sent sent packet whole)
 
-by-test : (t : Bool) (x y : Laid) → Zeroed x → Zeroed y → Zeroed (cond t x y)
-by-test true x y f g = f
-by-test false x y f g = g
+-- the inner step over contents that a check may have left, by the verdict of their row
+module _ (host q b reply : List ℕ) (fits : areContents q ≡ true) where
+  sized : length q ≡ CONTENTS-SIZE
+  sized = eqb-true (length q) CONTENTS-SIZE (both (eqb (length q) CONTENTS-SIZE) _ fits .0)
 
-record-zeroed : (b : List ℕ) (body : Body) (cursor : ℕ) (p : Place) (n : Next) → Zeroed (laidRecord b body cursor p n)
-record-zeroed b body cursor p next.End = λ z. refl
-record-zeroed b body cursor p next.Bad = λ z. refl
-record-zeroed b body cursor p (next.Record address start size past) = λ z. absurd (true≢false z)
+  row-told : bundle.rowOf (bundle.verdictOf (getD q ROW-AT 0)) (getD q ENTRY-AT 0) ≡ rowIn q
+  row-told =
+      row-verdict (getD q ROW-AT 0) (getD q ENTRY-AT 0) (leb-true (getD q ROW-AT 0) 8 (both (isRow (getD q ROW-AT 0)) _ (both (eqb (length q) CONTENTS-SIZE) _ fits .1) .0))
 
-laid-zeroed : (b : List ℕ) (body : Body) (cursor token : ℕ) (a : Action) → Zeroed (laidOf b body cursor token a)
-unfolding laidOf
-laid-zeroed b body cursor token action.Nothing = λ z. refl
-laid-zeroed b body cursor token (action.Information code) = λ z. absurd (true≢false z)
-laid-zeroed b body cursor token action.Notify = λ z. absurd (true≢false z)
-laid-zeroed b body cursor token (action.Offer entry) = by-test (leb (tableEnd (entry + 1)) (length b)) _ _ (λ z. absurd (true≢false z)) (λ z. refl)
-laid-zeroed b body cursor token (action.Block p) = record-zeroed b body cursor p (nextOf b (recordStart body cursor (p .block)) (body .end))
+  -- what the inner step told, with what it was given
+  pub inner-told : (h : Host) (hand : Body) (cursor row place count : ℕ) (v : BundleVerdict) (packet : List ℕ) (told : InnerStep) → length packet ≡ PACKET-SIZE → h ≡ readHost host
+      → hand ≡ bodyRead q (inHand (h .stage)) → cursor ≡ cond (isKept q (h .stage)) (cursorIn q) (cursorAt b hand (h .stage)) → v ≡ bundle.verdictOf row → row ≡ getD q ROW-AT 0
+      → place ≡ getD q ENTRY-AT 0 → count ≡ getD q COUNT-AT 0 → told ≡ lent packet h cursor (innerOf b (bundle.rowOf v place) count hand cursor h reply) → told ≡ innerOver host q b reply
+  unfolding contentsIn
+  inner-told h hand cursor row place count v packet told whole e f g i j k l m =
+      let x : cursor ≡ cursorFor b q (h .stage) = g ∙ ap (λ (y : Body). cond (isKept q (h .stage)) (cursorIn q) (cursorAt b y (h .stage))) f in
+      let u : hand ≡ bodyOf (contentsIn q) (inHand (h .stage)) = f ∙ body-read q (inHand (h .stage)) sized in
+      let r : bundle.rowOf v place ≡ rowIn q = (rw (i, j, k)) ∙ row-told in
+      let w : lent packet h cursor (innerOf b (bundle.rowOf v place) count hand cursor h reply) ≡ innerOf b (bundle.rowOf v place) count hand cursor h reply =
+      rw (eq-eqb (length packet) PACKET-SIZE whole) in
+      let z : innerOf b (bundle.rowOf v place) count hand cursor h reply ≡ innerOver host q b reply = rw (r, l, u, x, e) in m ∙ w ∙ z
 
--- what a move leaves where it is served, and where it is N1
-module _ (b : List ℕ) (body : Body) (cursor : ℕ) (m : Move) (w : Written) (packet left : List ℕ) (whole : length packet ≡ 60)
-    (e : laidBy w left ≡ writtenOf packet b body cursor (m .host .token) (m .action)) where
-  laid : laidBy w left ≡ laidOf b body cursor (m .host .token) (m .action)
-  unfolding writtenOf
-  laid = e ∙ rw (eq-eqb (length packet) 60 whole)
+-- what is kept of the contents
+pub contents-left : (q : List ℕ) (refusal : StepRefusal) (g : HostStage) (cursor : ℕ) → areContents q ≡ true → keptBy (rowOf refusal) q (keptIn q g cursor) ≡ keptBy (rowOf refusal) q (keptWith q g cursor)
+contents-left q refusal g cursor fits = rw (both (eqb (length q) CONTENTS-SIZE) _ fits .0)
 
-  pub move-served : (host next : List ℕ) (n : ℕ) (before : Host) → w .served ≡ true → n ≡ length (flatten (sentBy (w .sent) left)) → next ≡ hostBytes (m .host)
-      → toldStep (record { number = SERVED; entry = 0; length = n }) next left ≡ stepBy host (madeOf b body cursor before (m .host) (m .action) .step)
-  move-served host next n before t f g = (rw (t, f, g)) ∙ ap (λ (l : Laid). stepBy host (stepOfLaid l before (m .host) .step)) laid
+-- what is kept, by the test of the row
+pub kept-served : (r : StepRefusal) (before after : List ℕ) → isRefused (rowOf r) ≡ false → after ≡ keptBy (rowOf r) before after
+kept-served Served before after e = refl
+kept-served (Bundle v place) before after e = absurd (true≢false e)
+kept-served N1 before after e = absurd (true≢false e)
 
-  pub move-keeps : (q : List ℕ) (before : Host) → w .served ≡ true → keptWith q (m .host .stage) (w .cursor) ≡ contentsAfter q (madeOf b body cursor before (m .host) (m .action))
-  move-keeps q before t = (rw t) ∙ ap (λ (l : Laid). contentsAfter q (stepOfLaid l before (m .host))) laid
-
-  pub move-refused : (host : List ℕ) (before : Host) → w .served ≡ false → refusedStep (stepNumber (N 1)) host left ≡ stepBy host (madeOf b body cursor before (m .host) (m .action) .step)
-  unfolding flatten
-  move-refused host before t =
-      let f : laidOf b body cursor (m .host .token) (m .action) .served ≡ false = sym (ap (λ (l : Laid). l .served) laid) ∙ t in
-      rw f (ap (refusedStep (stepNumber (N 1)) host) (ap (λ (l : Laid). l .packet) laid ∙ laid-zeroed b body cursor (m .host .token) (m .action) f))
-
-  pub move-leaves : (q : List ℕ) (before : Host) → w .served ≡ false → q ≡ contentsAfter q (madeOf b body cursor before (m .host) (m .action))
-  move-leaves q before t = (rw t) ∙ ap (λ (l : Laid). contentsAfter q (stepOfLaid l before (m .host))) laid
-
--- the inner step over contents: by the row's number, and then by what is decided over the body in hand
-module _ (host q b reply : List ℕ) where
-  abbrev h : Host
-  h = readHost host
-
-  abbrev cursor : ℕ
-  cursor = cursorFor b q (h .stage)
-
-  pub inner-row : (getD q ROW-AT 0 ≡ 0 → ⊥) → innerOver host q b reply ≡ record { step = refusedBy (B (getD q ROW-AT 0) (getD q ENTRY-AT 0)) h; cursor = cursor }
-  unfolding innerOf contentsIn
-  inner-row z = rw (ne-eqb (getD q ROW-AT 0) 0 z)
-
-  module _ (whole : length q ≡ CONTENTS-SIZE) (z : getD q ROW-AT 0 ≡ 0) where
-    inner-on : (d : Decided) → decisionOf (getD q COUNT-AT 0) (bodyRead q (inHand (h .stage)) .records) h reply ≡ d → innerOver host q b reply ≡ innerOn b (contentsIn q) cursor h d
-    unfolding innerOf contentsIn
-    inner-on d e =
-        let r : contentsIn q .row ≡ bundle.served = rw (eq-eqb (getD q ROW-AT 0) 0 z) in
-        ap (λ (x : bundle.Row). innerBy x b (contentsIn q) cursor h reply) r
-        ∙ ap (innerOn b (contentsIn q) cursor h) (ap (λ (y : Body). decisionOf (getD q COUNT-AT 0) (y .records) h reply) (sym (body-read q (inHand (h .stage)) whole)) ∙ e)
-
-    pub inner-breaks : decisionOf (getD q COUNT-AT 0) (bodyRead q (inHand (h .stage)) .records) h reply ≡ decided.N1
-        → innerOver host q b reply ≡ record { step = refusedBy (N 1) h; cursor = cursor }
-    inner-breaks e = inner-on decided.N1 e
-
-    pub inner-moves : (n : ℕ) (m : Move) → decisionOf (getD q COUNT-AT 0) (bodyRead q (inHand (h .stage)) .records) h reply ≡ decided.Moves m → n ≡ cursor
-        → innerOver host q b reply ≡ madeOf b (bodyRead q (entryOf (m .action))) n h (m .host) (m .action)
-    inner-moves n m e f =
-        inner-on (decided.Moves m) e ∙ ap₂ (λ (y : Body) (x : ℕ). madeOf b y x h (m .host) (m .action)) (sym (body-read q (entryOf (m .action)) whole)) (sym f)
+pub kept-refused : (r : StepRefusal) (before after : List ℕ) → isRefused (rowOf r) ≡ true → before ≡ keptBy (rowOf r) before after
+kept-refused Served before after e = absurd (true≢false (sym e))
+kept-refused (Bundle v place) before after e = refl
+kept-refused N1 before after e = refl

@@ -5,17 +5,20 @@ use mathlib.Core.List.{List, flatten}
 use lib.Dec.{leb}
 use lib.ListN.{length}
 use Rattle.bundle.specs.Contents.{Contents, checkOf}
-use Rattle.host_record.specs.Record.{Reported, reportOf, freshHost}
+use Rattle.host_record.specs.Record.{Reported, reportOf, statusOf, freshHost}
 use Rattle.host_record.specs.Fits.{PACKET-LIMIT}
-use Rattle.host_packet.specs.Answer.{N, Step}
+use Rattle.host_packet.specs.Answer.{N, Step, rowOf, entryOf}
+use Rattle.host_packet.specs.declared.answer.Sent.{Sent}
+use Rattle.host_packet.specs.declared.answer.Sent.the-variants as sent
+use Rattle.host_packet.specs.declared.answer.StepRefusal.{StepRefusal}
 use Rattle.host_packet.specs.Made.{InnerStep}
 use Rattle.host.specs.Step.{stepOf}
-use Rattle.host.specs.Inner.{innerOf}
+use Rattle.host.specs.Inner.{innerFor}
 use Rattle.host_bytes.specs.Layout.{HOST-SIZE, CONTENTS-SIZE, hostBytes, readHost, noPlace, contentsBytes, contentsIn, areContents, cursorFor, keptBy, contentsAfter}
 use Rattle.c_types.specs.declared.types.CCheck.{CCheck}
 use Rattle.c_types.specs.declared.types.CStep.{CStep}
 use Rattle.c_types.specs.declared.types.CReport.{CReport}
-use Rattle.c_types.specs.Numbers.{SERVED, WRONG-RECORD, WRONG-OUTPUT, bundleNumber, stepNumber, stepEntry, endingNumber, endingStatus, sized}
+use Rattle.c_types.specs.Numbers.{SERVED, WRONG-RECORD, WRONG-OUTPUT, bundleNumber, stepNumber, endingNumber, sized}
 use Rattle.c_types.specs.Lent.{LONG-SIZE, Left, leaves}
 
 -- what the check leaves: the contents, with no block in hand and the cursor at 0
@@ -50,12 +53,26 @@ pub record StepLeft : Type 0 where
 abbrev pub toldStep : CStep → (host packet : List ℕ) → StepLeft
 toldStep step host packet = record { step = step; host = host; packet = packet }
 
+-- a call that a row of this crate refuses
+abbrev pub refusedBy : (number : ℕ) → CStep
+refusedBy number = record { number = number; entry = 0; length = 0 }
+
 abbrev pub refusedStep : (number : ℕ) → (host packet : List ℕ) → StepLeft
-refusedStep number host packet = record { step = record { number = number; entry = 0; length = 0 }; host = host; packet = packet }
+refusedStep number host packet = record { step = refusedBy number; host = host; packet = packet }
+
+-- how many bytes of a packet are sent
+abbrev pub lengthOf : Sent → ℕ
+lengthOf sent.Nothing = 0
+lengthOf sent.Offer = 16
+lengthOf sent.Content = 60
+
+-- what a step answers
+abbrev pub answeredBy : StepRefusal → Sent → CStep
+answeredBy refusal sent = record { number = stepNumber (rowOf refusal); entry = entryOf (rowOf refusal); length = lengthOf sent }
 
 abbrev pub stepBy : (host : List ℕ) → Step → StepLeft
 stepBy host s = record {
-  step = record { number = stepNumber (s .row); entry = stepEntry (s .row); length = length (flatten (s .sent)) };
+  step = record { number = stepNumber (s .row); entry = entryOf (s .row); length = length (flatten (s .sent)) };
   host = keptBy (s .row) host (hostBytes (s .host));
   packet = s .packet;
 }
@@ -68,7 +85,7 @@ stepCall host bundle reply packet =
 
 -- the inner step over contents: with the cursor that is kept for the record, or that a walk finds
 abbrev pub innerOver : (host contents bundle reply : List ℕ) → InnerStep
-innerOver host contents bundle reply = innerOf bundle (contentsIn contents) (cursorFor bundle contents (readHost host .stage)) (readHost host) reply
+innerOver host contents bundle reply = innerFor bundle (contentsIn contents) (cursorFor bundle contents (readHost host .stage)) (readHost host) reply
 
 -- an answer that stands only where a check may have left the contents
 abbrev pub checked : {A : Type 0} → (contents : List ℕ) → (wrong right : A) → A
@@ -99,7 +116,7 @@ reportBy r = record {
   packets = r .packets;
   passes = r .passes;
   ending = endingNumber (r .ending);
-  status = endingStatus (r .ending);
+  status = statusOf (r .ending);
 }
 
 abbrev pub wrongReport : CReport

@@ -1,24 +1,20 @@
 // The bundle's and the host's calls from C (document 01, "The bundle" and "The host", rows B, N and C). The record is lent bytes; where a row refuses, it
 // stays as it is.
 ghost use mathlib.Core.Path.{_≡_};
-ghost use mathlib.Core.Bool.{cond};
-ghost use mathlib.Core.List.{List, flatten};
-ghost use Prim.Native.Nat.{ℕ};
+ghost use mathlib.Core.Bool.{true, cond};
 ghost use lib.Dec.{leb};
-ghost use lib.ListN.{length, replicate};
+ghost use lib.ListN.{length};
 ghost use Rattle.host_record.specs.Fits.{PACKET-LIMIT};
-ghost use Rattle.host_decide.specs.Decide.{entryOf};
-ghost use Rattle.host_packet.specs.Answer.{B, N, sentBy, told};
-ghost use Rattle.host_packet.specs.Made.{madeOf};
+ghost use Rattle.host_packet.specs.Answer.{N, rowOf, told};
 ghost use Rattle.host.specs.Inner.{cursorAt};
-ghost use Rattle.host_bytes.specs.Layout.{HOST-SIZE, CONTENTS-SIZE, bodyRead, cursorIn, isKept, contentsAfter};
+ghost use Rattle.host_bytes.specs.Layout.{HOST-SIZE, hostBytes, cursorIn, areContents, isKept, keptIn, keptBy, contentsAfter};
 ghost use Rattle.c_types.specs.Numbers.{SERVED, stepNumber};
 ghost use Rattle.c_types.specs.Lent.{LONG-SIZE, leaves};
-ghost use Rattle.c_host.specs.Host.{toldCheck, checkCall, freshCall, toldStep, refusedStep, stepBy, stepCall, innerOver, stepCheckedCall, stepCheckedContents, reportCall};
+ghost use Rattle.c_host.specs.Host.{toldCheck, checkCall, freshCall, refusedBy, lengthOf, answeredBy, toldStep, stepBy, stepCall, innerOver, stepCheckedCall, stepCheckedContents, reportCall};
 use bundle::check;
+use bundle_layout::verdict_of;
 use c_types::lent::store;
 use c_types::numbers::LONG_SIZE;
-use c_types::numbers::ROW_B;
 use c_types::numbers::ROW_N;
 use c_types::numbers::SERVED;
 use c_types::numbers::WRONG_OUTPUT;
@@ -26,11 +22,11 @@ use c_types::numbers::WRONG_RECORD;
 use c_types::numbers::bundle_number;
 use c_types::numbers::ending_number;
 use c_types::numbers::ending_status;
-use c_types::numbers::step_entry;
 use c_types::numbers::step_number;
 use c_types::types::CCheck;
 use c_types::types::CReport;
 use c_types::types::CStep;
+use host::inner::inner_step;
 use host::step::cursor_for;
 use host::step::step;
 use host_bytes::CONTENTS_SIZE;
@@ -46,13 +42,9 @@ use host_bytes::keep;
 use host_bytes::read_body;
 use host_bytes::read_cursor;
 use host_bytes::read_host;
-use host_decide::Decided;
-use host_decide::Move;
-use host_decide::decision;
-use host_decide::entry_of;
-use host_packet::action::written;
 use host_packet::answer::Sent;
 use host_packet::answer::StepAnswer;
+use host_packet::answer::StepRefusal;
 use host_record::fits::Body;
 use host_record::fits::in_hand;
 use host_record::record::Host;
@@ -93,9 +85,9 @@ pub fn fresh_call(host: &mut [u8], token: u8) -> u32
     store(host, SERVED, &b)
 }
 
-// A call that a row of this room refuses.
+// A call that a row of this crate refuses.
 fn refused(number: u32) -> CStep
-    ensures { λ r. ⌜ ((host packet : List ℕ) → toldStep r host packet ≡ refusedStep number host packet) ⌝ }
+    ensures { λ r. ⌜ r ≡ refusedBy number ⌝ }
 {
     CStep {
         number,
@@ -106,12 +98,25 @@ fn refused(number: u32) -> CStep
 
 // How many bytes of a packet are sent.
 fn length_of(sent: Sent) -> u32
-    ensures { λ r. ⌜ ((packet : List ℕ) → length packet ≡ LONG-SIZE → r ≡ length (flatten (sentBy sent packet))) ⌝ }
+    ensures { λ r. ⌜ r ≡ lengthOf sent ⌝ }
 {
     match sent {
         Sent::Nothing => 0,
         Sent::Offer => 16,
         Sent::Content => 60,
+    }
+}
+
+// What a step answers; the next record is stored where no row refuses.
+fn answered(host: &mut [u8], refusal: StepRefusal, sent: Sent, next: Host) -> CStep
+    requires { ⌜ length (now host) ≡ HOST-SIZE ⌝ }
+    ensures { λ r. ⌜ (r ≡ answeredBy refusal sent) × (now (host .exit) ≡ keptBy (rowOf refusal) (now (host .entry)) (hostBytes next)) ⌝ }
+{
+    let b = host_bytes(next);
+    CStep {
+        number: store(host, step_number(refusal), &b),
+        entry: refusal.entry() as u32,
+        length: length_of(sent),
     }
 }
 
@@ -123,14 +128,9 @@ fn stepped(s: StepAnswer, host: &mut [u8], packet: &mut [u8]) -> CStep
     let refusal = s.refusal;
     let sent = s.sent;
     let p = s.packet;
-    let h = s.host;
+    let next = s.host;
     words::copy(packet, &p);
-    let b = host_bytes(h);
-    CStep {
-        number: store(host, step_number(refusal), &b),
-        entry: step_entry(refusal),
-        length: length_of(sent),
-    }
+    answered(host, refusal, sent, next)
 }
 
 pub fn step_call(host: &mut [u8], bundle: &[u8], reply: &[u8], packet: &mut [u8]) -> CStep
@@ -147,27 +147,6 @@ pub fn step_call(host: &mut [u8], bundle: &[u8], reply: &[u8], packet: &mut [u8]
     stepped(s, host, packet)
 }
 
-// A row refuses the step: the packet becomes zero.
-fn cleared(number: u32, entry: u32, packet: &mut [u8]) -> CStep
-    requires { ⌜ length (now packet) ≡ LONG-SIZE ⌝ }
-    ensures { λ r. ⌜ ((host : List ℕ) → toldStep r host (now (packet .exit)) ≡ record { step = record { number = number; entry = entry; length = 0 }; host = host; packet = replicate LONG-SIZE 0 }) ⌝ }
-{
-    words::copy(packet, &[0u8; 60]);
-    CStep {
-        number,
-        entry,
-        length: 0,
-    }
-}
-
-// The row that the check left, by its number.
-fn row_refused(row: u8, entry: u8, packet: &mut [u8]) -> CStep
-    requires { ⌜ length (now packet) ≡ LONG-SIZE ⌝ }
-    ensures { λ r. ⌜ ((host : List ℕ) → toldStep r host (now (packet .exit)) ≡ record { step = record { number = stepNumber (B row entry); entry = entry; length = 0 }; host = host; packet = replicate LONG-SIZE 0 }) ⌝ }
-{
-    cleared(ROW_B + row as u32, entry as u32, packet)
-}
-
 // The cursor of a record: the one that is kept for it, or the one that a walk over the body in hand finds.
 fn cursor_over(contents: &[u8], bundle: &[u8], hand: Body, stage: HostStage) -> usize
     ensures { λ r. ⌜ r ≡ cond (isKept (now (contents .entry)) stage) (cursorIn (now (contents .entry))) (cursorAt (now (bundle .entry)) hand stage) ⌝ }
@@ -179,40 +158,16 @@ fn cursor_over(contents: &[u8], bundle: &[u8], hand: Body, stage: HostStage) -> 
     }
 }
 
-// What a move leaves: the packet, and where the step is served the next record, and the contents with the block that is sent.
-fn moved(
-    m: Move,
-    cursor: usize,
-    host: &mut [u8],
-    contents: &mut [u8],
-    bundle: &[u8],
-    packet: &mut [u8],
-) -> CStep
-    requires { ⌜ (length (now host) ≡ HOST-SIZE) × (length (now contents) ≡ CONTENTS-SIZE) × (length (now packet) ≡ LONG-SIZE) ⌝ }
-    ensures { λ r. ⌜ ((before : Host) → toldStep r (now (host .exit)) (now (packet .exit)) ≡ stepBy (now (host .entry)) (madeOf (now (bundle .entry)) (bodyRead (now (contents .entry)) (entryOf (m .action))) cursor before (m .host) (m .action) .step)) ⌝ }
-    ensures { λ _. ⌜ ((before : Host) → now (contents .exit) ≡ contentsAfter (now (contents .entry)) (madeOf (now (bundle .entry)) (bodyRead (now (contents .entry)) (entryOf (m .action))) cursor before (m .host) (m .action))) ⌝ }
+// The block and the cursor are kept where no row refuses.
+fn keep_served(contents: &mut [u8], refusal: StepRefusal, stage: HostStage, cursor: usize)
+    ensures { λ _. ⌜ now (contents .exit) ≡ keptBy (rowOf refusal) (now (contents .entry)) (keptIn (now (contents .entry)) stage cursor) ⌝ }
 {
-    let action = m.action;
-    let next = m.host;
-    let body = read_body(contents, entry_of(action));
-    let w = written(packet, bundle, body, cursor, action, next.token);
-    if w.served {
-        let stage = next.stage;
-        keep(contents, stage, w.cursor);
-        let b = host_bytes(next);
-        words::copy(host, &b);
-        let sent = w.sent;
-        CStep {
-            number: SERVED,
-            entry: 0,
-            length: length_of(sent),
-        }
-    } else {
-        refused(ROW_N + 1)
+    if !refusal.is_refused() {
+        keep(contents, stage, cursor);
     }
 }
 
-// The row that the check left, N1, or the move.
+// The inner step over the contents, and what it leaves.
 fn checked_step(
     host: &mut [u8],
     contents: &mut [u8],
@@ -220,25 +175,34 @@ fn checked_step(
     reply: &[u8],
     packet: &mut [u8],
 ) -> CStep
-    requires { ⌜ (length (now host) ≡ HOST-SIZE) × (length (now contents) ≡ CONTENTS-SIZE) × (length (now packet) ≡ LONG-SIZE) ⌝ }
+    requires { ⌜ (length (now host) ≡ HOST-SIZE) × (areContents (now contents) ≡ true) × (length (now packet) ≡ LONG-SIZE) ⌝ }
     ensures { λ r. ⌜ (toldStep r (now (host .exit)) (now (packet .exit)) ≡ stepBy (now (host .entry)) (innerOver (now (host .entry)) (now (contents .entry)) (now (bundle .entry)) (now (reply .entry)) .step))
         × (now (contents .exit) ≡ contentsAfter (now (contents .entry)) (innerOver (now (host .entry)) (now (contents .entry)) (now (bundle .entry)) (now (reply .entry)))) ⌝ }
 {
-    let row = contents[ROW_AT];
-    if row != 0 {
-        return row_refused(row, contents[ENTRY_AT], packet);
-    }
     let h = read_host(host);
     let stage = h.stage;
     let hand = read_body(contents, in_hand(stage));
-    let d = decision(contents[COUNT_AT], hand.records, h, reply);
-    match d {
-        Decided::N1 => cleared(ROW_N + 1, 0, packet),
-        Decided::Moves(m) => {
-            let cursor = cursor_over(contents, bundle, hand, stage);
-            moved(m, cursor, host, contents, bundle, packet)
-        }
-    }
+    let cursor = cursor_over(contents, bundle, hand, stage);
+    let verdict = verdict_of(words::byte_at(contents, ROW_AT));
+    let place = words::byte_at(contents, ENTRY_AT);
+    let count = words::byte_at(contents, COUNT_AT);
+    let s = inner_step(
+        packet,
+        verdict,
+        place,
+        count,
+        hand,
+        cursor,
+        h,
+        bundle,
+        reply,
+    );
+    let refusal = s.refusal;
+    let sent = s.sent;
+    let next = s.host;
+    let reached = next.stage;
+    keep_served(contents, refusal, reached, s.cursor);
+    answered(host, refusal, sent, next)
 }
 
 // The step over contents that the check left: the bundle is not checked again.

@@ -1,4 +1,4 @@
--- The numbers that cross to C: 0, or a row of document 01 as its letter's code, times 256, and its number; and the rows of this room, C1 to C3.
+-- The numbers that cross to C: 0, or a row of document 01 as its letter's code, times 256, and its number; and the rows of this crate, C1 to C3.
 use Prim.Native.Nat.{ℕ, _+_, _-_}
 use mathlib.Core.Bool.{cond}
 use mathlib.Core.List.{List, _++_}
@@ -9,8 +9,7 @@ use Rattle.device_component.specs.Setup as setup
 use Rattle.device.specs.Refusals as device
 use Rattle.bundle_layout.specs.Rows as bundle
 use Rattle.host_packet.specs.Answer as host
-use Rattle.host_record.specs.Record.{Ending, done, H1, H2, H3, H4}
-use Rattle.host_record.specs.Record.{running}
+use Rattle.host_record.specs.Record.{Ending, running, done, H1, H2, H3, H4, numberOf}
 
 -- no refusal
 abbrev pub SERVED : ℕ
@@ -28,50 +27,62 @@ WRONG-LIST = 0x4302
 abbrev pub WRONG-OUTPUT : ℕ
 WRONG-OUTPUT = 0x4303
 
+-- the letters of the rows, above a row's number
+abbrev pub ROW-P : ℕ
+ROW-P = 0x5000
+
+abbrev pub ROW-S : ℕ
+ROW-S = 0x5300
+
+abbrev pub ROW-D : ℕ
+ROW-D = 0x4400
+
+abbrev pub ROW-B : ℕ
+ROW-B = 0x4200
+
+abbrev pub ROW-N : ℕ
+ROW-N = 0x4E00
+
+abbrev pub ROW-H : ℕ
+ROW-H = 0x4800
+
+-- a letter and a number, or 0 where no row refuses
+abbrev pub letteredOf : (letter number : ℕ) → ℕ
+letteredOf letter number = cond (eqb number 0) SERVED (letter + number)
+
 -- rows P, S, D, B and N
 abbrev pub packetNumber : wire.Row → ℕ
 packetNumber wire.served = SERVED
-packetNumber (wire.P k) = 0x5000 + k
+packetNumber (wire.P k) = ROW-P + k
 
 abbrev pub setupNumber : setup.Row → ℕ
 setupNumber setup.served = SERVED
-setupNumber (setup.S k) = 0x5300 + k
+setupNumber (setup.S k) = ROW-S + k
 
 abbrev pub deviceNumber : device.Row → ℕ
 deviceNumber device.served = SERVED
-deviceNumber (device.D k) = 0x4400 + k
+deviceNumber (device.D k) = ROW-D + k
 
 abbrev pub bundleNumber : bundle.Row → ℕ
 bundleNumber bundle.served = SERVED
-bundleNumber (bundle.B k entry) = 0x4200 + k
+bundleNumber (bundle.B k entry) = ROW-B + k
 
 abbrev pub stepNumber : host.Row → ℕ
 stepNumber host.served = SERVED
-stepNumber (host.B k entry) = 0x4200 + k
-stepNumber (host.N k) = 0x4E00 + k
-
--- the entry that a row names, or 0
-abbrev pub stepEntry : host.Row → ℕ
-stepEntry host.served = 0
-stepEntry (host.B k entry) = entry
-stepEntry (host.N k) = 0
+stepNumber (host.B k entry) = ROW-B + k
+stepNumber (host.N k) = ROW-N + k
 
 -- how far a host is: 0 running, 1 done, or the end's row
+abbrev pub endedNumber : Ending → ℕ
+endedNumber e = ROW-H + numberOf e
+
 abbrev pub endingNumber : Ending → ℕ
 endingNumber running = 0
 endingNumber done = 1
-endingNumber (H1 status) = 0x4801
-endingNumber H2 = 0x4802
-endingNumber H3 = 0x4803
-endingNumber H4 = 0x4804
-
-abbrev pub endingStatus : Ending → ℕ
-endingStatus running = 0
-endingStatus done = 0
-endingStatus (H1 status) = status
-endingStatus H2 = 0
-endingStatus H3 = 0
-endingStatus H4 = 0
+endingNumber (H1 status) = endedNumber (H1 status)
+endingNumber H2 = endedNumber H2
+endingNumber H3 = endedNumber H3
+endingNumber H4 = endedNumber H4
 
 -- an answer that stands only where a lent buffer has its size
 abbrev pub sized : {A : Type 0} → (buffer : List ℕ) → (size : ℕ) → (wrong right : A) → A

@@ -1,14 +1,14 @@
-// The numbers that cross to C (rows of document 01 as a letter's code, times 256, and a number; rows C1 to C3 of this room), and the sizes of lent buffers.
+// The numbers that cross to C (rows of document 01 as a letter's code, times 256, and a number; rows C1 to C3 of this crate), and the sizes of lent buffers.
 ghost use mathlib.Core.Path.{_≡_};
+ghost use Prim.Native.Nat.{_≤_};
 ghost use Rattle.wire.specs.Rows as wire;
 ghost use Rattle.device_component.specs.Setup as setup;
 ghost use Rattle.device.specs.Refusals as refusals;
 ghost use Rattle.bundle_layout.specs.Rows as rows;
 ghost use Rattle.host_packet.specs.Answer as step;
-ghost use Rattle.host_record.specs.Record.{endingOf, toldProgress};
-ghost use Rattle.c_types.specs.Numbers.{packetNumber, setupNumber, deviceNumber, bundleNumber, stepNumber, stepEntry, endingNumber, endingStatus};
+ghost use Rattle.host_record.specs.Record.{endingOf, statusOf, toldProgress};
+ghost use Rattle.c_types.specs.Numbers.{letteredOf, packetNumber, setupNumber, deviceNumber, bundleNumber, stepNumber, endingNumber};
 use bundle_layout::BundleVerdict;
-use bundle_layout::row_number;
 use device::answer::Refusal;
 use device_component::setup::SetupVerdict;
 use host_packet::answer::StepRefusal;
@@ -64,46 +64,42 @@ pub const REPLIES_SIZE: usize = 32;
 // A content packet or a version reply, and a buffer for any packet of the host.
 pub const LONG_SIZE: usize = 60;
 
+// A row as it crosses: its letter's code and its number, or 0 where no row refuses.
+fn lettered(letter: u32, number: u8) -> u32
+    requires { ⌜ letter ≤ 0xFFFF ⌝ }
+    ensures { λ r. ⌜ r ≡ letteredOf letter number ⌝ }
+{
+    if number == 0 {
+        SERVED
+    } else {
+        letter + number as u32
+    }
+}
+
 // The number of each verdict.
 pub fn packet_number(v: Verdict) -> u32
     ensures { λ r. ⌜ r ≡ packetNumber (wire.rowOf v) ⌝ }
 {
-    match v {
-        Verdict::Served => SERVED,
-        Verdict::P1 => ROW_P + 1,
-        Verdict::P2 => ROW_P + 2,
-    }
+    lettered(ROW_P, v.number())
 }
 
 pub fn setup_number(v: SetupVerdict) -> u32
     ensures { λ r. ⌜ r ≡ setupNumber (setup.rowOf v) ⌝ }
 {
-    match v {
-        SetupVerdict::Fine => SERVED,
-        SetupVerdict::S1 => ROW_S + 1,
-        SetupVerdict::S2 => ROW_S + 2,
-        SetupVerdict::S3 => ROW_S + 3,
-        SetupVerdict::S4 => ROW_S + 4,
-    }
+    lettered(ROW_S, v.number())
 }
 
 pub fn device_number(refusal: Refusal) -> u32
     ensures { λ r. ⌜ r ≡ deviceNumber (refusals.rowOf refusal) ⌝ }
 {
-    match refusal {
-        Refusal::Served => SERVED,
-        Refusal::D1 => ROW_D + 1,
-        Refusal::D2 => ROW_D + 2,
-        Refusal::D3 => ROW_D + 3,
-    }
+    lettered(ROW_D, refusal.number())
 }
 
 // The entry that the row names is told beside its number.
 pub fn bundle_number(v: BundleVerdict, entry: u8) -> u32
     ensures { λ r. ⌜ r ≡ bundleNumber (rows.rowOf v entry) ⌝ }
 {
-    let row = row_number(v);
-    if row == 0 { SERVED } else { ROW_B + row as u32 }
+    lettered(ROW_B, v.number())
 }
 
 pub fn step_number(refusal: StepRefusal) -> u32
@@ -111,30 +107,20 @@ pub fn step_number(refusal: StepRefusal) -> u32
 {
     match refusal {
         StepRefusal::Served => SERVED,
-        StepRefusal::Bundle { verdict, place: _ } => ROW_B + row_number(verdict) as u32,
+        StepRefusal::Bundle { verdict, place: _ } => ROW_B + verdict.number() as u32,
         StepRefusal::N1 => ROW_N + 1,
     }
 }
 
-pub fn step_entry(refusal: StepRefusal) -> u32
-    ensures { λ r. ⌜ r ≡ stepEntry (step.rowOf refusal) ⌝ }
-{
-    match refusal {
-        StepRefusal::Served => 0,
-        StepRefusal::Bundle { verdict: _, place } => place as u32,
-        StepRefusal::N1 => 0,
-    }
-}
-
+// 1 where a host is done, or the row that ended it.
 fn end_number(end: End) -> u32
     ensures { λ r. ⌜ r ≡ endingNumber (endingOf end) ⌝ }
 {
-    match end {
-        End::Done => DONE,
-        End::Status(_) => ROW_H + 1,
-        End::Foreign => ROW_H + 2,
-        End::Unexpected => ROW_H + 3,
-        End::Busy => ROW_H + 4,
+    let number = end.number();
+    if number == 0 {
+        DONE
+    } else {
+        ROW_H + number as u32
     }
 }
 
@@ -147,23 +133,11 @@ pub fn ending_number(progress: Progress) -> u32
     }
 }
 
-fn end_status(end: End) -> u32
-    ensures { λ r. ⌜ r ≡ endingStatus (endingOf end) ⌝ }
-{
-    match end {
-        End::Done => 0,
-        End::Status(status) => status as u32,
-        End::Foreign => 0,
-        End::Unexpected => 0,
-        End::Busy => 0,
-    }
-}
-
 pub fn ending_status(progress: Progress) -> u32
-    ensures { λ r. ⌜ r ≡ endingStatus (toldProgress progress) ⌝ }
+    ensures { λ r. ⌜ r ≡ statusOf (toldProgress progress) ⌝ }
 {
     match progress {
         Progress::Running => 0,
-        Progress::Ended(end) => end_status(end),
+        Progress::Ended(end) => end.status() as u32,
     }
 }

@@ -3,12 +3,13 @@ use mathlib.Core.Path.{_≡_, refl, sym, ap, ap₂, _∙_}
 use mathlib.Core.List.{List, [], _∷_, _++_, append-assoc}
 use Prim.Native.Nat.{ℕ, zero, suc, _+_, _*_, _≤_}
 use native.Mathlib.Omega.{arith}
-use lib.ListN.{length, getD, take, drop, replicate, length-append, length-drop, drop-of-length-le, take-append-drop, replicate-append-replicate}
+use lib.ListN.{length, getD, take, drop, replicate, length-drop, drop-of-length-le, take-append-drop, replicate-append-replicate}
 use lib.Seq.{take-at, length-take-le}
 use Rattle.wire.specs.Bytes.{Bytes, bytesOf, bytesAt}
+use Rattle.wire.specs.Codes.{COMPONENT-LIMIT}
 use Rattle.wire.specs.Version.{versionBytes}
 use Rattle.wire.proofs.Bounds.{cons-bytes, join-bytes, no-bytes, word-bytes, version-bytes, rest-bytes, word-fits, version-fits}
-use Rattle.wire.proofs.Pieces.{read-sized}
+use Rattle.wire.proofs.Pieces.{pieces-sized, read-sized}
 use Rattle.wire.proofs.version.Laws.{parts, version-back}
 use Rattle.wire.proofs.words.Laws.{round, back, split}
 use Rattle.wire_version.specs.Reply.{none, FitsEntry}
@@ -19,8 +20,7 @@ use Rattle.c_version.specs.Promises.{ComponentsSized, ComponentsReadBack
 -- components are as many bytes as each has
 components-length : (es : List Running) → length (componentsBytes es) ≡ length es * RUNNING-SIZE
 unfolding componentsBytes
-components-length [] = refl
-components-length (e ∷ es) = rw (length-append (runningBytes e) (componentsBytes es)) (omega (arith, components-length es))
+components-length es = pieces-sized runningBytes componentsBytes refl (λ e l. refl) RUNNING-SIZE (λ e. refl) es
 
 -- they are bytes
 running-bytes : (e : Running) → FitsEntry e → Bytes (runningBytes e)
@@ -33,9 +33,9 @@ unfolding componentsBytes
 components-bytes [] f = no-bytes
 components-bytes (e ∷ es) f = join-bytes (runningBytes e) (componentsBytes es) (running-bytes e (f 0)) (components-bytes es (λ i. f (suc i)))
 
--- seven components are bytes of the one length
+-- all components are bytes of the one length
 pub components-sized : ComponentsSized
-components-sized es seven f = record { size = components-length es ∙ ap (λ (n : ℕ). n * RUNNING-SIZE) seven; bytes = components-bytes es f }
+components-sized es size f = record { size = components-length es ∙ ap (λ (n : ℕ). n * RUNNING-SIZE) size; bytes = components-bytes es f }
 
 -- components that were written read back
 written-read : (es : List Running) → ((i : ℕ) → FitsEntry (getD es i none)) → componentsIn (length es) (componentsBytes es) ≡ es
@@ -44,11 +44,11 @@ written-read [] f = refl
 written-read (e ∷ es) f =
     ap₂ (λ (x : Running) (xs : List Running). x ∷ xs) (simp (parts (e .version), round 2 (e .platform) (f 0 .platform))) (written-read es (λ i. f (suc i)))
 
--- seven components read back
+-- all components read back
 pub components-read-back : ComponentsReadBack
-components-read-back es seven f = ap (λ (n : ℕ). componentsIn n (componentsBytes es)) (sym seven) ∙ written-read es f
+components-read-back es size f = ap (λ (n : ℕ). componentsIn n (componentsBytes es)) (sym size) ∙ written-read es f
 
--- seven bytes that were read are written again
+-- the bytes of one that were read are written again
 running-back : (q : List ℕ) → Bytes q → runningBytes (runningIn q) ≡ bytesAt RUNNING-SIZE 0 q
 running-back q h = ap₂ (λ (v l : List ℕ). v ++ getD q 4 0 ∷ l) (version-back 0 q h) (back 2 5 q h)
 
@@ -61,14 +61,14 @@ read-written (suc n) q l h =
     ap₂ (λ (x y : List ℕ). x ++ y) (running-back q h) (read-written n (drop RUNNING-SIZE q) m (rest-bytes RUNNING-SIZE q h))
     ∙ sym (split RUNNING-SIZE q (omega arith))
 
--- 49 bytes that were read are written again
+-- all bytes that were read are written again
 pub components-write-back : ComponentsWriteBack
-components-write-back q k = read-written 7 q (k .size) (k .bytes)
+components-write-back q k = read-written COMPONENT-LIMIT q (k .size) (k .bytes)
 
--- there are seven
-pub components-seven : (q : List ℕ) → length (componentsIn 7 q) ≡ 7
+-- there are as many as the limit
+pub components-all : (q : List ℕ) → length (componentsIn COMPONENT-LIMIT q) ≡ COMPONENT-LIMIT
 unfolding componentsIn
-components-seven q = read-sized RUNNING-SIZE runningIn componentsIn (λ q. refl) (λ n q. refl) 7 q
+components-all q = read-sized RUNNING-SIZE runningIn componentsIn (λ q. refl) (λ n q. refl) COMPONENT-LIMIT q
 
 -- what is read of bytes fits
 pub components-fit : (n : ℕ) (q : List ℕ) → Bytes q → (i : ℕ) → FitsEntry (getD (componentsIn n q) i none)

@@ -1,17 +1,18 @@
--- The components of a version reply as bytes, little-endian, for whoever keeps them outside of Rattle: seven times version, id, platform.
+-- The components of a version reply as bytes, little-endian, for whoever keeps them outside of Rattle: version, id and platform of each.
 use Prim.Native.Nat.{ℕ, zero, suc, _*_}
 use mathlib.Core.List.{List, [], _∷_, _++_}
 use lib.ListN.{getD, drop}
 use Rattle.wire.specs.Bytes.{number, bytesOf, bytesAt}
+use Rattle.wire.specs.Codes.{COMPONENT-LIMIT}
 use Rattle.wire.specs.Version.{versionAt, versionBytes}
 use Rattle.wire_version.specs.declared.Running.{Running}
 
--- the lengths: a component, and all seven
+-- the lengths: a component, and all of them
 abbrev pub RUNNING-SIZE : ℕ
 RUNNING-SIZE = 7
 
 abbrev pub COMPONENTS-SIZE : ℕ
-COMPONENTS-SIZE = 7 * RUNNING-SIZE
+COMPONENTS-SIZE = COMPONENT-LIMIT * RUNNING-SIZE
 
 -- a component of a version reply as bytes: version, id, platform
 abbrev pub runningBytes : Running → List ℕ

@@ -1,17 +1,20 @@
-// The components of a version reply as bytes: seven times version, id, platform.
+// The components of a version reply as bytes: version, id and platform of each.
 ghost use mathlib.Core.Path.{_≡_};
 ghost use lib.ListN.{drop};
+ghost use Rattle.wire.specs.Codes.{COMPONENT-LIMIT};
 ghost use Rattle.c_version.specs.Layout.{runningBytes, componentsBytes, runningIn, componentsIn};
+use wire::codes::COMPONENT_LIMIT;
 use wire::version::Version;
 use wire::words;
 use wire_version::Running;
+use wire_version::no_component;
 
-// The lengths of a component, and of all seven.
+// The lengths of a component, and of all of them.
 const RUNNING_SIZE: usize = 7;
 
-pub const COMPONENTS_SIZE: usize = 7 * RUNNING_SIZE;
+pub const COMPONENTS_SIZE: usize = COMPONENT_LIMIT * RUNNING_SIZE;
 
-fn running_bytes(e: Running) -> [u8; 7]
+fn running_bytes(e: Running) -> [u8; RUNNING_SIZE]
     ensures { λ r. ⌜ r ≡ runningBytes e ⌝ }
 {
     let version = e.version;
@@ -20,12 +23,12 @@ fn running_bytes(e: Running) -> [u8; 7]
     [v[0], v[1], v[2], v[3], e.id, p[0], p[1]]
 }
 
-pub fn components_bytes(components: [Running; 7]) -> [u8; 49]
+pub fn components_bytes(components: [Running; COMPONENT_LIMIT]) -> [u8; COMPONENTS_SIZE]
     ensures { λ r. ⌜ r ≡ componentsBytes components ⌝ }
 {
-    let mut out = [0u8; 49];
+    let mut out = [0u8; COMPONENTS_SIZE];
     let mut i = 0;
-    while i < 7 {
+    while i < COMPONENT_LIMIT {
         let e = components[i];
         let b = running_bytes(e);
         let at = i * RUNNING_SIZE;
@@ -40,12 +43,7 @@ fn running_in(q: &[u8]) -> Running
     ensures { λ r. ⌜ r ≡ runningIn (now (q .entry)) ⌝ }
 {
     Running {
-        version: Version::read(
-            words::byte_at(q, 0),
-            words::byte_at(q, 1),
-            words::byte_at(q, 2),
-            words::byte_at(q, 3),
-        ),
+        version: Version::read_at(q, 0),
         id: words::byte_at(q, 4),
         platform: words::word16_at(q, 5),
     }
@@ -62,14 +60,14 @@ fn running_at(q: &[u8], at: usize) -> Running
     running_in(&q[at..])
 }
 
-// What the bytes lack, up to seven components, is zero.
-pub fn read_components(q: &[u8]) -> [Running; 7]
-    ensures { λ r. ⌜ r ≡ componentsIn 7 (now (q .entry)) ⌝ }
+// What the bytes lack, up to the last component, is zero.
+pub fn read_components(q: &[u8]) -> [Running; COMPONENT_LIMIT]
+    ensures { λ r. ⌜ r ≡ componentsIn COMPONENT-LIMIT (now (q .entry)) ⌝ }
 {
-    let first = running_at(q, 0);
-    let mut components = [first; 7];
+    let none = no_component();
+    let mut components = [none; COMPONENT_LIMIT];
     let mut i = 0;
-    while i < 7 {
+    while i < COMPONENT_LIMIT {
         components[i] = running_at(q, i * RUNNING_SIZE);
         i += 1;
     }

@@ -13,7 +13,7 @@ use Rattle.device_receiving.specs.Receive.{onContent}
 use Rattle.device.specs.declared.record.Device.{Device}
 use Rattle.device.specs.declared.answer.Channel.{Channel}
 use Rattle.device.specs.declared.answer.Channel.the-variants.{Offer, Content}
-use Rattle.device.specs.Record.{sessionOf, blankDevice}
+use Rattle.device.specs.Record.{blankDevice}
 use Rattle.device.specs.Refusals.{Row, served, D, refusalOf, Outcome, refusedBy, unlessRefused}
 use Rattle.device.specs.Offer.{onKind, offerEntry}
 use Rattle.device.specs.Content.{sessionComponent, received, contentEntry, contentStaging}
@@ -45,14 +45,14 @@ module _ (row : Row) (d : Device) (answer : Outcome) where
 pub content-served : (d : Device) (staging report : List ℕ) → contentEntry d staging report .row ≡ served → refusalOf 60 d (length staging) (length report) ≡ served
 unfolding contentEntry
 content-served d staging report e =
-    served-row (refusalOf 60 d (length staging) (length report)) d (received d (onContent (sessionComponent d) (sessionOf d) (headIn report) (drop 8 report) staging)) e
+    served-row (refusalOf 60 d (length staging) (length report)) d (received d (onContent (sessionComponent d) (d .session) (headIn report) (drop 8 report) staging)) e
 
 pub refused-changes-nothing : RefusedChangesNothing
 unfolding serveEntry serveStaging offerEntry contentEntry contentStaging
 refused-changes-nothing d Offer staging report k e =
     let r = refused-row (refusalOf 16 d (length staging) (length report)) d (onKind d (kindIn report)) k (kind-served d (kindIn report)) e in (rw r, refl)
 refused-changes-nothing d Content staging report k e =
-    let r = refused-row (refusalOf 60 d (length staging) (length report)) d (received d (onContent (sessionComponent d) (sessionOf d) (headIn report) (drop 8 report) staging)) k refl e in
+    let r = refused-row (refusalOf 60 d (length staging) (length report)) d (received d (onContent (sessionComponent d) (d .session) (headIn report) (drop 8 report) staging)) k refl e in
     (rw r, rw r)
 
 pub blank-refused : BlankRefused

@@ -30,26 +30,20 @@ use Rattle.device_session.specs.declared.stage.Stage.the-variants.{Offered, Rec
 use Rattle.device.specs.declared.answer.Channel.the-variants.{Content}
 use Rattle.device_receiving.specs.declared.checks.ContentVerdict.the-variants.{Take}
 use Rattle.device_session.specs.Stage.{openSlot, atToken}
+use Rattle.device_session.specs.Effect.{idle, inStage}
 use Rattle.device_receiving.specs.Content as receiving
 use Rattle.device_receiving.specs.Content.{isFirst, isLast, badShape, takeBlock}
 use Rattle.device_receiving.specs.Finish.{finish}
 use Rattle.device_receiving.specs.Receive.{onBlock}
 use Rattle.device_receiving.proofs.content.Laws.{kept}
-use Rattle.device.specs.Record.{sessionOf, idleWith}
+use Rattle.device.specs.Record.{withSession, idleWith}
 use Rattle.device.specs.Content.{contentVerdict, received, contentEntry, contentStaging}
 use Rattle.device.specs.Entries.{serveEntry, serveStaging}
 use Rattle.device.proofs.Calls.{Sound, answeredWith, rows-pass}
 
 -- the record with these components in this stage, owing nothing
 abbrev pub held : Device → List Component → Stage → Device
-held d components stage = record {
-  platform = d .platform;
-  «staging_len» = d .«staging_len»;
-  count = d .count;
-  components = components;
-  stage = stage;
-  owed = owed.Nothing;
-}
+held d components stage = withSession d components (inStage idle stage)
 
 -- the session that waits for block k of an image
 abbrev pub awaits : (slot token k : ℕ) → Stage
@@ -98,10 +92,10 @@ puts r c (suc k) s own bytes f h e l =
     rw (f .first, eqb·suc-zero k, e) (write-inside r s (c .address) bytes h m)
 
 -- a right image: pending with its version
-finishes : (x : Component) (s m : List ℕ) (v : Version) → regionBytes (x .region) s ≡ m → isRight m ≡ true
-    → imageId m ≡ x .id → imageVersion m ≡ v → imageVersionFits x v ≡ true → finish x s ≡ record { status = SUCCESS; component = withStaged x v }
+finishes : (x : Component) (s m : List ℕ) (v : Version) → regionBytes (x .fixed .region) s ≡ m → isRight m ≡ true
+    → imageId m ≡ x .fixed .id → imageVersion m ≡ v → imageVersionFits x v ≡ true → finish x s ≡ record { status = SUCCESS; component = withStaged x v }
 unfolding finish
-finishes x s m v e r i w g = rw (e, bears m (x .id) v r i w, g)
+finishes x s m v e r i w g = rw (e, bears m (x .fixed .id) v r i w, g)
 
 module _ (d : Device) (components : List Component) (slot token : ℕ) (c : ContentHead) where
   -- the record whose session waits for block k
@@ -113,7 +107,7 @@ module _ (d : Device) (components : List Component) (slot token : ℕ) (c : Cont
   taken = replyBytes (record { sequence = c .sequence; status = SUCCESS })
 
   -- checks 1 to 5 let it pass
-  takes : (k : ℕ) → Fitting c k (componentAt components slot .region) → contentVerdict (waiting k) c ≡ Take slot
+  takes : (k : ℕ) → Fitting c k (componentAt components slot .fixed .region) → contentVerdict (waiting k) c ≡ Take slot
   unfolding receiving.contentVerdict firstOf
   takes zero f = simp (f .shape, f .first, f .room)
   takes (suc k) f =
@@ -121,30 +115,30 @@ module _ (d : Device) (components : List Component) (slot token : ℕ) (c : Cont
 
   -- a block that is not the last: the session waits for the next
   goes-on : (k : ℕ) (s : List ℕ) → c .sequence ≡ k % 65536 → isLast c ≡ false
-      → received (waiting k) (onBlock (componentAt components slot) (sessionOf (waiting k)) slot c s) ≡ answeredWith taken owed.Nothing (waiting (suc k))
+      → received (waiting k) (onBlock (componentAt components slot) (waiting k .session) slot c s) ≡ answeredWith taken owed.Nothing (waiting (suc k))
   unfolding onBlock
   goes-on k s q h =
       let e : (c .sequence + 1) % 65536 ≡ suc k % 65536 = omega arith in
       rw (h, e, awaits-token slot token k, awaits-slot slot token k, kept components slot)
 
   -- the reply to the last block of a right image
-  ends : (k : ℕ) (s m : List ℕ) (v : Version) → isLast c ≡ true → regionBytes (componentAt components slot .region) s ≡ m → isRight m ≡ true
-      → imageId m ≡ componentAt components slot .id → imageVersion m ≡ v → imageVersionFits (componentAt components slot) v ≡ true
-      → received (waiting k) (onBlock (componentAt components slot) (sessionOf (waiting k)) slot c s)
+  ends : (k : ℕ) (s m : List ℕ) (v : Version) → isLast c ≡ true → regionBytes (componentAt components slot .fixed .region) s ≡ m → isRight m ≡ true
+      → imageId m ≡ componentAt components slot .fixed .id → imageVersion m ≡ v → imageVersionFits (componentAt components slot) v ≡ true
+      → received (waiting k) (onBlock (componentAt components slot) (waiting k .session) slot c s)
       ≡ answeredWith taken owed.Nothing (idleWith d (set components slot (withStaged (componentAt components slot) v)))
   unfolding onBlock
   ends k s m v h e r i w g = rw (h, finishes (componentAt components slot) s m v e r i w g, awaits-slot slot token k)
 
-  module _ (s p : List ℕ) (size : length p ≡ 60) (reads : headIn p ≡ c) (k : ℕ) (f : Fitting c k (componentAt components slot .region))
+  module _ (s p : List ℕ) (size : length p ≡ 60) (reads : headIn p ≡ c) (k : ℕ) (f : Fitting c k (componentAt components slot .fixed .region))
       (sound : Sound (held d components (awaits slot token k)) s) where
     -- the staging buffer afterwards
-    pub block-staging : serveStaging (held d components (awaits slot token k)) Content s p ≡ takeBlock (componentAt components slot .region) c (drop 8 p) s
+    pub block-staging : serveStaging (held d components (awaits slot token k)) Content s p ≡ takeBlock (componentAt components slot .fixed .region) c (drop 8 p) s
     unfolding serveStaging contentStaging
     block-staging = rw (rows-pass 60 (waiting k) s (length p) sound size, reads, takes k f, awaits-slot slot token k)
 
     -- the answer is that of a taken block
     block-taken : serveEntry (waiting k) Content s p
-        ≡ received (waiting k) (onBlock (componentAt components slot) (sessionOf (waiting k)) slot c (takeBlock (componentAt components slot .region) c (drop 8 p) s))
+        ≡ received (waiting k) (onBlock (componentAt components slot) (waiting k .session) slot c (takeBlock (componentAt components slot .fixed .region) c (drop 8 p) s))
     unfolding serveEntry contentEntry
     block-taken = rw (rows-pass 60 (waiting k) s (length p) sound size, reads, takes k f, awaits-slot slot token k)
 
@@ -156,8 +150,8 @@ module _ (d : Device) (components : List Component) (slot token : ℕ) (c : Cont
 
     -- the last block of a right image that is not older: status 0, and the component is pending with its version
     pub block-last : (m : List ℕ) (v : Version) → isLast c ≡ true
-        → regionBytes (componentAt components slot .region) (takeBlock (componentAt components slot .region) c (drop 8 p) s) ≡ m → isRight m ≡ true
-        → imageId m ≡ componentAt components slot .id → imageVersion m ≡ v → imageVersionFits (componentAt components slot) v ≡ true
+        → regionBytes (componentAt components slot .fixed .region) (takeBlock (componentAt components slot .fixed .region) c (drop 8 p) s) ≡ m → isRight m ≡ true
+        → imageId m ≡ componentAt components slot .fixed .id → imageVersion m ≡ v → imageVersionFits (componentAt components slot) v ≡ true
         → serveEntry (held d components (awaits slot token k)) Content s p
         ≡ answeredWith (replyBytes (record { sequence = c .sequence; status = SUCCESS })) owed.Nothing
         (idleWith d (set components slot (withStaged (componentAt components slot) v)))

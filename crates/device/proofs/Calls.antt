@@ -16,7 +16,7 @@ use Rattle.wire_offer.specs.Kind.{Kind, offer, information, kindIn}
 use Rattle.wire_offer.specs.declared.offer.OfferFields.{OfferFields}
 use Rattle.wire_offer.specs.declared.signal.Signal.{Signal}
 use Rattle.wire_content.specs.Head.{headIn}
-use Rattle.device_session.specs.Effect.{idle}
+use Rattle.device_session.specs.Effect.{idle, oneReply}
 use Rattle.device_session.specs.declared.owed.Owed.{Owed}
 use Rattle.device_session.specs.declared.owed.Owed.the-variants as owed
 use Rattle.device_offering.specs.Offer.{onOffer}
@@ -29,7 +29,7 @@ use Rattle.device_receiving.specs.declared.checks.ContentVerdict.the-variants.{
 use Rattle.device_receiving.specs.declared.content.Taken.{Taken}
 use Rattle.device.specs.declared.record.Device.{Device}
 use Rattle.device.specs.declared.answer.Channel.the-variants.{Offer, Content}
-use Rattle.device.specs.Record.{sessionOf, toIdle}
+use Rattle.device.specs.Record.{toIdle}
 use Rattle.device.specs.Refusals.{served, breaksD1, refusalOf, Outcome, servedWith, readySent}
 use Rattle.device.specs.Offer.{onKind, offerEntry}
 use Rattle.device.specs.Content.{sessionComponent, contentVerdict, received, contentEntry}
@@ -37,7 +37,7 @@ use Rattle.device.specs.Entries.{serveEntry}
 
 -- a served call with one reply, and then the READY that was owed
 abbrev pub answeredWith : List ℕ → Owed → Device → Outcome
-answeredWith bytes ready d = record { row = served; due = true; reply = bytes; ready = ready; sent = bytes ∷ readySent ready; device = d }
+answeredWith bytes ready d = record { row = served; replies = oneReply bytes ready; sent = bytes ∷ readySent ready; device = d }
 
 -- one reply with this status, and no reason
 abbrev pub plainReply : (token status : ℕ) → Device → Outcome
@@ -86,16 +86,16 @@ answers-code d s p x h l e = rw (serves-kind d s p (information x) h l e) (go (e
   where
     go : (a b : Bool)
         → Answered (servedWith d (d .components) (cond a (signal.plainReply (x .token) OFFER-ACCEPT idle)
-        (cond b (signal.plainReply (x .token) OFFER-ACCEPT (sessionOf d)) (signal.plainReply (x .token) OFFER-UNSUPPORTED (sessionOf d)))))
+        (cond b (signal.plainReply (x .token) OFFER-ACCEPT (d .session)) (signal.plainReply (x .token) OFFER-UNSUPPORTED (d .session)))))
     go true b = (refl, refl)
     go false true = (refl, refl)
     go false false = (refl, refl)
 
 -- so is a block, where nothing is owed
-pub answers-block : (d : Device) (s p : List ℕ) → Sound d s → d .owed ≡ owed.Nothing → length p ≡ 60 → Answered (serveEntry d Content s p)
+pub answers-block : (d : Device) (s p : List ℕ) → Sound d s → d .session .owed ≡ owed.Nothing → length p ≡ 60 → Answered (serveEntry d Content s p)
 unfolding serveEntry contentEntry onBlock
 answers-block d s p h o l = rw (rows-pass 60 d s (length p) h l) (go (contentVerdict d (headIn p)))
   where
-    go : (v : ContentVerdict) → Answered (received d (onVerdict (sessionComponent d) (sessionOf d) (headIn p) (drop 8 p) s v))
+    go : (v : ContentVerdict) → Answered (received d (onVerdict (sessionComponent d) (d .session) (headIn p) (drop 8 p) s v))
     go (Refuse status) = (refl, refl)
     go (Take slot) = either (λ (t : Taken). Answered (received d t)) (isLast (headIn p)) _ _ (rw o (refl, refl)) (refl, refl)

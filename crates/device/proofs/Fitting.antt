@@ -7,6 +7,7 @@ use native.Mathlib.Omega.{arith}
 use lib.Dec.{eqb}
 use lib.ListN.{length, getD, drop, length-set, length-map, replicate}
 use Rattle.wire.specs.Bytes.{Bytes}
+use Rattle.wire.specs.Codes.{COMPONENT-LIMIT}
 use Rattle.wire.specs.declared.version.Version.{Version}
 use Rattle.wire_offer.specs.Offer as offers
 use Rattle.wire_content.specs.Head.{headIn}
@@ -17,15 +18,14 @@ use Rattle.image.specs.declared.judge.Image.the-variants.{Damaged, Foreign, Bea
 use Rattle.image.specs.declared.region.Region.{Region}
 use Rattle.device_component.specs.Record.{FitsStaged, FitsComponent, effective, listed, withStaged, afterReset, blankComponent}
 use Rattle.device_component.specs.Lists.{componentAt}
-use Rattle.device_component.specs.Setup.{rowOf, setupVerdict}
+use Rattle.device_component.specs.Setup.{refusesSetup, rowOf, setupVerdict}
 use Rattle.device_component.specs.declared.record.Component.{Component}
 use Rattle.device_component.specs.declared.record.Staged.{Staged}
 use Rattle.device_component.specs.declared.record.Staged.the-variants.{Nothing, Pending}
 use Rattle.device_component.specs.declared.setup.SetupVerdict.{SetupVerdict}
 use Rattle.device_slots.specs.Slots.{resetComponents}
 use Rattle.device_session.specs.Stage.{FitsStage, openSlot, atToken}
-use Rattle.device_session.specs.Owed.{FitsOwed}
-use Rattle.device_session.specs.Sound.{refusesSetup}
+use Rattle.device_session.specs.Effect.{FitsSession}
 use Rattle.device_receiving.specs.Content.{isFirst, takeBlock}
 use Rattle.device.specs.Entries.{newDevice, setUpBy, setUpOf, Reset, resetEntry}
 use Rattle.device_session.proofs.sound.Laws.{fine}
@@ -33,26 +33,27 @@ use Rattle.device.proofs.setup.Laws.{refused-set-up, made-set-up}
 use Rattle.wire.specs.Version.{FitsVersion}
 use Rattle.device_component.specs.declared.list.Found.the-variants as found
 use Rattle.device.specs.declared.record.Device.{Device}
-use Rattle.device_session.specs.declared.owed.Owed.{Owed}
+use Rattle.device_session.specs.declared.effect.Session.{Session}
+use Rattle.device_session.proofs.effect.Laws.{idle-fits, stage-fits, owing-fits}
 use Rattle.device_session.specs.declared.stage.Stage.{Stage}
 use Rattle.device_session.specs.declared.stage.Stage.the-variants.{Idle, Offered, Receiving}
 use Rattle.device.specs.declared.answer.Channel.{Channel}
-use Rattle.device.specs.Record.{FitsDevice, component, blankDevice}
+use Rattle.device.specs.Record.{FitsDevice, component, withSession, blankDevice}
 use Rattle.device.specs.Refusals.{breaksD1}
 use Rattle.device.specs.Promises.{SetUpFits, ResetKeepsFits, ServeKeepsFits}
+use Rattle.wire.proofs.Bounds.{first-bytes, rest-bytes, version-fits}
 use Rattle.wire.proofs.Chain.{either}
 use Rattle.device_component.proofs.list.Laws.{find-at}
 use Rattle.device_component.proofs.setup.Laws.{seen, fine-staging}
 use Rattle.device.proofs.Lists.{reset-seen, each-set, each-front}
-use Rattle.device.proofs.Bytes.{take-bytes, drop-bytes, region-bytes, erase-bytes, write-bytes, version-fits}
+use Rattle.device.proofs.Bytes.{region-bytes, erase-bytes, write-bytes}
 use Rattle.device.proofs.Moves.{Move, stays, idles, opens, owes, goes, stages, serve-moves}
 
 -- the record with other components and another session
-fits-with : (d : Device) → FitsDevice d → (components : List Component) → length components ≡ 7 → ((k : ℕ) → FitsComponent (componentAt components k))
-    → (s : Stage) → FitsStage s → (o : Owed) → FitsOwed o
-    → FitsDevice (record { platform = d .platform; «staging_len» = d .«staging_len»; count = d .count; components = components; stage = s; owed = o })
-fits-with d f components l e s h o k =
-    record { platform = f .platform; staging = f .staging; count = f .count; slots = l; each = e; stage = h; owed = k }
+fits-with : (d : Device) → FitsDevice d → (components : List Component) → length components ≡ COMPONENT-LIMIT → ((k : ℕ) → FitsComponent (componentAt components k))
+    → (s : Session) → FitsSession s → FitsDevice (withSession d components s)
+fits-with d f components l e s h =
+    record { platform = f .platform; staging = f .staging; count = f .count; slots = l; each = e; session = h }
 
 slot-fits : (s : Stage) (k : ℕ) → FitsStage s → openSlot s ≡ found.At k → k < 256
 slot-fits Idle k f e = let z : _≡_ {A = ℕ} 0 1 = cc in absurd (omega arith)
@@ -77,26 +78,27 @@ bears m id v e = go (isRight m) (eqb (imageId m) id) e where
 block-bytes : (r : Region) (c : ContentHead) (bytes s : List ℕ) → Bytes bytes → Bytes s → Bytes (takeBlock r c bytes s)
 unfolding takeBlock
 block-bytes r c bytes s h b =
-    write-bytes r _ (either Bytes (isFirst c) _ _ (erase-bytes r s b) b) _ _ (take-bytes (c .length) bytes h)
+    write-bytes r _ (either Bytes (isFirst c) _ _ (erase-bytes r s b) b) _ _ (first-bytes (c .length) bytes h)
 
 -- each of the six moves keeps the values
 move-fits : {d d′ : Device} {channel : Channel} {staging report : List ℕ} → FitsDevice d → Bytes report → Bytes staging → Move d channel staging report d′ → FitsDevice d′
 unfolding offers.fieldsIn
 move-fits f h b stays = f
-move-fits {d} f h b idles = fits-with d f (d .components) (f .slots) (f .each) Idle tt _ tt
+move-fits {d} f h b idles = fits-with d f (d .components) (f .slots) (f .each) _ idle-fits
 move-fits {d} {report = report} f h b (opens k a q) =
     let m = find-at _ (d .count) (d .components) k (a .component) .0 in
-    fits-with d f (d .components) (f .slots) (f .each) _ (omega (arith, f .count), h 3) _ (f .owed)
-move-fits {d} f h b (owes e) = fits-with d f (d .components) (f .slots) (f .each) _ (f .stage) _ (h 3)
+    fits-with d f (d .components) (f .slots) (f .each) _ (stage-fits (d .session) _ (f .session) (omega (arith, f .count), h 3))
+move-fits {d} f h b (owes e) = fits-with d f (d .components) (f .slots) (f .each) _ (owing-fits (d .session) _ (f .session) (h 3))
 move-fits {d} f h b (goes k e) =
-    fits-with d f (d .components) (f .slots) (f .each) _ (slot-fits (d .stage) k (f .stage) e, token-fits (d .stage) (f .stage), omega arith) _ (f .owed)
+    let s = f .session .stage in
+    fits-with d f (d .components) (f .slots) (f .each) _ (stage-fits (d .session) _ (f .session) (slot-fits (d .session .stage) k s e, token-fits (d .session .stage) s, omega arith))
 move-fits {d} {staging = staging} {report = report} f h b (stages k e v q w) =
     let c = f .each k in
-    let r = component d k .region in
+    let r = component d k .fixed .region in
     let after = takeBlock r (headIn report) (drop 8 report) staging in
-    let n : v .0 < 256 ^ 4 = rw (bears (regionBytes r after) _ v q) (version-fits 0 (regionBytes r after) (region-bytes r after (block-bytes r (headIn report) (drop 8 report) staging (drop-bytes 8 report h) b))) in
-    let g : FitsComponent (withStaged (component d k) v) = record { id = c .id; running = c .running; region = c .region; staged = n } in
-    fits-with d f _ (length-set (d .components) k _ ∙ f .slots) (each-set FitsComponent (d .components) k _ blankComponent g (f .each)) Idle tt _ tt
+    let n : v .0 < 256 ^ 4 = rw (bears (regionBytes r after) _ v q) (version-fits 0 (regionBytes r after) (region-bytes r after (block-bytes r (headIn report) (drop 8 report) staging (rest-bytes 8 report h) b))) in
+    let g : FitsComponent (withStaged (component d k) v) = record { fixed = c .fixed; running = c .running; staged = n } in
+    fits-with d f _ (length-set (d .components) k _ ∙ f .slots) (each-set FitsComponent (d .components) k _ blankComponent g (f .each)) _ idle-fits
 
 pub serve-keeps-fits : ServeKeepsFits
 serve-keeps-fits d channel staging report f h b = move-fits f h b (serve-moves d staging report channel)
@@ -114,12 +116,11 @@ blank-fits = record {
   staging = omega arith;
   count = omega arith;
   slots = refl;
-  each = λ k. rw (all-same 7 k blankComponent) none-fits;
-  stage = tt;
-  owed = tt;
+  each = λ k. rw (all-same COMPONENT-LIMIT k blankComponent) none-fits;
+  session = idle-fits;
 } where
   none-fits : FitsComponent blankComponent
-  none-fits = record { id = omega arith; running = omega arith; region = record { base = omega arith; len = omega arith }; staged = tt }
+  none-fits = record { fixed = record { id = omega arith; region = record { base = omega arith; len = omega arith } }; running = omega arith; staged = tt }
 
 pub set-up-fits : SetUpFits
 unfolding setUpOf
@@ -135,11 +136,11 @@ set-up-fits platform list count n p k l e = go (refusesSetup verdict) refl where
   go false r =
       let s = fine-staging n count (map listed list) (fine _ r) in
       rw (made-set-up verdict new r)
-      (record { platform = p; staging = omega arith; count = k; slots = length-map list listed ∙ l; each = e; stage = tt; owed = tt })
+      (record { platform = p; staging = omega arith; count = k; slots = length-map list listed ∙ l; each = e; session = idle-fits })
 
 -- a component after a reset has values of its type
 reset-fits : (c : Component) → FitsComponent c → FitsComponent (afterReset c)
-reset-fits c f = record { id = f .id; running = effective-fits (c .staged) (f .staged); region = f .region; staged = tt } where
+reset-fits c f = record { fixed = f .fixed; running = effective-fits (c .staged) (f .staged); staged = tt } where
   effective-fits : (s : Staged) → FitsStaged s → FitsVersion (effective (c .running) s)
   effective-fits Nothing h = f .running
   effective-fits (Pending v) h = h
@@ -147,6 +148,6 @@ reset-fits c f = record { id = f .id; running = effective-fits (c .staged) (f .s
 pub reset-keeps-fits : ResetKeepsFits
 unfolding resetEntry
 reset-keeps-fits d f =
-    let l : length (resetComponents (d .count) (d .components)) ≡ 7 = sym (length-map (resetComponents (d .count) (d .components)) seen) ∙ ap length (reset-seen (d .count) (d .components)) ∙ length-map (d .components) seen ∙ f .slots in
+    let l : length (resetComponents (d .count) (d .components)) ≡ COMPONENT-LIMIT = sym (length-map (resetComponents (d .count) (d .components)) seen) ∙ ap length (reset-seen (d .count) (d .components)) ∙ length-map (d .components) seen ∙ f .slots in
     either (λ (r : Reset). FitsDevice (r .device)) (breaksD1 d) _ _ f
-    (fits-with d f (resetComponents (d .count) (d .components)) l (each-front FitsComponent afterReset blankComponent reset-fits (d .count) (d .components) (f .each)) Idle tt _ tt)
+    (fits-with d f (resetComponents (d .count) (d .components)) l (each-front FitsComponent afterReset blankComponent reset-fits (d .count) (d .components) (f .each)) _ idle-fits)

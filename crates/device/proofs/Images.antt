@@ -27,7 +27,7 @@ use Rattle.device_receiving.specs.Receive.{onBlock, onVerdict, stagingBy}
 use Rattle.device_receiving.proofs.content.Laws.{kept}
 use Rattle.device.specs.declared.record.Device.{Device}
 use Rattle.device.specs.declared.answer.Channel.the-variants.{Offer, Content}
-use Rattle.device.specs.Record.{component, sessionOf}
+use Rattle.device.specs.Record.{component}
 use Rattle.device.specs.Refusals.{Row, served, D, refusalOf, unlessRefused}
 use Rattle.device.specs.Offer.{onKind, offerEntry}
 use Rattle.device.specs.Content.{sessionComponent, contentVerdict, received, stagingUnless, contentEntry, contentStaging}
@@ -58,14 +58,14 @@ module _ (d : Device) (staging report : List ℕ) (k : ℕ) (v : Version) where
   abbrev Own : List Component → List ℕ → Type 0
   Own components s = componentAt components k .staged ≡ Pending v
       → (component d k .staged ≡ Pending v)
-      ⊎ ((imageIn (regionBytes (component d k .region) s) (component d k .id) ≡ Bears v) × (imageVersionFits (component d k) v ≡ true))
+      ⊎ ((imageIn (regionBytes (component d k .fixed .region) s) (component d k .fixed .id) ≡ Bears v) × (imageVersionFits (component d k) v ≡ true))
 
   -- a component that stays
   unchanged : (slot : ℕ) (s : List ℕ) → Own (set (d .components) slot (component d slot)) s
   unchanged slot s = rw (kept (d .components) slot) inl
 
   module _ (slot : ℕ) where
-    after-judge : (s : List ℕ) (m : Image) → imageIn (regionBytes (component d slot .region) s) (component d slot .id) ≡ m
+    after-judge : (s : List ℕ) (m : Image) → imageIn (regionBytes (component d slot .fixed .region) s) (component d slot .fixed .id) ≡ m
         → Own (set (d .components) slot (judge (component d slot) m .component)) s
     after-judge s Damaged e = unchanged slot s
     after-judge s Foreign e = unchanged slot s
@@ -77,29 +77,29 @@ module _ (d : Device) (staging report : List ℕ) (k : ℕ) (v : Version) where
             → (getD (set (d .components) slot (withStaged (component d slot) w)) k blankComponent ≡ component d k)
             ⊎ ((k ≡ slot) × (getD (set (d .components) slot (withStaged (component d slot) w)) k blankComponent ≡ withStaged (component d slot) w))
             → (component d k .staged ≡ Pending v)
-            ⊎ ((imageIn (regionBytes (component d k .region) s) (component d k .id) ≡ Bears v) × (imageVersionFits (component d k) v ≡ true))
+            ⊎ ((imageIn (regionBytes (component d k .fixed .region) s) (component d k .fixed .id) ≡ Bears v) × (imageVersionFits (component d k) v ≡ true))
         stored h (inl q) = inl (sym (ap (λ (c : Component). c .staged) q) ∙ h)
         stored h (inr q) =
             let same : w ≡ v = one-version w v (sym (ap (λ (c : Component). c .staged) (q .1)) ∙ h) in
             inr (rw (q .0, ← same) e, rw (q .0, ← same) f)
 
-    after-block : (n : ℕ) (s : List ℕ) → Own (set (d .components) slot (onBlock (component d slot) (sessionOf d) n (headIn report) s .component)) s
+    after-block : (n : ℕ) (s : List ℕ) → Own (set (d .components) slot (onBlock (component d slot) (d .session) n (headIn report) s .component)) s
     unfolding onBlock finish
     after-block n s = go (isLast (headIn report)) refl where
-      go : (b : Bool) → isLast (headIn report) ≡ b → Own (set (d .components) slot (onBlock (component d slot) (sessionOf d) n (headIn report) s .component)) s
+      go : (b : Bool) → isLast (headIn report) ≡ b → Own (set (d .components) slot (onBlock (component d slot) (d .session) n (headIn report) s .component)) s
       go true e = rw e (after-judge s _ refl)
       go false e = rw e (unchanged slot s)
 
     after-verdict : (w : ContentVerdict)
-        → Own (set (d .components) slot (onVerdict (component d slot) (sessionOf d) (headIn report) (drop 8 report) staging w .component))
-        (stagingBy (component d slot .region) (headIn report) (drop 8 report) staging w)
+        → Own (set (d .components) slot (onVerdict (component d slot) (d .session) (headIn report) (drop 8 report) staging w .component))
+        (stagingBy (component d slot .fixed .region) (headIn report) (drop 8 report) staging w)
     after-verdict (Refuse s) = unchanged slot staging
-    after-verdict (Take n) = after-block n (takeBlock (component d slot .region) (headIn report) (drop 8 report) staging)
+    after-verdict (Take n) = after-block n (takeBlock (component d slot .fixed .region) (headIn report) (drop 8 report) staging)
 
   after-row : (row : Row) (w : ContentVerdict)
-      → Own (unlessRefused row d (received d (onVerdict (sessionComponent d) (sessionOf d) (headIn report) (drop 8 report) staging w)) .device .components)
-      (stagingUnless row staging (stagingBy (sessionComponent d .region) (headIn report) (drop 8 report) staging w))
-  after-row served w = after-verdict (atSlot (d .stage)) w
+      → Own (unlessRefused row d (received d (onVerdict (sessionComponent d) (d .session) (headIn report) (drop 8 report) staging w)) .device .components)
+      (stagingUnless row staging (stagingBy (sessionComponent d .fixed .region) (headIn report) (drop 8 report) staging w))
+  after-row served w = after-verdict (atSlot (d .session .stage)) w
   after-row (D n) w = inl
 
 -- a packet of the offer channel changes no component

@@ -60,9 +60,9 @@ move-passes {d} p (opens k a q) =
     let b = lt-leb (d .count) k (find-at _ (d .count) (d .components) k (a .component) .0) in
     keeps (record { setup = p .setup; slot = rw (b, q); owed = refl; staged = p .staged })
 move-passes {d} p (owes e) =
-    let s = open-at (d .stage) e in
-    let o = open-slot (atSlot (d .stage)) p s in
-    let b = lt-leb (d .count) (atSlot (d .stage)) (o .0) in
+    let s = open-at (d .session .stage) e in
+    let o = open-slot (atSlot (d .session .stage)) p s in
+    let b = lt-leb (d .count) (atSlot (d .session .stage)) (o .0) in
     keeps (record { setup = p .setup; slot = rw (s, b, o .1); owed = rw s; staged = p .staged })
 move-passes {d} p (goes k s) =
     let o = open-slot k p s in

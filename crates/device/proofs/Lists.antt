@@ -6,9 +6,9 @@ use Prim.Native.Nat.{ℕ, zero, suc, _≤_}
 use lib.ListN.{length, take, drop, set, getD, length-map, take-append-drop}
 use lib.Seq.{take-at, length-take-le}
 use Rattle.wire.specs.Checks.{any}
-use Rattle.image.specs.declared.region.Region.{Region}
 use Rattle.device_component.specs.Record.{afterReset}
 use Rattle.device_component.specs.declared.record.Component.{Component}
+use Rattle.device_component.specs.declared.record.Fixed.{Fixed}
 use Rattle.device_component.proofs.setup.Laws.{seen}
 use Rattle.device_slots.specs.Slots.{resetComponents}
 use Rattle.wire.proofs.Tests.{neither}
@@ -47,7 +47,7 @@ module _ {A : Type 0} where
 pub reset-seen : (n : ℕ) (l : List Component) → map seen (resetComponents n l) ≡ map seen l
 reset-seen n l =
     map-append seen (map afterReset (take n l)) (drop n l)
-    ∙ ap (λ (t : List (ℕ × Region)). t ++ map seen (drop n l)) (map-map seen afterReset (take n l))
+    ∙ ap (λ (t : List Fixed). t ++ map seen (drop n l)) (map-map seen afterReset (take n l))
     ∙ sym (map-append seen (take n l) (drop n l)) ∙ ap (map seen) (take-append-drop n l)
 
 -- the components in use after a reset

@@ -41,7 +41,7 @@ use Rattle.device_receiving.proofs.content.Laws.{kept}
 use Rattle.device.specs.declared.record.Device.{Device}
 use Rattle.device.specs.declared.answer.Channel.{Channel}
 use Rattle.device.specs.declared.answer.Channel.the-variants.{Offer, Content}
-use Rattle.device.specs.Record.{find, component, sessionOf, withSession, idleWith, toIdle}
+use Rattle.device.specs.Record.{find, component, withSession, idleWith, toIdle}
 use Rattle.device.specs.Refusals.{Row, served, D, refusalOf, unlessRefused, Outcome}
 use Rattle.device.specs.Offer.{onKind, offerEntry}
 use Rattle.device.specs.Content.{sessionComponent, contentVerdict, received, contentEntry}
@@ -53,11 +53,11 @@ pub data Move (d : Device) (channel : Channel) (staging report : List ℕ) : Dev
   stays : Move d channel staging report d
   idles : Move d channel staging report (toIdle d)
   opens : (k : ℕ) → Accepts d channel staging report k → isPending (component d k .staged) ≡ false
-      → Move d channel staging report (withSession d (d .components) (inStage (sessionOf d) (Offered (record { slot = k; token = offers.fieldsIn report .token }))))
-  owes : isOpen (d .stage) ≡ true → Move d channel staging report (withSession d (d .components) (owing (sessionOf d) (owed.Token (getD report 3 0))))
-  goes : (k : ℕ) → openSlot (d .stage) ≡ found.At k → Move d channel staging report (withSession d (d .components) (goesOn (sessionOf d) k (headIn report)))
-  stages : (k : ℕ) → openSlot (d .stage) ≡ found.At k → (v : Version)
-      → imageIn (regionBytes (component d k .region) (takeBlock (component d k .region) (headIn report) (drop 8 report) staging)) (component d k .id) ≡ Bears v
+      → Move d channel staging report (withSession d (d .components) (inStage (d .session) (Offered (record { slot = k; token = offers.fieldsIn report .token }))))
+  owes : isOpen (d .session .stage) ≡ true → Move d channel staging report (withSession d (d .components) (owing (d .session) (owed.Token (getD report 3 0))))
+  goes : (k : ℕ) → openSlot (d .session .stage) ≡ found.At k → Move d channel staging report (withSession d (d .components) (goesOn (d .session) k (headIn report)))
+  stages : (k : ℕ) → openSlot (d .session .stage) ≡ found.At k → (v : Version)
+      → imageIn (regionBytes (component d k .fixed .region) (takeBlock (component d k .fixed .region) (headIn report) (drop 8 report) staging)) (component d k .fixed .id) ≡ Bears v
       → imageVersionFits (component d k) v ≡ true → Move d channel staging report (idleWith d (set (d .components) k (withStaged (component d k) v)))
 
 -- where nothing refuses the call, the entry's own answer counts
@@ -72,7 +72,7 @@ module _ (d : Device) (staging report : List ℕ) where
 
   -- checks 1 to 9 over the offer that the report is
   abbrev verdictOn : OfferVerdict
-  verdictOn = offerVerdict (d .platform) (d .count) (d .components) (d .stage) (offers.fieldsIn report)
+  verdictOn = offerVerdict (d .platform) (d .count) (d .components) (d .session .stage) (offers.fieldsIn report)
 
   -- no row refuses the packet, and it is an offer
   module _ (r : refusalOf 16 d (length staging) (length report) ≡ served) (x : kindIn report ≡ offer (offers.fieldsIn report)) where
@@ -81,30 +81,30 @@ module _ (d : Device) (staging report : List ℕ) where
     accepts k e f = record { fields = offers.fieldsIn report; entry = refl; kind = x; component = f; verdict = e; reply = rw (r, x, e) }
 
     after-offer : (v : OfferVerdict) → verdictOn ≡ v → OfferSays (d .count) (d .components) (offers.fieldsIn report) v
-        → Move d Offer staging report (withSession d (d .components) (afterOffer (sessionOf d) (offers.fieldsIn report .token) v))
+        → Move d Offer staging report (withSession d (d .components) (afterOffer (d .session) (offers.fieldsIn report .token) v))
     after-offer Busy e h = stays
     after-offer (Reject w) e h = stays
     after-offer Skip e h = stays
     after-offer (Accept k) e h = opens k (accepts k e (h .0)) (h .1)
 
-  after-information : (s : Signal) → Move d Offer staging report (after (onInformation (sessionOf d) s))
+  after-information : (s : Signal) → Move d Offer staging report (after (onInformation (d .session) s))
   unfolding onInformation
   after-information s = go (eqb (s .code) INFO-START-ENTIRE-TRANSACTION) (leb (s .code) INFO-END-OFFER-LIST) refl refl where
-    go : (a b : Bool) → eqb (s .code) INFO-START-ENTIRE-TRANSACTION ≡ a → leb (s .code) INFO-END-OFFER-LIST ≡ b → Move d Offer staging report (after (onInformation (sessionOf d) s))
+    go : (a b : Bool) → eqb (s .code) INFO-START-ENTIRE-TRANSACTION ≡ a → leb (s .code) INFO-END-OFFER-LIST ≡ b → Move d Offer staging report (after (onInformation (d .session) s))
     go true b e f = rw e idles
     go false true e f = rw (e, f) stays
     go false false e f = rw (e, f) stays
 
-  after-notify : (b : Bool) (o : Owed) → isOpen (d .stage) ≡ b → Move d Offer staging report (after (onNotify (sessionOf d) (getD report 3 0) b o))
+  after-notify : (b : Bool) (o : Owed) → isOpen (d .session .stage) ≡ b → Move d Offer staging report (after (onNotify (d .session) (getD report 3 0) b o))
   after-notify false o e = stays
   after-notify true owed.Nothing e = owes e
   after-notify true (owed.Token t) e = stays
 
-  after-extended : Move d Offer staging report (after (onExtended (sessionOf d) (signalIn report)))
+  after-extended : Move d Offer staging report (after (onExtended (d .session) (signalIn report)))
   unfolding onExtended
   after-extended = go (eqb (getD report 0 0) NOTIFY-ON-READY) refl where
-    go : (b : Bool) → eqb (getD report 0 0) NOTIFY-ON-READY ≡ b → Move d Offer staging report (after (onExtended (sessionOf d) (signalIn report)))
-    go true e = rw e (after-notify (isOpen (d .stage)) (d .owed) refl)
+    go : (b : Bool) → eqb (getD report 0 0) NOTIFY-ON-READY ≡ b → Move d Offer staging report (after (onExtended (d .session) (signalIn report)))
+    go true e = rw e (after-notify (isOpen (d .session .stage)) (d .session .owed) refl)
     go false e = rw e stays
 
   after-kind : refusalOf 16 d (length staging) (length report) ≡ served → Move d Offer staging report (onKind d (kindIn report) .device)
@@ -113,18 +113,18 @@ module _ (d : Device) (staging report : List ℕ) where
     go : (a b : Bool) → eqb (getD report 2 0) KIND-INFORMATION ≡ a → eqb (getD report 2 0) KIND-EXTENDED ≡ b → Move d Offer staging report (onKind d (kindIn report) .device)
     go true b e f = rw e (after-information (signalIn report))
     go false true e f = rw (e, f) after-extended
-    go false false e f = rw (e, f) (after-offer r (rw (e, f)) verdictOn refl (offer-says (d .platform) (d .count) (d .components) (d .stage) (offers.fieldsIn report)))
+    go false false e f = rw (e, f) (after-offer r (rw (e, f)) verdictOn refl (offer-says (d .platform) (d .count) (d .components) (d .session .stage) (offers.fieldsIn report)))
 
   -- the record after a content packet for the component in slot k
   abbrev taken : (k : ℕ) → Taken → Device
   taken k t = withSession d (set (d .components) k (t .component)) (t .effect .session)
 
-  module _ (k : ℕ) (h : openSlot (d .stage) ≡ found.At k) where
+  module _ (k : ℕ) (h : openSlot (d .session .stage) ≡ found.At k) where
     -- the staging buffer after a block
     abbrev written : List ℕ
-    written = takeBlock (component d k .region) (headIn report) (drop 8 report) staging
+    written = takeBlock (component d k .fixed .region) (headIn report) (drop 8 report) staging
 
-    after-judge : (m : Image) → imageIn (regionBytes (component d k .region) written) (component d k .id) ≡ m
+    after-judge : (m : Image) → imageIn (regionBytes (component d k .fixed .region) written) (component d k .fixed .id) ≡ m
         → Move d Content staging report (idleWith d (set (d .components) k (judge (component d k) m .component)))
     after-judge Damaged e = rw (kept (d .components) k) idles
     after-judge Foreign e = rw (kept (d .components) k) idles
@@ -133,16 +133,16 @@ module _ (d : Device) (staging report : List ℕ) where
       go true f = rw f (stages k h v e f)
       go false f = rw (f, kept (d .components) k) idles
 
-    after-block : Move d Content staging report (taken k (onBlock (component d k) (sessionOf d) k (headIn report) written))
+    after-block : Move d Content staging report (taken k (onBlock (component d k) (d .session) k (headIn report) written))
     unfolding onBlock finish
     after-block = go (isLast (headIn report)) refl where
-      go : (b : Bool) → isLast (headIn report) ≡ b → Move d Content staging report (taken k (onBlock (component d k) (sessionOf d) k (headIn report) written))
+      go : (b : Bool) → isLast (headIn report) ≡ b → Move d Content staging report (taken k (onBlock (component d k) (d .session) k (headIn report) written))
       go true e = rw e (after-judge _ refl)
       go false e = rw (e, kept (d .components) k) (goes k h)
 
-  after-content : (v : ContentVerdict) → ContentSays (sessionComponent d .region) (d .stage) (headIn report) v
-      → Move d Content staging report (received d (onVerdict (sessionComponent d) (sessionOf d) (headIn report) (drop 8 report) staging v) .device)
-  after-content (Refuse s) h = rw (kept (d .components) (atSlot (d .stage))) stays
+  after-content : (v : ContentVerdict) → ContentSays (sessionComponent d .fixed .region) (d .session .stage) (headIn report) v
+      → Move d Content staging report (received d (onVerdict (sessionComponent d) (d .session) (headIn report) (drop 8 report) staging v) .device)
+  after-content (Refuse s) h = rw (kept (d .components) (atSlot (d .session .stage))) stays
   after-content (Take k) h = rw (h .0) (after-block k (h .0))
 
   -- each entry for packets does one of the six
@@ -151,5 +151,5 @@ module _ (d : Device) (staging report : List ℕ) where
   serve-moves Offer = unless (Move d Offer staging report) (refusalOf 16 d (length staging) (length report)) d (onKind d (kindIn report)) stays after-kind
   serve-moves Content =
       unless (Move d Content staging report) (refusalOf 60 d (length staging) (length report)) d
-      (received d (onContent (sessionComponent d) (sessionOf d) (headIn report) (drop 8 report) staging)) stays
-      (λ r. after-content (contentVerdict d (headIn report)) (content-says (sessionComponent d .region) (d .stage) (headIn report)))
+      (received d (onContent (sessionComponent d) (d .session) (headIn report) (drop 8 report) staging)) stays
+      (λ r. after-content (contentVerdict d (headIn report)) (content-says (sessionComponent d .fixed .region) (d .session .stage) (headIn report)))

@@ -12,17 +12,17 @@ use Rattle.device_offering.specs.Offer.{statusOf, reasonOf, onOffer}
 use Rattle.device_offering.specs.declared.verdict.OfferVerdict.{OfferVerdict}
 use Rattle.device.specs.declared.record.Device.{Device}
 use Rattle.device.specs.declared.answer.Channel.the-variants.{Offer}
-use Rattle.device.specs.Record.{sessionOf, withSession}
+use Rattle.device.specs.Record.{withSession}
 use Rattle.device.specs.Entries.{serveEntry}
 use Rattle.device.proofs.Calls.{Sound, answeredWith, serves-kind}
 
 -- checks 1 to 9 over a record
 abbrev pub offerVerdict : Device → OfferFields → OfferVerdict
-offerVerdict d o = offering.offerVerdict (d .platform) (d .count) (d .components) (d .stage) o
+offerVerdict d o = offering.offerVerdict (d .platform) (d .count) (d .components) (d .session .stage) o
 
 -- the record after a verdict
 abbrev pub afterOffer : Device → (token : ℕ) → OfferVerdict → Device
-afterOffer d token v = withSession d (d .components) (offering.afterOffer (sessionOf d) token v)
+afterOffer d token v = withSession d (d .components) (offering.afterOffer (d .session) token v)
 
 pub answers : (d : Device) (s p : List ℕ) (o : OfferFields) (v : OfferVerdict) → Sound d s → length p ≡ 16 → kindIn p ≡ offer o → offerVerdict d o ≡ v
     → serveEntry d Offer s p

@@ -9,12 +9,11 @@ use lib.Dec.{eqb}
 use Rattle.wire.proofs.Chain.{first-says}
 use Rattle.device_session.proofs.sound.Laws as sound
 use Rattle.device.specs.declared.record.Device.{Device}
-use Rattle.device.specs.Record.{sessionOf}
 use Rattle.device.specs.Refusals.{Row, served, D, breaksD1, refusalOf}
 
 -- no clause of D1 applies
 abbrev pub Passes : Device → Type 0
-Passes d = sound.Passes (d .«staging_len») (d .count) (d .components) (sessionOf d)
+Passes d = sound.Passes (d .«staging_len») (d .count) (d .components) (d .session)
 
 -- the rows of an entry
 abbrev calls : (size : ℕ) → Device → (n m : ℕ) → List (Bool × Row)

@@ -27,7 +27,6 @@ use Rattle.device_receiving.specs.declared.checks.ContentVerdict.{ContentVerdic
 use Rattle.device_receiving.specs.declared.checks.ContentVerdict.the-variants.{Refuse, Take}
 use Rattle.device_receiving.proofs.checks.Laws.{ContentSays, content-says}
 use Rattle.device.specs.declared.record.Device.{Device}
-use Rattle.device.specs.Record.{sessionOf}
 use Rattle.device.specs.Refusals.{Outcome, servedWith, refusalOf, readySent}
 use Rattle.device.specs.Offer.{onKind, offerEntry}
 use Rattle.device.specs.Content.{sessionComponent, contentVerdict, received, contentEntry}
@@ -36,25 +35,25 @@ use Rattle.device.proofs.Answers.{served-row, content-served}
 
 -- just its reply is sent
 abbrev One : Device → Effect → Type 0
-One d e = servedWith d (d .components) e .sent ≡ e .reply ∷ []
+One d e = servedWith d (d .components) e .sent ≡ e .replies .reply ∷ []
 
 module _ (d : Device) where
   -- what a notify on ready comes to
   abbrev notified : (token : ℕ) → Bool → Owed → Outcome
-  notified token b o = servedWith d (d .components) (onNotify (sessionOf d) token b o)
+  notified token b o = servedWith d (d .components) (onNotify (d .session) token b o)
 
-  notify-sends : (token : ℕ) (b : Bool) (o : Owed) → notified token b o .sent ≡ cond (b && not (owes o)) [] (notified token b o .reply ∷ [])
+  notify-sends : (token : ℕ) (b : Bool) (o : Owed) → notified token b o .sent ≡ cond (b && not (owes o)) [] (notified token b o .replies .reply ∷ [])
   notify-sends token false o = refl
   notify-sends token true owed.Nothing = refl
   notify-sends token true (owed.Token t) = refl
 
-  kind-sends : (x : Kind) → onKind d x .sent ≡ cond (awaits d x) [] (onKind d x .reply ∷ [])
+  kind-sends : (x : Kind) → onKind d x .sent ≡ cond (awaits d x) [] (onKind d x .replies .reply ∷ [])
   unfolding onOffer onInformation onExtended
   kind-sends (offer o) = refl
   kind-sends (information s) = either (One d) (eqb (s .code) INFO-START-ENTIRE-TRANSACTION) _ _ refl (either (One d) (leb (s .code) INFO-END-OFFER-LIST) _ _ refl refl)
   kind-sends (extended s) = go (eqb (s .code) NOTIFY-ON-READY) refl where
-    go : (b : Bool) → eqb (s .code) NOTIFY-ON-READY ≡ b → onKind d (extended s) .sent ≡ cond (awaits d (extended s)) [] (onKind d (extended s) .reply ∷ [])
-    go true e = rw e (notify-sends (s .token) (isOpen (d .stage)) (d .owed))
+    go : (b : Bool) → eqb (s .code) NOTIFY-ON-READY ≡ b → onKind d (extended s) .sent ≡ cond (awaits d (extended s)) [] (onKind d (extended s) .replies .reply ∷ [])
+    go true e = rw e (notify-sends (s .token) (isOpen (d .session .stage)) (d .session .owed))
     go false e = rw e
 
 pub offer-replies : OfferReplies
@@ -74,19 +73,19 @@ is-open (Receiving r) k e = refl
 
 -- what is sent after a record became another
 abbrev Sends : Device → Outcome → Type 0
-Sends d a = a .sent ≡ a .reply ∷ readySent (cond (becomesIdle d (a .device)) (d .owed) owed.Nothing)
+Sends d a = a .sent ≡ a .replies .reply ∷ readySent (cond (becomesIdle d (a .device)) (d .session .owed) owed.Nothing)
 
 module _ (d : Device) (c : ContentHead) (bytes s : List ℕ) where
-  verdict-sends : (v : ContentVerdict) → ContentSays (sessionComponent d .region) (d .stage) c v → Sends d (received d (onVerdict (sessionComponent d) (sessionOf d) c bytes s v))
+  verdict-sends : (v : ContentVerdict) → ContentSays (sessionComponent d .fixed .region) (d .session .stage) c v → Sends d (received d (onVerdict (sessionComponent d) (d .session) c bytes s v))
   unfolding onBlock
-  verdict-sends (Refuse status) h = rw (stays-open (isOpen (d .stage)))
+  verdict-sends (Refuse status) h = rw (stays-open (isOpen (d .session .stage)))
   verdict-sends (Take k) h = go (isLast c) refl where
-    go : (b : Bool) → isLast c ≡ b → Sends d (received d (onBlock (sessionComponent d) (sessionOf d) k c (takeBlock (sessionComponent d .region) c bytes s)))
-    go true e = rw (e, is-open (d .stage) k (h .0))
-    go false e = rw (e, is-open (d .stage) k (h .0))
+    go : (b : Bool) → isLast c ≡ b → Sends d (received d (onBlock (sessionComponent d) (d .session) k c (takeBlock (sessionComponent d .fixed .region) c bytes s)))
+    go true e = rw (e, is-open (d .session .stage) k (h .0))
+    go false e = rw (e, is-open (d .session .stage) k (h .0))
 
 pub content-replies : ContentReplies
 unfolding contentEntry
 content-replies d staging report e =
     let v = contentVerdict d (headIn report) in
-    rw (content-served d staging report e) (verdict-sends d (headIn report) (drop 8 report) staging v (content-says (sessionComponent d .region) (d .stage) (headIn report)))
+    rw (content-served d staging report e) (verdict-sends d (headIn report) (drop 8 report) staging v (content-says (sessionComponent d .fixed .region) (d .session .stage) (headIn report)))

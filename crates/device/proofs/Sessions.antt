@@ -3,13 +3,11 @@ use mathlib.Core.Path.{_≡_, refl, sym, ap, subst, _∙_}
 use mathlib.Core.Bool.{true, true≢false}
 use mathlib.Core.Logic.{_⊎_, inl, inr}
 use mathlib.Core.List.{List}
-use Prim.Native.Nat.{ℕ, _+_, _≤_, _<_}
+use Prim.Native.Nat.{ℕ, _<_}
 use native.Mathlib.Omega.{arith}
-use lib.ListN.{length, getD}
-use lib.Seq.{ext-getD}
+use lib.ListN.{length}
 use Rattle.image.specs.Region.{regionBytes}
-use Rattle.image.specs.declared.region.Region.{Region}
-use Rattle.image.proofs.region.Within.{Apart, inside, region-length, region-byte}
+use Rattle.image.proofs.region.Within.{inside, kept-apart}
 use Rattle.device_component.specs.Record.{isPending}
 use Rattle.device_component.specs.declared.list.Found.the-variants as found
 use Rattle.device_component.proofs.setup.Laws.{fine-apart}
@@ -29,8 +27,8 @@ use Rattle.device.proofs.Passes.{serves}
 use Rattle.device.proofs.Staging.{changes}
 
 -- of the six moves only one opens a session
-move-opens : {d d′ : Device} {channel : Channel} {staging report : List ℕ} (k : ℕ) → Move d channel staging report d′ → openSlot (d′ .stage) ≡ found.At k
-    → (openSlot (d .stage) ≡ found.At k) ⊎ Accepts d channel staging report k
+move-opens : {d d′ : Device} {channel : Channel} {staging report : List ℕ} (k : ℕ) → Move d channel staging report d′ → openSlot (d′ .session .stage) ≡ found.At k
+    → (openSlot (d .session .stage) ≡ found.At k) ⊎ Accepts d channel staging report k
 move-opens k stays e = inl e
 move-opens k idles e = let z : _≡_ {A = ℕ} 0 1 = cc in absurd (omega arith)
 move-opens {d} {channel = channel} {staging = staging} {report = report} k (opens j a q) e =
@@ -42,30 +40,17 @@ move-opens k (stages j h v w f) e = let z : _≡_ {A = ℕ} 0 1 = cc in absurd (
 pub opens-by-accept : OpensByAccept
 opens-by-accept d channel staging report k e = move-opens k (serve-moves d staging report channel) e
 
--- where every byte outside one region stays, so do the bytes of a region that does not overlap it
-kept-apart : (r r′ : Region) (s s′ : List ℕ) → length s′ ≡ length s → ((j : ℕ) → (j < r .base .0) ⊎ (r .base .0 + r .len ≤ j) → getD s′ j 0 ≡ getD s j 0)
-    → r′ .base .0 + r′ .len ≤ length s → Apart r r′ → regionBytes r′ s′ ≡ regionBytes r′ s
-kept-apart r r′ s s′ l h i a =
-    let n = region-length r′ s′ (omega arith) in
-    ext-getD 0 _ _ (n ∙ sym (region-length r′ s i))
-    (λ j q. let q′ : j < r′ .len = omega arith in
-    region-byte r′ s′ j q′ ∙ h (r′ .base .0 + j) (out j q′ a) ∙ sym (region-byte r′ s j q′))
-  where
-    out : (j : ℕ) → j < r′ .len → Apart r r′ → (r′ .base .0 + j < r .base .0) ⊎ (r .base .0 + r .len ≤ r′ .base .0 + j)
-    out j q (inl z) = inr (omega arith)
-    out j q (inr z) = inl (omega arith)
-
 module _ (d : Device) (staging report : List ℕ) (k : ℕ) (f : FitsDevice d) (m : k < d .count) (p : isPending (component d k .staged) ≡ true) where
   -- a block of the session is for another component, whose region does not overlap
   block-keeps : length (contentStaging d staging report) ≡ length staging → TakesBlock d staging report
-      → regionBytes (component d k .region) (contentStaging d staging report) ≡ regionBytes (component d k .region) staging
+      → regionBytes (component d k .fixed .region) (contentStaging d staging report) ≡ regionBytes (component d k .fixed .region) staging
   block-keeps l t =
       let v = serves 60 d (length staging) (length report) (content-served d staging report (t .row)) in
       let w = v .record-passes in
       let o = open-slot (t .slot) w (t .opened) in
       let other : t .slot ≡ k → ⊥ = λ e. true≢false (sym p ∙ ap (λ (i : ℕ). isPending (component d i .staged)) (sym e) ∙ o .1) in
-      kept-apart (window d (t .slot)) (component d k .region) staging (contentStaging d staging report) l (t .beside)
-      (inside (component d k .region) (length staging) (rw (v .staging) (region-inside k w (f .slots) m)))
+      kept-apart (window d (t .slot)) (component d k .fixed .region) staging (contentStaging d staging report) l (t .beside)
+      (inside (component d k .fixed .region) (length staging) (rw (v .staging) (region-inside k w (f .slots) m)))
       (fine-apart (d .«staging_len») (d .count) (d .components) (fine _ (w .setup)) (f .slots) (t .slot) k (o .0) m other)
 
 pub pending-kept : PendingKept
@@ -73,6 +58,6 @@ unfolding serveStaging
 pending-kept d Offer staging report k f m p = refl
 pending-kept d Content staging report k f m p = go (changes d staging report f .1) where
   go : (contentStaging d staging report ≡ staging) ⊎ TakesBlock d staging report
-      → regionBytes (component d k .region) (contentStaging d staging report) ≡ regionBytes (component d k .region) staging
+      → regionBytes (component d k .fixed .region) (contentStaging d staging report) ≡ regionBytes (component d k .fixed .region) staging
   go (inl e) = rw e
   go (inr t) = block-keeps d staging report k f m p (changes d staging report f .0) t

@@ -160,7 +160,7 @@ changes d staging report f = go (refusalOf 60 d (length staging) (length report)
   c : ContentHead
   c = headIn report
 
-  by-verdict : (v : ContentVerdict) → contentVerdict d c ≡ v → ContentSays (sessionComponent d .region) (d .stage) c v → refusalOf 60 d (length staging) (length report) ≡ served → ByBlock d staging report
+  by-verdict : (v : ContentVerdict) → contentVerdict d c ≡ v → ContentSays (sessionComponent d .fixed .region) (d .session .stage) c v → refusalOf 60 d (length staging) (length report) ≡ served → ByBlock d staging report
   by-verdict (Refuse s) e says r = (rw (r, e), inl (rw (r, e)))
   by-verdict (Take k) e says r =
       let v = serves 60 d (length staging) (length report) r in
@@ -180,7 +180,7 @@ changes d staging report f = go (refusalOf 60 d (length staging) (length report)
       )
 
   go : (row : Row) → refusalOf 60 d (length staging) (length report) ≡ row → ByBlock d staging report
-  go served r = by-verdict (contentVerdict d c) refl (content-says (sessionComponent d .region) (d .stage) c) r
+  go served r = by-verdict (contentVerdict d c) refl (content-says (sessionComponent d .fixed .region) (d .session .stage) c) r
   go (D k) r = (rw r, inl (rw r))
 
 pub staging-changes : StagingChanges

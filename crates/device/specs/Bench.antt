@@ -1,15 +1,16 @@
 -- The bench examples E1 to E10 (document 01, "Bench examples"), rows of one table under one claim: what is sent, and the session and the staging
 -- buffer afterwards.
-use Prim.Native.Nat.{ℕ}
+use Prim.Native.Nat.{ℕ, _-_}
 use mathlib.Core.Path.{_≡_}
 use mathlib.Core.List.{List, [], _∷_, _++_}
 use lib.ListN.{replicate}
+use Rattle.wire.specs.Codes.{COMPONENT-LIMIT}
 use Rattle.device_component.specs.Record.{blankComponent}
 use Rattle.device_component.specs.declared.record.Staged.the-variants as staged
 use Rattle.device.specs.declared.record.Device.{Device}
+use Rattle.device_session.specs.Effect.{idle, inStage}
 use Rattle.device_session.specs.declared.stage.Stage.{Stage}
 use Rattle.device_session.specs.declared.stage.Stage.the-variants.{Idle, Offered, Receiving}
-use Rattle.device_session.specs.declared.owed.Owed.the-variants as owed
 use Rattle.device.specs.declared.answer.Channel.{Channel}
 use Rattle.device.specs.declared.answer.Channel.the-variants.{Offer, Content}
 use Rattle.device.specs.Entries.{versionEntry, serveEntry, serveStaging}
@@ -21,11 +22,10 @@ bench stage = record {
   «staging_len» = 128;
   count = 2;
   components =
-      record { id = 1; running = record { 0 = 0x01000200 }; region = record { base = record { 0 = 0 }; len = 64 }; staged = staged.Nothing }
-      ∷ record { id = 2; running = record { 0 = 0x01000100 }; region = record { base = record { 0 = 64 }; len = 64 }; staged = staged.Nothing }
-      ∷ replicate 5 blankComponent;
-  stage = stage;
-  owed = owed.Nothing;
+      record { fixed = record { id = 1; region = record { base = record { 0 = 0 }; len = 64 } }; running = record { 0 = 0x01000200 }; staged = staged.Nothing }
+      ∷ record { fixed = record { id = 2; region = record { base = record { 0 = 64 }; len = 64 } }; running = record { 0 = 0x01000100 }; staged = staged.Nothing }
+      ∷ replicate (COMPONENT-LIMIT - 2) blankComponent;
+  session = inStage idle stage;
 }
 
 -- offered for component 1, with token 0xA5
@@ -42,8 +42,8 @@ sent d versions = versionEntry d .packet ∷ []
 sent d (packet channel p) = serveEntry d channel (replicate 128 0) p .sent
 
 abbrev pub leaves : Device → Asked → Stage
-leaves d versions = d .stage
-leaves d (packet channel p) = serveEntry d channel (replicate 128 0) p .device .stage
+leaves d versions = d .session .stage
+leaves d (packet channel p) = serveEntry d channel (replicate 128 0) p .device .session .stage
 
 -- the staging buffer, zero before
 abbrev pub untouched : List ℕ

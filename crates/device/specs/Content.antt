@@ -12,24 +12,24 @@ use Rattle.device_receiving.specs.Receive.{onContent, stagingAfter}
 use Rattle.device_receiving.specs.declared.checks.ContentVerdict.{ContentVerdict}
 use Rattle.device_receiving.specs.declared.content.Taken.{Taken}
 use Rattle.device.specs.declared.record.Device.{Device}
-use Rattle.device.specs.Record.{component, sessionOf}
+use Rattle.device.specs.Record.{component}
 use Rattle.device.specs.Refusals.{Row, served, D, Outcome, refusalOf, unlessRefused, servedWith}
 
 -- the bytes of the staging buffer that a session on this slot may write
 abbrev pub window : Device → ℕ → Region
-window d slot = component d slot .region
+window d slot = component d slot .fixed .region
 
 -- the component that the session is on; the first slot's while it is idle
 abbrev pub sessionComponent : Device → Component
-sessionComponent d = component d (atSlot (d .stage))
+sessionComponent d = component d (atSlot (d .session .stage))
 
 -- checks 1 to 6: the first that applies
 abbrev pub contentVerdict : Device → ContentHead → ContentVerdict
-contentVerdict d c = receiving.contentVerdict (sessionComponent d .region) (d .stage) c
+contentVerdict d c = receiving.contentVerdict (sessionComponent d .fixed .region) (d .session .stage) c
 
 -- what a content packet does to the record
 abbrev pub received : Device → Taken → Outcome
-received d t = servedWith d (set (d .components) (atSlot (d .stage)) (t .component)) (t .effect)
+received d t = servedWith d (set (d .components) (atSlot (d .session .stage)) (t .component)) (t .effect)
 
 abbrev pub stagingUnless : Row → (s after : List ℕ) → List ℕ
 stagingUnless served s after = after
@@ -39,10 +39,10 @@ stagingUnless (D k) s after = s
 unfoldable pub contentEntry : Device → (staging report : List ℕ) → Outcome
 contentEntry d staging report =
     unlessRefused (refusalOf 60 d (length staging) (length report)) d
-    (received d (onContent (sessionComponent d) (sessionOf d) (headIn report) (drop 8 report) staging))
+    (received d (onContent (sessionComponent d) (d .session) (headIn report) (drop 8 report) staging))
 
 -- the content entry: every byte of the staging buffer afterwards
 unfoldable pub contentStaging : Device → (staging report : List ℕ) → List ℕ
 contentStaging d staging report =
     stagingUnless (refusalOf 60 d (length staging) (length report)) staging
-    (stagingAfter (sessionComponent d .region) (d .stage) (headIn report) (drop 8 report) staging)
+    (stagingAfter (sessionComponent d .fixed .region) (d .session .stage) (headIn report) (drop 8 report) staging)

@@ -4,13 +4,12 @@ use mathlib.Core.Bool.{cond}
 use mathlib.Core.List.{List, map}
 use lib.ListN.{length, replicate}
 use Rattle.wire.specs.Codes.{PROTOCOL}
-use Rattle.wire_version.specs.Reply.{replyBytes}
+use Rattle.wire_version.specs.Reply.{REPLY-SIZE, replyBytes}
 use Rattle.device_component.specs.Record.{listed}
 use Rattle.device_component.specs.Setup as setup
 use Rattle.device_component.specs.declared.record.Listed.{Listed}
 use Rattle.device_slots.specs.Slots.{resetComponents, runningOf}
-use Rattle.device_session.specs.declared.stage.Stage.the-variants.{Idle}
-use Rattle.device_session.specs.declared.owed.Owed.the-variants.{Nothing}
+use Rattle.device_session.specs.Effect.{idle}
 use Rattle.device.specs.declared.record.Device.{Device}
 use Rattle.device.specs.declared.answer.SetupAnswer.{SetupAnswer}
 use Rattle.device.specs.declared.answer.VersionAnswer.{VersionAnswer}
@@ -37,8 +36,7 @@ newDevice platform list count n = record {
   «staging_len» = n;
   count = count;
   components = map listed list;
-  stage = Idle;
-  owed = Nothing;
+  session = idle;
 }
 
 abbrev pub setUpBy : setup.Row → Device → SetUp
@@ -61,7 +59,7 @@ toldVersions a = record { row = rowOf (a .refusal); packet = a .packet }
 -- D1 with a zeroed reply, or the reply
 unfoldable pub versionEntry : Device → Versions
 versionEntry d =
-    cond (breaksD1 d) (record { row = D 1; packet = replicate 60 0 })
+    cond (breaksD1 d) (record { row = D 1; packet = replicate REPLY-SIZE 0 })
     (record { row = served; packet = replyBytes (d .count) PROTOCOL (map (runningOf (d .platform)) (d .components)) })
 
 -- what the reset's entry answers

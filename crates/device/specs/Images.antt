@@ -21,5 +21,5 @@ abbrev pub StagesOwnImage : Type 0
 StagesOwnImage = (d : Device) (channel : Channel) (staging report : List ℕ) (k : ℕ) (v : Version)
     → component (serveEntry d channel staging report .device) k .staged ≡ Pending v
     → (component d k .staged ≡ Pending v)
-    ⊎ ((imageIn (regionBytes (component d k .region) (serveStaging d channel staging report)) (component d k .id) ≡ Bears v)
+    ⊎ ((imageIn (regionBytes (component d k .fixed .region) (serveStaging d channel staging report)) (component d k .fixed .id) ≡ Bears v)
     × (imageVersionFits (component d k) v ≡ true))

@@ -9,7 +9,6 @@ use Rattle.device_offering.specs.Offer as offering
 use Rattle.device_offering.specs.Packet as packet
 use Rattle.device_offering.specs.declared.verdict.OfferVerdict.{OfferVerdict}
 use Rattle.device.specs.declared.record.Device.{Device}
-use Rattle.device.specs.Record.{sessionOf}
 use Rattle.device.specs.Refusals.{Outcome, refusalOf, unlessRefused, servedWith}
 
 -- checks 2 to 7, each with its answer, and check 8
@@ -21,7 +20,7 @@ needUnmet d o = offering.needUnmet (d .count) (d .components) o
 
 -- a packet by its kind; none changes a component
 abbrev pub onKind : Device → Kind → Outcome
-onKind d kind = servedWith d (d .components) (packet.onKind (d .platform) (d .count) (d .components) (sessionOf d) kind)
+onKind d kind = servedWith d (d .components) (packet.onKind (d .platform) (d .count) (d .components) (d .session) kind)
 
 -- the offer entry, for a staging buffer of n bytes
 unfoldable pub offerEntry : Device → (n : ℕ) → (report : List ℕ) → Outcome

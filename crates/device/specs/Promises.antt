@@ -6,7 +6,8 @@ use mathlib.Core.Bool.{Bool, true, false, not, cond, _&&_}
 use mathlib.Core.List.{List, [], _∷_, map}
 use lib.Dec.{eqb}
 use lib.ListN.{length, getD, replicate}
-use Rattle.wire.specs.Codes.{NOTIFY-ON-READY}
+use Rattle.wire.specs.Codes.{NOTIFY-ON-READY, COMPONENT-LIMIT}
+use Rattle.wire_version.specs.Reply.{REPLY-SIZE}
 use Rattle.wire_offer.specs.Kind.{Kind, offer, information, extended, kindIn}
 use Rattle.wire_content.specs.Content.{fieldsIn}
 use Rattle.wire_content.specs.Head.{headIn}
@@ -31,7 +32,7 @@ use Rattle.device.specs.Entries.{setUpOf, versionEntry, resetEntry, serv
 
 -- D1 is kept: what set-up makes passes D1, and so does what every entry leaves of a record that passes
 abbrev pub SetUpPasses : Type 0
-SetUpPasses = (platform : ℕ) (list : List Listed) (count n : ℕ) → length list ≡ 7 → setUpOf platform list count n .row ≡ setup.served
+SetUpPasses = (platform : ℕ) (list : List Listed) (count n : ℕ) → length list ≡ COMPONENT-LIMIT → setUpOf platform list count n .row ≡ setup.served
     → breaksD1 (setUpOf platform list count n .device) ≡ false
 
 abbrev pub ServeKeepsD1 : Type 0
@@ -43,7 +44,7 @@ ResetKeepsD1 = (d : Device) → FitsDevice d → breaksD1 d ≡ false → breaks
 
 -- the values are those of the types, and stay so
 abbrev pub SetUpFits : Type 0
-SetUpFits = (platform : ℕ) (list : List Listed) (count n : ℕ) → platform < 256 ^ 2 → count < 256 → length list ≡ 7
+SetUpFits = (platform : ℕ) (list : List Listed) (count n : ℕ) → platform < 256 ^ 2 → count < 256 → length list ≡ COMPONENT-LIMIT
     → ((k : ℕ) → FitsComponent (componentAt (map listed list) k)) → FitsDevice (setUpOf platform list count n .device)
 
 abbrev pub ResetKeepsFits : Type 0
@@ -57,7 +58,7 @@ ServeKeepsFits = (d : Device) (channel : Channel) (staging report : List ℕ) �
 pub record BlankRefused : Type 0 where
   pub packets : (channel : Channel) (staging report : List ℕ) → serveEntry blankDevice channel staging report ≡ refusedBy (D 1) blankDevice
   pub staging : (channel : Channel) (staging report : List ℕ) → serveStaging blankDevice channel staging report ≡ staging
-  pub versions : versionEntry blankDevice ≡ record { row = D 1; packet = replicate 60 0 }
+  pub versions : versionEntry blankDevice ≡ record { row = D 1; packet = replicate REPLY-SIZE 0 }
   pub resets : resetEntry blankDevice ≡ record { row = D 1; device = blankDevice }
 
 -- a refused call changes no byte and no part of the record, and sends nothing
@@ -77,7 +78,7 @@ Around c j = (j < c .address .0) ⊎ (c .address .0 + c .length ≤ j)
 -- stays otherwise; nothing else changes
 pub record TakesBlock (d : Device) (staging report : List ℕ) : Type 0 where
   pub slot : ℕ
-  pub opened : openSlot (d .stage) ≡ At slot
+  pub opened : openSlot (d .session .stage) ≡ At slot
   pub row : contentEntry d staging report .row ≡ served
   pub verdict : contentVerdict d (headIn report) ≡ Take slot
   pub written : (j : ℕ) → fieldsIn report .address .0 ≤ j → j < fieldsIn report .address .0 + fieldsIn report .length
@@ -97,17 +98,17 @@ StagingChanges = (d : Device) (staging report : List ℕ) → FitsDevice d → (
 abbrev pub awaits : Device → Kind → Bool
 awaits d (offer o) = false
 awaits d (information s) = false
-awaits d (extended s) = eqb (s .code) NOTIFY-ON-READY && (isOpen (d .stage) && not (owes (d .owed)))
+awaits d (extended s) = eqb (s .code) NOTIFY-ON-READY && (isOpen (d .session .stage) && not (owes (d .session .owed)))
 
 abbrev pub OfferReplies : Type 0
 OfferReplies = (d : Device) (n : ℕ) (report : List ℕ) → offerEntry d n report .row ≡ served
-    → offerEntry d n report .sent ≡ cond (awaits d (kindIn report)) [] (offerEntry d n report .reply ∷ [])
+    → offerEntry d n report .sent ≡ cond (awaits d (kindIn report)) [] (offerEntry d n report .replies .reply ∷ [])
 
 -- the replies of a served content packet: its own, and then the owed READY exactly where the session becomes idle
 abbrev pub becomesIdle : Device → Device → Bool
-becomesIdle d d′ = isOpen (d .stage) && not (isOpen (d′ .stage))
+becomesIdle d d′ = isOpen (d .session .stage) && not (isOpen (d′ .session .stage))
 
 abbrev pub ContentReplies : Type 0
 ContentReplies = (d : Device) (staging report : List ℕ) → contentEntry d staging report .row ≡ served
     → contentEntry d staging report .sent
-    ≡ contentEntry d staging report .reply ∷ readySent (cond (becomesIdle d (contentEntry d staging report .device)) (d .owed) Nothing)
+    ≡ contentEntry d staging report .replies .reply ∷ readySent (cond (becomesIdle d (contentEntry d staging report .device)) (d .session .owed) Nothing)

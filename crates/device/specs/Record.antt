@@ -3,15 +3,12 @@ use Prim.Native.Nat.{ℕ, _^_, _<_}
 use mathlib.Core.Path.{_≡_}
 use mathlib.Core.List.{List}
 use lib.ListN.{length, replicate}
+use Rattle.wire.specs.Codes.{COMPONENT-LIMIT}
 use Rattle.device_component.specs.Record.{FitsComponent, blankComponent}
 use Rattle.device_component.specs.Lists as lists
 use Rattle.device_component.specs.declared.record.Component.{Component}
 use Rattle.device_component.specs.declared.list.Found.{Found}
-use Rattle.device_session.specs.Stage.{FitsStage}
-use Rattle.device_session.specs.Owed.{FitsOwed}
-use Rattle.device_session.specs.Effect.{idle}
-use Rattle.device_session.specs.declared.stage.Stage.the-variants.{Idle}
-use Rattle.device_session.specs.declared.owed.Owed.the-variants.{Nothing}
+use Rattle.device_session.specs.Effect.{FitsSession, idle}
 use Rattle.device_session.specs.declared.effect.Session.{Session}
 use Rattle.device.specs.declared.record.Device.{Device}
 
@@ -20,10 +17,9 @@ pub record FitsDevice (d : Device) : Type 0 where
   pub platform : d .platform < 256 ^ 2
   pub staging : d .«staging_len» < 256 ^ 4
   pub count : d .count < 256
-  pub slots : length (d .components) ≡ 7
+  pub slots : length (d .components) ≡ COMPONENT-LIMIT
   pub each : (k : ℕ) → FitsComponent (lists.componentAt (d .components) k)
-  pub stage : FitsStage (d .stage)
-  pub owed : FitsOwed (d .owed)
+  pub session : FitsSession (d .session)
 
 -- the slot of the component with this id, and the component there; slots at or past the count are never looked at
 abbrev pub find : Device → ℕ → Found
@@ -32,10 +28,6 @@ find d id = lists.find id (d .count) (d .components)
 abbrev pub component : Device → ℕ → Component
 component d slot = lists.componentAt (d .components) slot
 
--- its session
-abbrev pub sessionOf : Device → Session
-sessionOf d = record { stage = d .stage; owed = d .owed }
-
 -- the record with these components and this session
 abbrev pub withSession : Device → List Component → Session → Device
 withSession d components session = record {
@@ -43,8 +35,7 @@ withSession d components session = record {
   «staging_len» = d .«staging_len»;
   count = d .count;
   components = components;
-  stage = session .stage;
-  owed = session .owed;
+  session = session;
 }
 
 -- with these components, idle and owing nothing
@@ -60,7 +51,6 @@ blankDevice = record {
   platform = 0;
   «staging_len» = 0;
   count = 0;
-  components = replicate 7 blankComponent;
-  stage = Idle;
-  owed = Nothing;
+  components = replicate COMPONENT-LIMIT blankComponent;
+  session = idle;
 }

@@ -1,33 +1,43 @@
 -- Rows D1 to D3 (document 01, "Numbered refusals"), and what an entry answers: its row, its reply, what is sent, and the next record.
-use Prim.Native.Nat.{ℕ}
+use Prim.Native.Nat.{ℕ, zero, suc}
 use mathlib.Core.Bool.{Bool, true, false, not}
 use mathlib.Core.List.{List, [], _∷_, _++_}
 use lib.Dec.{eqb}
-use lib.ListN.{replicate}
 use Rattle.wire.specs.Checks.{firstOf}
 use Rattle.wire.specs.Codes.{OFFER-READY}
 use Rattle.wire_offer.specs.Reply.{replyBytes}
 use Rattle.device_component.specs.declared.record.Component.{Component}
+use Rattle.device_session.specs.Effect.{noReplies}
 use Rattle.device_session.specs.Sound as sound
 use Rattle.device_session.specs.declared.owed.Owed.{Owed}
 use Rattle.device_session.specs.declared.owed.Owed.the-variants as owed
+use Rattle.device_session.specs.declared.effect.Replies.{Replies}
 use Rattle.device_session.specs.declared.effect.Effect.{Effect}
 use Rattle.device.specs.declared.record.Device.{Device}
 use Rattle.device.specs.declared.answer.Refusal.{Refusal}
 use Rattle.device.specs.declared.answer.Refusal.the-variants.{Served, D1, D2, D3}
 use Rattle.device.specs.declared.answer.Answer.{Answer}
-use Rattle.device.specs.Record.{sessionOf, withSession}
+use Rattle.device.specs.Record.{withSession}
 
 -- the rows of document 01 that the device gives out
 pub data Row : Type 0 where
   served : Row
   D : ℕ → Row
 
+-- the number of a refusal's row, and 0 for none
+abbrev pub numberOf : Refusal → ℕ
+numberOf Served = 0
+numberOf D1 = 1
+numberOf D2 = 2
+numberOf D3 = 3
+
+-- the row with a number
+abbrev pub rowAt : ℕ → Row
+rowAt zero = served
+rowAt (suc k) = D (suc k)
+
 abbrev pub rowOf : Refusal → Row
-rowOf Served = served
-rowOf D1 = D 1
-rowOf D2 = D 2
-rowOf D3 = D 3
+rowOf refusal = rowAt (numberOf refusal)
 
 -- a row refuses the call
 abbrev pub isRefused : Row → Bool
@@ -36,7 +46,7 @@ isRefused (D k) = true
 
 -- D1
 abbrev pub breaksD1 : Device → Bool
-breaksD1 d = sound.breaksD1 (d .«staging_len») (d .count) (d .components) (sessionOf d)
+breaksD1 d = sound.breaksD1 (d .«staging_len») (d .count) (d .components) (d .session)
 
 -- D1, D2 and D3, in this order, for a staging buffer of n bytes, a report of m bytes, and an entry whose reports are `size` bytes long
 unfoldable pub refusalOf : (size : ℕ) → Device → (n m : ℕ) → Row
@@ -48,13 +58,11 @@ refusalOf size d n m =
     ∷ [])
     served
 
--- what an entry for packets answers: the row; whether a reply is due, its bytes (zero where none is), and the owed READY that follows it; what is
--- sent, in order; and the next record
+-- what an entry for packets answers: the row; the reply and the owed READY that follows it, where they are due; what is sent, in order; and the next
+-- record
 pub record Outcome : Type 0 where
   pub row : Row
-  pub due : Bool
-  pub reply : List ℕ
-  pub ready : Owed
+  pub replies : Replies
   pub sent : List (List ℕ)
   pub device : Device
 
@@ -71,32 +79,28 @@ dueSent true bytes = bytes ∷ []
 dueSent false bytes = []
 
 -- what is sent, in order: the reply where one is due, and the READY that was owed
-abbrev pub sentWith : Bool → List ℕ → Owed → List (List ℕ)
-sentWith due reply ready = dueSent due reply ++ readySent ready
+abbrev pub sentWith : Replies → List (List ℕ)
+sentWith replies = dueSent (replies .due) (replies .reply) ++ readySent (replies .ready)
 
 -- what an answer tells
 abbrev pub told : Answer → Outcome
 told a = record {
   row = rowOf (a .refusal);
-  due = a .due;
-  reply = a .reply;
-  ready = a .ready;
-  sent = sentWith (a .due) (a .reply) (a .ready);
+  replies = a .replies;
+  sent = sentWith (a .replies);
   device = a .device;
 }
 
 -- a refused call: its row, a zeroed reply, nothing sent, the record unchanged
 abbrev pub refusedBy : Row → Device → Outcome
-refusedBy row d = record { row = row; due = false; reply = replicate 16 0; ready = owed.Nothing; sent = []; device = d }
+refusedBy row d = record { row = row; replies = noReplies; sent = []; device = d }
 
 -- a served call: what the packet does, and the components afterwards
 abbrev pub servedWith : Device → List Component → Effect → Outcome
 servedWith d components effect = record {
   row = served;
-  due = effect .due;
-  reply = effect .reply;
-  ready = effect .ready;
-  sent = sentWith (effect .due) (effect .reply) (effect .ready);
+  replies = effect .replies;
+  sent = sentWith (effect .replies);
   device = withSession d components (effect .session);
 }
 

@@ -26,18 +26,18 @@ pub record Accepts (d : Device) (channel : Channel) (staging report : List ℕ) 
   pub entry : channel ≡ Offer
   pub kind : kindIn report ≡ offer fields
   pub component : find d (fields .id) ≡ At k
-  pub verdict : offerVerdict (d .platform) (d .count) (d .components) (d .stage) fields ≡ Accept k
+  pub verdict : offerVerdict (d .platform) (d .count) (d .components) (d .session .stage) fields ≡ Accept k
   pub reply : serveEntry d channel staging report .sent ≡ replyBytes (record { token = fields .token; reason = 0; status = OFFER-ACCEPT }) ∷ []
 
 -- a session opens only by an ACCEPT for that component: if it is open on a slot after a packet, it was so before, or the packet was accepted for the
 -- component there
 abbrev pub OpensByAccept : Type 0
 OpensByAccept = (d : Device) (channel : Channel) (staging report : List ℕ) (k : ℕ)
-    → openSlot (serveEntry d channel staging report .device .stage) ≡ At k
-    → (openSlot (d .stage) ≡ At k) ⊎ Accepts d channel staging report k
+    → openSlot (serveEntry d channel staging report .device .session .stage) ≡ At k
+    → (openSlot (d .session .stage) ≡ At k) ⊎ Accepts d channel staging report k
 
 -- while a component is pending, no packet changes a byte of its region
 abbrev pub PendingKept : Type 0
 PendingKept = (d : Device) (channel : Channel) (staging report : List ℕ) (k : ℕ) → FitsDevice d
     → k < d .count → isPending (component d k .staged) ≡ true
-    → regionBytes (component d k .region) (serveStaging d channel staging report) ≡ regionBytes (component d k .region) staging
+    → regionBytes (component d k .fixed .region) (serveStaging d channel staging report) ≡ regionBytes (component d k .fixed .region) staging

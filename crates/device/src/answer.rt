@@ -3,12 +3,14 @@ use crate::record::Device;
 use device_component::record::Component;
 use device_component::setup::SetupVerdict;
 use device_session::effect::Effect;
-use device_session::owed::Owed;
+use device_session::effect::Replies;
 use wire::codes;
+use wire::codes::COMPONENT_LIMIT;
 use wire_offer::reply::OfferReply;
 use wire_offer::reply::build_offer_reply;
+use wire_version::REPLY_SIZE;
 ghost use mathlib.Core.Path.{_≡_};
-ghost use Rattle.device.specs.Refusals.{rowOf, isRefused, readyBytes, told, refusedBy, servedWith};
+ghost use Rattle.device.specs.Refusals.{numberOf, rowOf, isRefused, readyBytes, told, refusedBy, servedWith};
 
 // Served, or the row that refuses the call.
 pub enum Refusal {
@@ -21,11 +23,7 @@ pub enum Refusal {
 // Of an offer or a content packet. Only what is due is sent: a refused call sends nothing.
 pub struct Answer {
     pub refusal: Refusal,
-    // A reply is due, and these are its bytes; they are zero where none is.
-    pub due: bool,
-    pub reply: [u8; 16],
-    // The owed READY follows the reply, with this token.
-    pub ready: Owed,
+    pub replies: Replies,
     pub device: Device,
 }
 
@@ -42,7 +40,7 @@ pub fn ready_reply(token: u8) -> [u8; 16]
 
 pub struct VersionAnswer {
     pub refusal: Refusal,
-    pub packet: [u8; 60],
+    pub packet: [u8; REPLY_SIZE],
 }
 
 pub struct ResetAnswer {
@@ -63,6 +61,18 @@ pub enum Channel {
 }
 
 impl Refusal {
+    // The number of the row that refuses, 0 for none.
+    pub fn number(self) -> u8
+        ensures { λ r. ⌜ r ≡ numberOf self ⌝ }
+    {
+        match self {
+            Refusal::Served => 0,
+            Refusal::D1 => 1,
+            Refusal::D2 => 2,
+            Refusal::D3 => 3,
+        }
+    }
+
     // A row refuses the call.
     pub fn is_refused(self) -> bool
         ensures { λ r. ⌜ r ≡ isRefused (rowOf self) ⌝ }
@@ -81,28 +91,24 @@ impl Device {
     pub(crate) fn refused(self, refusal: Refusal) -> Answer
         ensures { λ r. ⌜ told r ≡ refusedBy (rowOf refusal) self ⌝ }
     {
+        let replies = Replies::none();
         Answer {
             refusal,
-            due: false,
-            reply: [0u8; 16],
-            ready: Owed::Nothing,
+            replies,
             device: self,
         }
     }
 
     // A served call: what the packet does, and the components afterwards.
-    pub(crate) fn served(self, components: [Component; 7], effect: Effect) -> Answer
+    pub(crate) fn served(self, components: [Component; COMPONENT_LIMIT], effect: Effect) -> Answer
         ensures { λ r. ⌜ told r ≡ servedWith self components effect ⌝ }
     {
-        let reply = effect.reply;
-        let ready = effect.ready;
+        let replies = effect.replies;
         let session = effect.session;
         let device = self.with_session(components, session);
         Answer {
             refusal: Refusal::Served,
-            due: effect.due,
-            reply,
-            ready,
+            replies,
             device,
         }
     }

@@ -2,7 +2,6 @@
 use crate::answer::Answer;
 use crate::record::Device;
 use device_receiving::content;
-use device_session::effect::Session;
 use device_slots::slot::component_at;
 use device_slots::slot::slot_of;
 use device_slots::slot::with_component;
@@ -11,7 +10,6 @@ ghost use mathlib.Core.Path.{_≡_};
 ghost use lib.ListN.{length, drop};
 ghost use Rattle.wire_content.specs.Head.{headIn};
 ghost use Rattle.device_receiving.specs.Receive.{onContent, stagingAfter};
-ghost use Rattle.device.specs.Record.{sessionOf};
 ghost use Rattle.device.specs.Refusals.{told};
 ghost use Rattle.device.specs.Content.{sessionComponent, received as receivedBy, contentEntry, contentStaging};
 
@@ -19,21 +17,15 @@ impl Device {
     // A packet that no row refuses.
     fn on_content(self, report: &[u8], staging: &mut [u8]) -> Answer
         requires { ⌜ length (now report) ≡ 60 ⌝ }
-        ensures { λ r. ⌜ (told r ≡ receivedBy self (onContent (sessionComponent self) (sessionOf self) (headIn (now (report .entry))) (drop 8 (now (report .entry))) (now (staging .entry)))) × (now (staging .exit) ≡ stagingAfter (sessionComponent self .region) (self .stage) (headIn (now (report .entry))) (drop 8 (now (report .entry))) (now (staging .entry))) ⌝ }
+        ensures { λ r. ⌜ (told r ≡ receivedBy self (onContent (sessionComponent self) (self .session) (headIn (now (report .entry))) (drop 8 (now (report .entry))) (now (staging .entry)))) × (now (staging .exit) ≡ stagingAfter (sessionComponent self .fixed .region) (self .session .stage) (headIn (now (report .entry))) (drop 8 (now (report .entry))) (now (staging .entry))) ⌝ }
     {
         let components = self.components;
-        let stage = self.stage;
-        let owed = self.owed;
+        let session = self.session;
+        let stage = session.stage;
         let slot = slot_of(stage.open_slot());
         let component = component_at(components, slot);
         let head = read_head(report);
-        let taken = content::on_content(
-            component,
-            Session { stage, owed },
-            head,
-            &report[8..],
-            staging,
-        );
+        let taken = content::on_content(component, session, head, &report[8..], staging);
         let effect = taken.effect;
         let after = taken.component;
         let next = with_component(components, slot, after);

@@ -1,9 +1,8 @@
 // The device's record (document 01, "The device").
 use device_component::record::Component;
 use device_session::effect::Session;
-use device_session::owed::Owed;
-use device_session::stage::Stage;
 use device_slots::slot::blank_component;
+use wire::codes::COMPONENT_LIMIT;
 ghost use mathlib.Core.Path.{_≡_};
 ghost use Rattle.device.specs.Record.{withSession, blankDevice};
 
@@ -13,25 +12,25 @@ pub struct Device {
     pub staging_len: u32,
     // How many of the components are in use.
     pub count: u8,
-    pub components: [Component; 7],
-    pub stage: Stage,
-    pub owed: Owed,
+    pub components: [Component; COMPONENT_LIMIT],
+    pub session: Session,
 }
 
 impl Device {
     // With these components and this session.
-    pub(crate) fn with_session(self, components: [Component; 7], session: Session) -> Device
+    pub(crate) fn with_session(
+        self,
+        components: [Component; COMPONENT_LIMIT],
+        session: Session,
+    ) -> Device
         ensures { λ r. ⌜ r ≡ withSession self components session ⌝ }
     {
-        let stage = session.stage;
-        let owed = session.owed;
         Device {
             platform: self.platform,
             staging_len: self.staging_len,
             count: self.count,
             components,
-            stage,
-            owed,
+            session,
         }
     }
 
@@ -40,14 +39,14 @@ impl Device {
         ensures { λ r. ⌜ r ≡ blankDevice ⌝ }
     {
         let component = blank_component();
-        let components = [component; 7];
+        let components = [component; COMPONENT_LIMIT];
+        let session = Session::idle();
         Device {
             platform: 0,
             staging_len: 0,
             count: 0,
             components,
-            stage: Stage::Idle,
-            owed: Owed::Nothing,
+            session,
         }
     }
 }

@@ -1,7 +1,6 @@
 // Rows D1 to D3 (document 01, "Numbered refusals"): what every entry judges first.
 use crate::answer::Refusal;
 use crate::record::Device;
-use device_session::effect::Session;
 use device_session::sound;
 ghost use mathlib.Core.Path.{_≡_};
 ghost use Rattle.device.specs.Refusals.{rowOf, breaksD1, refusalOf};
@@ -12,14 +11,8 @@ impl Device {
         ensures { λ r. ⌜ r ≡ breaksD1 self ⌝ }
     {
         let components = self.components;
-        let stage = self.stage;
-        let owed = self.owed;
-        sound::breaks_d1(
-            self.staging_len as usize,
-            self.count,
-            components,
-            Session { stage, owed },
-        )
+        let session = self.session;
+        sound::breaks_d1(self.staging_len as usize, self.count, components, session)
     }
 
     // D1, D2 and D3, in this order, for a staging buffer of n bytes, a report of m bytes, and reports that are `size` bytes long.

@@ -4,6 +4,7 @@ use crate::answer::VersionAnswer;
 use crate::record::Device;
 use device_slots::all::all_running;
 use wire::codes::PROTOCOL;
+use wire_version::REPLY_SIZE;
 use wire_version::VersionReply;
 use wire_version::build_version_reply;
 ghost use mathlib.Core.Path.{_≡_};
@@ -17,7 +18,7 @@ impl Device {
         if self.breaks_d1() {
             return VersionAnswer {
                 refusal: Refusal::D1,
-                packet: [0u8; 60],
+                packet: [0u8; REPLY_SIZE],
             };
         }
         let components = self.components;

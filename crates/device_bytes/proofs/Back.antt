@@ -1,22 +1,22 @@
--- Every record is bytes of the one length and reads back; bytes that are no record's are read as a record that D1 refuses. Assumes nothing.
+-- Every record is bytes of the one length and reads back; bytes of another length, or with a flag that no record has, are read as a record that D1
+-- refuses. Assumes nothing.
 use mathlib.Core.Path.{_≡_, refl, sym, ap, ap₂, _∙_}
 use mathlib.Core.Bool.{Bool, true, false, cond}
 use mathlib.Core.List.{List, [], _∷_, _++_}
 use Prim.Native.Nat.{ℕ, zero, suc, _+_, _/_, _%_, _^_, _<_}
 use native.Mathlib.Omega.{arith}
-use lib.Dec.{eqb}
+use borrow.Author.Tests.{eq-eqb}
+use lib.Dec.{eqb, leb}
 use lib.ListN.{length, getD, drop}
 use lib.Seq.{drop-at}
-use Rattle.wire.specs.Bytes.{Bytes, number, bytesOf, bytesAt, same}
+use Rattle.wire.specs.Bytes.{Bytes, number, bytesOf, bytesAt}
+use Rattle.wire.specs.Codes.{COMPONENT-LIMIT}
 use Rattle.wire.specs.Checks.{firstOf}
 use Rattle.wire.specs.Version.{FitsVersion, versionAt, versionBytes}
 use Rattle.wire.specs.declared.version.Version.{Version}
 use Rattle.wire.proofs.Bounds.{cons-bytes, join-bytes, no-bytes, word-bytes, version-bytes, rest-bytes, word-fits, version-fits}
 use Rattle.wire.proofs.version.Laws.{parts}
 use Rattle.wire.proofs.words.Laws.{round}
-use Rattle.wire.proofs.words.Sames.{same-refl, same-eq}
-use Rattle.image.specs.Region.{FitsRegion}
-use Rattle.image.specs.declared.region.Region.{Region}
 use Rattle.device_component.specs.Record.{FitsStaged, FitsComponent}
 use Rattle.device_component.specs.Lists.{componentAt}
 use Rattle.device_component.specs.Setup.{setupVerdict}
@@ -25,7 +25,8 @@ use Rattle.device_component.specs.declared.record.Staged.{Staged}
 use Rattle.device_component.specs.declared.record.Staged.the-variants as staged
 use Rattle.device_session.specs.Stage.{FitsStage}
 use Rattle.device_session.specs.Owed.{FitsOwed}
-use Rattle.device.specs.Record.{FitsDevice, blankDevice}
+use Rattle.device_session.specs.Effect.{FitsSession}
+use Rattle.device.specs.Record.{FitsDevice, withSession, blankDevice}
 use Rattle.device.specs.Refusals.{breaksD1}
 use Rattle.device_session.specs.Sound as sound
 use Rattle.device.specs.declared.record.Device.{Device}
@@ -33,10 +34,11 @@ use Rattle.device_session.specs.declared.stage.Stage.{Stage}
 use Rattle.device_session.specs.declared.stage.Stage.the-variants.{Idle, Offered, Receiving}
 use Rattle.device_session.specs.declared.owed.Owed.{Owed}
 use Rattle.device_session.specs.declared.owed.Owed.the-variants.{Nothing, Token}
-use Rattle.device_bytes.specs.Layout.{COMPONENT-SIZE, COMPONENTS-START, stageBytes, owedBytes, stagedBytes, regionBytes, componentBytes, componentsBytes, deviceBytes, componentIn, componentsIn, deviceIn, readDevice}
+use Rattle.device_session.specs.declared.effect.Session.{Session}
+use Rattle.device_bytes.specs.Layout.{PLATFORM-AT, STAGING-LEN-AT, COUNT-AT, SESSION-START, STAGE-AT, OWED-AT, COMPONENTS-START, RUNNING-AT, REGION-AT, STAGED-AT, COMPONENT-SIZE, DEVICE-SIZE, stageBytes, owedBytes, sessionBytes, stagedBytes, regionBytes, componentBytes, componentsBytes, headBytes, deviceBytes, componentIn, componentsIn, sessionIn, deviceIn, stagedFit, flagsFit, isRecord, readDevice}
 use Rattle.device_bytes.specs.Promises.{DeviceSized, DeviceReadsBack, OthersBreakD1}
 use Rattle.device_bytes.proofs.component.Laws.{component-sized}
-use Rattle.device_bytes.proofs.Record.{device-length, components-seven}
+use Rattle.device_bytes.proofs.Record.{device-length, components-full}
 
 -- two bytes, and five
 two : (a b : ℕ) → a < 256 → b < 256 → Bytes (a ∷ b ∷ [])
@@ -61,11 +63,14 @@ staged-bytes (staged.Pending v) f = cons-bytes 1 (versionBytes v) (omega arith) 
 
 component-bytes : (c : Component) → FitsComponent c → Bytes (componentBytes c)
 component-bytes c f =
-    cons-bytes (c .id) (versionBytes (c .running) ++ (regionBytes (c .region) ++ stagedBytes (c .staged))) (f .id)
-    (join-bytes (versionBytes (c .running)) (regionBytes (c .region) ++ stagedBytes (c .staged)) (version-bytes (c .running) (f .running))
-    (join-bytes (regionBytes (c .region)) (stagedBytes (c .staged))
-    (join-bytes (bytesOf 4 (c .region .base .0)) (bytesOf 4 (c .region .len)) (word-bytes 4 (c .region .base .0)) (word-bytes 4 (c .region .len)))
+    let r = c .fixed .region in
+    cons-bytes (c .fixed .id) (versionBytes (c .running) ++ (regionBytes r ++ stagedBytes (c .staged))) (f .fixed .id)
+    (join-bytes (versionBytes (c .running)) (regionBytes r ++ stagedBytes (c .staged)) (version-bytes (c .running) (f .running))
+    (join-bytes (regionBytes r) (stagedBytes (c .staged)) (join-bytes (bytesOf 4 (r .base .0)) (bytesOf 4 (r .len)) (word-bytes 4 (r .base .0)) (word-bytes 4 (r .len)))
     (staged-bytes (c .staged) (f .staged))))
+
+session-bytes : (t : Session) → FitsSession t → Bytes (sessionBytes t)
+session-bytes t f = join-bytes (stageBytes (t .stage)) (owedBytes (t .owed)) (stage-bytes (t .stage) (f .stage)) (owed-bytes (t .owed) (f .owed))
 
 components-bytes : (cs : List Component) → ((k : ℕ) → FitsComponent (componentAt cs k)) → Bytes (componentsBytes cs)
 unfolding componentsBytes
@@ -78,49 +83,82 @@ unfolding deviceBytes
 device-sized d f = record {
   size = device-length d (f .slots);
   bytes =
-      let o = owedBytes (d .owed) ++ componentsBytes (d .components) in
-      let s = d .count ∷ stageBytes (d .stage) ++ o in
-      join-bytes (bytesOf 2 (d .platform)) (bytesOf 4 (d .«staging_len») ++ s) (word-bytes 2 (d .platform))
-      (join-bytes (bytesOf 4 (d .«staging_len»)) s (word-bytes 4 (d .«staging_len»))
-      (cons-bytes (d .count) (stageBytes (d .stage) ++ o) (f .count)
-      (join-bytes (stageBytes (d .stage)) o (stage-bytes (d .stage) (f .stage))
-      (join-bytes (owedBytes (d .owed)) (componentsBytes (d .components)) (owed-bytes (d .owed) (f .owed)) (components-bytes (d .components) (f .each))))));
+      join-bytes (headBytes d) (sessionBytes (d .session) ++ componentsBytes (d .components))
+      (join-bytes (bytesOf 2 (d .platform)) (bytesOf 4 (d .«staging_len») ++ (d .count ∷ [])) (word-bytes 2 (d .platform))
+      (join-bytes (bytesOf 4 (d .«staging_len»)) (d .count ∷ []) (word-bytes 4 (d .«staging_len»)) (cons-bytes (d .count) [] (f .count) no-bytes)))
+      (join-bytes (sessionBytes (d .session)) (componentsBytes (d .components))
+      (session-bytes (d .session) (f .session)) (components-bytes (d .components) (f .each)));
 }
 
 -- a component reads back, whatever follows it
-fields-back : (id : ℕ) (v : Version) (r : Region) (s : Staged) (rest : List ℕ) → FitsRegion r
-    → componentIn (componentBytes (record { id = id; running = v; region = r; staged = s }) ++ rest) ≡ record { id = id; running = v; region = r; staged = s }
-fields-back id v r staged.Nothing rest f = simp (parts v, round 4 (r .base .0) (f .base), round 4 (r .len) (f .len))
-fields-back id v r (staged.Pending w) rest f = simp (parts v, parts w, round 4 (r .base .0) (f .base), round 4 (r .len) (f .len))
+pub component-back : (c : Component) (rest : List ℕ) → FitsComponent c → componentIn (componentBytes c ++ rest) ≡ c
+component-back c rest f = go (c .staged)
+  where
+    go : (s : Staged) → let x : Component = record { fixed = c .fixed; running = c .running; staged = s } in componentIn (componentBytes x ++ rest) ≡ x
+    go staged.Nothing = simp (parts (c .running), round 4 (c .fixed .region .base .0) (f .fixed .region .base), round 4 (c .fixed .region .len) (f .fixed .region .len))
+    go (staged.Pending w) = simp (parts (c .running), parts w, round 4 (c .fixed .region .base .0) (f .fixed .region .base), round 4 (c .fixed .region .len) (f .fixed .region .len))
 
 parts-back : (cs : List Component) → ((k : ℕ) → FitsComponent (componentAt cs k)) → componentsIn (length cs) (componentsBytes cs) ≡ cs
 unfolding componentsBytes componentsIn
 parts-back [] f = refl
 parts-back (c ∷ cs) f =
-    ap₂ (λ (x : Component) (l : List Component). x ∷ l) (fields-back (c .id) (c .running) (c .region) (c .staged) (componentsBytes cs) (f 0 .region))
+    ap₂ (λ (x : Component) (l : List Component). x ∷ l) (component-back c (componentsBytes cs) (f 0))
     (ap (componentsIn (length cs)) (drop-at (componentBytes c) (componentsBytes cs) COMPONENT-SIZE (component-sized c)) ∙ parts-back cs (λ k. f (suc k)))
 
--- so does what stands before the components
-session-back : (platform staging count : ℕ) (cs : List Component) (stage : Stage) (owed : Owed) → platform < 256 ^ 2 → staging < 256 ^ 4 → FitsStage stage → componentsIn 7 (componentsBytes cs) ≡ cs
-    → deviceIn (deviceBytes (record { platform = platform; «staging_len» = staging; count = count; components = cs; stage = stage; owed = owed }))
-    ≡ record { platform = platform; «staging_len» = staging; count = count; components = cs; stage = stage; owed = owed }
-unfolding deviceBytes deviceIn
-session-back platform staging count cs Idle Nothing f g h e = simp (round 2 platform f, round 4 staging g, e)
-session-back platform staging count cs Idle (Token t) f g h e = simp (round 2 platform f, round 4 staging g, e)
-session-back platform staging count cs (Offered o) Nothing f g h e = simp (round 2 platform f, round 4 staging g, e)
-session-back platform staging count cs (Offered o) (Token t) f g h e = simp (round 2 platform f, round 4 staging g, e)
-session-back platform staging count cs (Receiving r) Nothing f g h e = simp (round 2 platform f, round 4 staging g, round 2 (r .next) (h .2), e)
-session-back platform staging count cs (Receiving r) (Token t) f g h e = simp (round 2 platform f, round 4 staging g, round 2 (r .next) (h .2), e)
+-- so does a session between what stands before it and what follows; the flags are then those of the components
+pub session-back : (p q : List ℕ) (t : Session) → FitsSession t → let w = bytesAt SESSION-START 0 p ++ (sessionBytes t ++ q) in
+    (sessionIn w ≡ t) × (flagsFit w ≡ stagedFit COMPONENT-LIMIT q) × (drop COMPONENTS-START w ≡ q)
+session-back p q t f = go (t .stage) (t .owed) (f .stage)
+  where
+    go : (s : Stage) (o : Owed) → FitsStage s → let x : Session = record { stage = s; owed = o } in let w = bytesAt SESSION-START 0 p ++ (sessionBytes x ++ q) in
+        (sessionIn w ≡ x) × (flagsFit w ≡ stagedFit COMPONENT-LIMIT q) × (drop COMPONENTS-START w ≡ q)
+    go Idle Nothing f = (refl, refl, refl)
+    go Idle (Token t) f = (refl, refl, refl)
+    go (Offered x) Nothing f = (refl, refl, refl)
+    go (Offered x) (Token t) f = (refl, refl, refl)
+    go (Receiving r) Nothing f = (simp (round 2 (r .next) (f .2)), refl, refl)
+    go (Receiving r) (Token t) f = (simp (round 2 (r .next) (f .2)), refl, refl)
+
+-- the record between the same
+pub record-back : (p q : List ℕ) (t : Session) → FitsSession t
+    → deviceIn (bytesAt SESSION-START 0 p ++ (sessionBytes t ++ q)) ≡ withSession (deviceIn p) (componentsIn COMPONENT-LIMIT q) t
+unfolding deviceIn
+record-back p q t f =
+    let b = session-back p q t f in
+    ap₂ (λ (x : Session) (r : List ℕ). withSession (deviceIn p) (componentsIn COMPONENT-LIMIT r) x) (b .0) (b .2)
+
+-- the flags of components that are written
+pub component-flag : (c : Component) (rest : List ℕ) → leb (getD (componentBytes c ++ rest) STAGED-AT 0) 1 ≡ true
+component-flag c rest = go (c .staged)
+  where
+    go : (s : Staged) → leb (getD (stagedBytes s ++ rest) 0 0) 1 ≡ true
+    go staged.Nothing = refl
+    go (staged.Pending v) = refl
+
+flags-written : (cs : List Component) → stagedFit (length cs) (componentsBytes cs) ≡ true
+unfolding componentsBytes stagedFit
+flags-written [] = refl
+flags-written (c ∷ cs) =
+    rw (component-flag c (componentsBytes cs), drop-at (componentBytes c) (componentsBytes cs) COMPONENT-SIZE (component-sized c)) (flags-written cs)
 
 device-back : (d : Device) → FitsDevice d → deviceIn (deviceBytes d) ≡ d
+unfolding deviceBytes deviceIn
 device-back d f =
-    let e : componentsIn 7 (componentsBytes (d .components)) ≡ d .components = ap (λ (n : ℕ). componentsIn n (componentsBytes (d .components))) (sym (f .slots)) ∙ parts-back (d .components) (f .each) in
-    session-back (d .platform) (d .«staging_len») (d .count) (d .components) (d .stage) (d .owed) (f .platform) (f .staging) (f .stage) e
+    let e : componentsIn COMPONENT-LIMIT (componentsBytes (d .components)) ≡ d .components = ap (λ (n : ℕ). componentsIn n (componentsBytes (d .components))) (sym (f .slots)) ∙ parts-back (d .components) (f .each) in
+    record-back (headBytes d) (componentsBytes (d .components)) (d .session) (f .session)
+    ∙ rw (round 2 (d .platform) (f .platform), round 4 (d .«staging_len») (f .staging), e)
 
 -- every record reads back
+device-flags : (d : Device) → FitsDevice d → flagsFit (deviceBytes d) ≡ true
+unfolding deviceBytes
+device-flags d f =
+    session-back (headBytes d) (componentsBytes (d .components)) (d .session) (f .session) .1
+    ∙ ap (λ (n : ℕ). stagedFit n (componentsBytes (d .components))) (sym (f .slots)) ∙ flags-written (d .components)
+
 pub device-reads-back : DeviceReadsBack
-unfolding readDevice
-device-reads-back d f = rw (device-back d f, same-refl (deviceBytes d))
+unfolding readDevice isRecord
+device-reads-back d f =
+    rw (eq-eqb (length (deviceBytes d)) DEVICE-SIZE (device-length d (f .slots)), device-flags d f) (device-back d f)
 
 -- what is read of bytes fits
 stage-fits : (x y : Bool) (slot token next : ℕ) → slot < 256 → token < 256 → next < 256 ^ 2
@@ -139,28 +177,34 @@ staged-fits false v f = tt
 
 component-fits : (q : List ℕ) → Bytes q → FitsComponent (componentIn q)
 component-fits q h = record {
-  id = h 0;
-  running = version-fits 1 q h;
-  region = record { base = word-fits 4 5 q h; len = word-fits 4 9 q h };
-  staged = staged-fits (eqb (getD q 13 0) 1) (versionAt 14 q) (version-fits 14 q h);
+  fixed = record { id = h 0; region = record { base = word-fits 4 REGION-AT q h; len = word-fits 4 (REGION-AT + 4) q h } };
+  running = version-fits RUNNING-AT q h;
+  staged = staged-fits (eqb (getD q STAGED-AT 0) 1) (versionAt (STAGED-AT + 1) q) (version-fits (STAGED-AT + 1) q h);
 }
 
 components-fit : (n : ℕ) (q : List ℕ) → Bytes q → (k : ℕ) → FitsComponent (componentAt (componentsIn n q) k)
 unfolding componentsIn
-components-fit zero q h k = record { id = omega arith; running = omega arith; region = record { base = omega arith; len = omega arith }; staged = tt }
+components-fit zero q h k = record { fixed = record { id = omega arith; region = record { base = omega arith; len = omega arith } }; running = omega arith; staged = tt }
 components-fit (suc n) q h zero = component-fits q h
 components-fit (suc n) q h (suc k) = components-fit n (drop COMPONENT-SIZE q) (rest-bytes COMPONENT-SIZE q h) k
 
-device-fits : (b : List ℕ) → Bytes b → FitsDevice (deviceIn b)
+session-fits : (b : List ℕ) → Bytes b → FitsSession (sessionIn b)
+session-fits b h = record {
+  stage =
+      stage-fits (eqb (getD b STAGE-AT 0) 1) (eqb (getD b STAGE-AT 0) 2) (getD b (STAGE-AT + 1) 0) (getD b (STAGE-AT + 2) 0) (number (bytesAt 2 (STAGE-AT + 3) b))
+      (h (STAGE-AT + 1)) (h (STAGE-AT + 2)) (word-fits 2 (STAGE-AT + 3) b h);
+  owed = owed-fits (eqb (getD b OWED-AT 0) 1) (getD b (OWED-AT + 1) 0) (h (OWED-AT + 1));
+}
+
+pub device-fits : (b : List ℕ) → Bytes b → FitsDevice (deviceIn b)
 unfolding deviceIn
 device-fits b h = record {
-  platform = word-fits 2 0 b h;
-  staging = word-fits 4 2 b h;
-  count = h 6;
-  slots = components-seven (drop COMPONENTS-START b);
-  each = components-fit 7 (drop COMPONENTS-START b) (rest-bytes COMPONENTS-START b h);
-  stage = stage-fits (eqb (getD b 7 0) 1) (eqb (getD b 7 0) 2) (getD b 8 0) (getD b 9 0) (number (bytesAt 2 10 b)) (h 8) (h 9) (word-fits 2 10 b h);
-  owed = owed-fits (eqb (getD b 12 0) 1) (getD b 13 0) (h 13);
+  platform = word-fits 2 PLATFORM-AT b h;
+  staging = word-fits 4 STAGING-LEN-AT b h;
+  count = h COUNT-AT;
+  slots = components-full (drop COMPONENTS-START b);
+  each = components-fit COMPONENT-LIMIT (drop COMPONENTS-START b) (rest-bytes COMPONENTS-START b h);
+  session = session-fits b h;
 }
 
 -- the blank record breaks D1: it has no component
@@ -168,11 +212,7 @@ pub blank-breaks : breaksD1 blankDevice ≡ true
 unfolding sound.breaksD1 setupVerdict firstOf
 blank-breaks = refl
 
--- bytes that are no record's are read as a record that D1 refuses
+-- bytes of another length, or with a flag that no record has, are read as a record that D1 refuses
 pub others-break-d1 : OthersBreakD1
 unfolding readDevice
-others-break-d1 b h other = go (same (deviceBytes (deviceIn b)) b) refl
-  where
-    go : (t : Bool) → same (deviceBytes (deviceIn b)) b ≡ t → breaksD1 (cond t (deviceIn b) blankDevice) ≡ true
-    go true e = absurd (other (deviceIn b) (device-fits b h) (same-eq (deviceBytes (deviceIn b)) b e))
-    go false e = blank-breaks
+others-break-d1 b e = rw e blank-breaks

@@ -1,2 +1,6 @@
+pub mod Flags
+pub mod Stored
 pub mod Record
+pub mod Fields
 pub mod Back
+pub mod Left

@@ -1,13 +1,13 @@
 -- What the bytes of a device's record promise.
 use Prim.Native.Nat.{ℕ}
 use mathlib.Core.Path.{_≡_}
-use mathlib.Core.Bool.{true}
+use mathlib.Core.Bool.{true, false}
 use mathlib.Core.List.{List}
-use Rattle.wire.specs.Bytes.{Bytes, Packet}
+use Rattle.wire.specs.Bytes.{Packet}
 use Rattle.device.specs.declared.record.Device.{Device}
 use Rattle.device.specs.Record.{FitsDevice}
 use Rattle.device.specs.Refusals.{breaksD1}
-use Rattle.device_bytes.specs.Layout.{DEVICE-SIZE, deviceBytes, readDevice}
+use Rattle.device_bytes.specs.Layout.{DEVICE-SIZE, deviceBytes, isRecord, readDevice}
 
 -- every record is bytes of the one length
 abbrev pub DeviceSized : Type 0
@@ -17,6 +17,6 @@ DeviceSized = (d : Device) → FitsDevice d → Packet DEVICE-SIZE (deviceBytes 
 abbrev pub DeviceReadsBack : Type 0
 DeviceReadsBack = (d : Device) → FitsDevice d → readDevice (deviceBytes d) ≡ d
 
--- bytes that are no record's are read as a record that D1 refuses
+-- bytes of another length, or with a flag that no record has, are read as a record that D1 refuses
 abbrev pub OthersBreakD1 : Type 0
-OthersBreakD1 = (b : List ℕ) → Bytes b → ((d : Device) → FitsDevice d → deviceBytes d ≡ b → ⊥) → breaksD1 (readDevice b) ≡ true
+OthersBreakD1 = (b : List ℕ) → isRecord b ≡ false → breaksD1 (readDevice b) ≡ true

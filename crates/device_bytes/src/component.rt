@@ -5,20 +5,26 @@ ghost use Prim.Native.Nat.{_+_, _≤_};
 ghost use lib.Dec.{eqb};
 ghost use lib.ListN.{length, drop};
 ghost use Rattle.device_component.specs.declared.record.Staged.the-variants.{Nothing, Pending};
+ghost use Rattle.wire.specs.Bytes.{number, bytesAt};
 ghost use Rattle.wire.specs.Version.{versionAt};
-ghost use Rattle.device_bytes.specs.Layout.{COMPONENT-SIZE, stagedBytes, componentBytes, regionIn, componentIn, componentOf};
+ghost use Rattle.device_bytes.specs.Layout.{COMPONENT-SIZE, stagedBytes, componentBytes, fixedIn, componentIn, hasSlot, componentOf, withComponentBytes};
 use crate::COMPONENT_SIZE;
 use crate::COMPONENTS_START;
 use crate::DEVICE_SIZE;
+use crate::REGION_AT;
+use crate::RUNNING_AT;
+use crate::STAGED_AT;
 use device_component::record::Component;
+use device_component::record::Fixed;
 use device_component::record::Staged;
 use device_slots::slot::blank_component;
 use image::region::Region;
 use image::region::StagingOffset;
+use wire::codes::COMPONENT_LIMIT;
 use wire::version::Version;
 use wire::words;
 
-pub fn staged_bytes(s: Staged) -> [u8; 5]
+fn staged_bytes(s: Staged) -> [u8; 5]
     ensures { λ r. ⌜ r ≡ stagedBytes s ⌝ }
 {
     match s {
@@ -30,17 +36,17 @@ pub fn staged_bytes(s: Staged) -> [u8; 5]
     }
 }
 
-pub fn component_bytes(c: Component) -> [u8; 18]
+pub(crate) fn component_bytes(c: Component) -> [u8; COMPONENT_SIZE]
     ensures { λ r. ⌜ r ≡ componentBytes c ⌝ }
 {
     let running = c.running;
     let v = running.bytes();
-    let b = words::bytes32(c.region.base.number());
-    let l = words::bytes32(c.region.len);
+    let b = words::bytes32(c.fixed.region.base.number());
+    let l = words::bytes32(c.fixed.region.len);
     let staged = c.staged;
     let s = staged_bytes(staged);
     [
-        c.id,
+        c.fixed.id,
         v[0],
         v[1],
         v[2],
@@ -61,26 +67,17 @@ pub fn component_bytes(c: Component) -> [u8; 18]
     ]
 }
 
-// The version in the four bytes from a place on.
-pub(crate) fn version_at(q: &[u8], i: u32) -> Version
-    ensures { λ r. ⌜ r ≡ versionAt i (now (q .entry)) ⌝ }
+// What is fixed of a component, from its id and its region.
+pub(crate) fn fixed_in(q: &[u8]) -> Fixed
+    ensures { λ r. ⌜ r ≡ fixedIn (now (q .entry)) ⌝ }
 {
-    let at = i as usize;
-    Version::read(
-        words::byte_at(q, at),
-        words::byte_at(q, at + 1),
-        words::byte_at(q, at + 2),
-        words::byte_at(q, at + 3),
-    )
-}
-
-// The region in the eight bytes from place 5 on.
-pub(crate) fn region_in(q: &[u8]) -> Region
-    ensures { λ r. ⌜ r ≡ regionIn 5 (now (q .entry)) ⌝ }
-{
-    Region {
-        base: StagingOffset::new(words::word32_at(q, 5)),
-        len: words::word32_at(q, 9),
+    let region = Region {
+        base: StagingOffset::new(words::word32_at(q, REGION_AT as u16)),
+        len: words::word32_at(q, (REGION_AT + 4) as u16),
+    };
+    Fixed {
+        id: words::byte_at(q, 0),
+        region,
     }
 }
 
@@ -94,30 +91,74 @@ fn staged_in(staged: u8, v: Version) -> Staged
     }
 }
 
+// The four bytes from a place on, as a number.
+fn word_from(b: &[u8], at: usize) -> u32
+    requires { ⌜ at + 4 ≤ length (now b) ⌝ }
+    ensures { λ r. ⌜ r ≡ number (bytesAt 4 at (now (b .entry))) ⌝ }
+{
+    words::word32(b[at], b[at + 1], b[at + 2], b[at + 3])
+}
+
+// .. and as a version.
+fn version_from(b: &[u8], at: usize) -> Version
+    requires { ⌜ at + 4 ≤ length (now b) ⌝ }
+    ensures { λ r. ⌜ r ≡ versionAt at (now (b .entry)) ⌝ }
+{
+    Version::read(b[at], b[at + 1], b[at + 2], b[at + 3])
+}
+
+// What is fixed of the component from a place on.
+fn fixed_from(b: &[u8], at: usize) -> Fixed
+    requires { ⌜ at + COMPONENT-SIZE ≤ length (now b) ⌝ }
+    ensures { λ r. ⌜ r ≡ fixedIn (drop at (now (b .entry))) ⌝ }
+{
+    let base = StagingOffset::new(word_from(b, at + REGION_AT));
+    let len = word_from(b, at + (REGION_AT + 4));
+    let region = Region { base, len };
+    Fixed { id: b[at], region }
+}
+
 fn component_from(b: &[u8], at: usize) -> Component
     requires { ⌜ at + COMPONENT-SIZE ≤ length (now b) ⌝ }
     ensures { λ r. ⌜ r ≡ componentIn (drop at (now (b .entry))) ⌝ }
 {
-    let running = Version::read(b[at + 1], b[at + 2], b[at + 3], b[at + 4]);
-    let base = StagingOffset::new(words::word32(b[at + 5], b[at + 6], b[at + 7], b[at + 8]));
-    let len = words::word32(b[at + 9], b[at + 10], b[at + 11], b[at + 12]);
-    let version = Version::read(b[at + 14], b[at + 15], b[at + 16], b[at + 17]);
-    let staged = staged_in(b[at + 13], version);
+    let fixed = fixed_from(b, at);
+    let running = version_from(b, at + RUNNING_AT);
+    let version = version_from(b, at + (STAGED_AT + 1));
+    let staged = staged_in(b[at + STAGED_AT], version);
     Component {
-        id: b[at],
+        fixed,
         running,
-        region: Region { base, len },
         staged,
     }
 }
 
-// The component in a slot of a record's bytes; past the seven there is none, and none in bytes of another length.
+// There is a component in this slot; past the last slot there is none, and none in bytes of another length.
+fn has_slot(b: &[u8], slot: u8) -> bool
+    ensures { λ r. ⌜ r ≡ hasSlot slot (now (b .entry)) ⌝ }
+{
+    (b.len() == DEVICE_SIZE) & ((slot as usize) < COMPONENT_LIMIT)
+}
+
+// The component in a slot of a record's bytes, unjudged.
 pub fn component_of(b: &[u8], slot: u8) -> Component
     ensures { λ r. ⌜ r ≡ componentOf slot (now (b .entry)) ⌝ }
 {
-    if (b.len() == DEVICE_SIZE) & (slot < 7) {
+    if has_slot(b, slot) {
         component_from(b, COMPONENTS_START + (slot as usize) * COMPONENT_SIZE)
     } else {
         blank_component()
+    }
+}
+
+// Another component in a slot, where there is one.
+pub fn store_component(b: &mut [u8], slot: u8, component: Component)
+    ensures { λ _. ⌜ now (b .exit) ≡ withComponentBytes slot component (now (b .entry)) ⌝ }
+{
+    if has_slot(b, slot) {
+        let p = component_bytes(component);
+        let at = COMPONENTS_START + (slot as usize) * COMPONENT_SIZE;
+        let end = at + COMPONENT_SIZE;
+        words::copy(&mut b[at..end], &p);
     }
 }

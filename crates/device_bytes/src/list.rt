@@ -2,21 +2,17 @@
 ghost use mathlib.Core.Path.{_≡_};
 ghost use lib.ListN.{drop};
 ghost use Rattle.device_bytes.specs.Layout.{listedIn};
-use crate::component::region_in;
-use crate::component::version_at;
+use crate::RUNNING_AT;
+use crate::component::fixed_in;
 use device_component::record::Listed;
-use wire::words;
+use wire::version::Version;
 
 fn listed_in(q: &[u8]) -> Listed
     ensures { λ r. ⌜ r ≡ listedIn (now (q .entry)) ⌝ }
 {
-    let running = version_at(q, 1);
-    let region = region_in(q);
-    Listed {
-        id: words::byte_at(q, 0),
-        running,
-        region,
-    }
+    let fixed = fixed_in(q);
+    let running = Version::read_at(q, RUNNING_AT as u16);
+    Listed { fixed, running }
 }
 
 // The one from a place on; past the end of the bytes all is zero.

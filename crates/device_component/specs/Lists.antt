@@ -16,7 +16,7 @@ firstFrom p k (x ∷ xs) = cond (p x) (At k) (firstFrom p (suc k) xs)
 
 -- the slot of the component with this id, among the first `count`
 unfoldable pub find : (id count : ℕ) → List Component → Found
-find id count components = firstFrom (λ c. eqb id (c .id)) 0 (take count components)
+find id count components = firstFrom (λ c. eqb id (c .fixed .id)) 0 (take count components)
 
 -- the component in a slot
 abbrev pub componentAt : List Component → ℕ → Component

@@ -5,6 +5,7 @@ use Rattle.wire.specs.Version.{FitsVersion}
 use Rattle.wire.specs.declared.version.Version.{Version}
 use Rattle.image.specs.Region.{FitsRegion}
 use Rattle.device_component.specs.declared.record.Component.{Component}
+use Rattle.device_component.specs.declared.record.Fixed.{Fixed}
 use Rattle.device_component.specs.declared.record.Listed.{Listed}
 use Rattle.device_component.specs.declared.record.Staged.{Staged}
 use Rattle.device_component.specs.declared.record.Staged.the-variants.{Nothing, Pending}
@@ -14,10 +15,13 @@ abbrev pub FitsStaged : Staged → Type 0
 FitsStaged Nothing = Unit {0}
 FitsStaged (Pending v) = FitsVersion v
 
+pub record FitsFixed (f : Fixed) : Type 0 where
+  pub id : f .id < 256
+  pub region : FitsRegion (f .region)
+
 pub record FitsComponent (c : Component) : Type 0 where
-  pub id : c .id < 256
+  pub fixed : FitsFixed (c .fixed)
   pub running : FitsVersion (c .running)
-  pub region : FitsRegion (c .region)
   pub staged : FitsStaged (c .staged)
 
 -- pending: a staged version is there
@@ -32,21 +36,20 @@ effective running (Pending v) = v
 
 -- a component as set-up lists it: nothing staged
 abbrev pub listed : Listed → Component
-listed l = record { id = l .id; running = l .running; region = l .region; staged = Nothing }
+listed l = record { fixed = l .fixed; running = l .running; staged = Nothing }
 
 -- pending with this version
 abbrev pub withStaged : Component → Version → Component
-withStaged c v = record { id = c .id; running = c .running; region = c .region; staged = Pending v }
+withStaged c v = record { fixed = c .fixed; running = c .running; staged = Pending v }
 
 -- after a reset: the effective version runs, nothing is staged
 abbrev pub afterReset : Component → Component
-afterReset c = record { id = c .id; running = effective (c .running) (c .staged); region = c .region; staged = Nothing }
+afterReset c = record { fixed = c .fixed; running = effective (c .running) (c .staged); staged = Nothing }
 
 -- stands where the list has no component; no answer depends on it
 abbrev pub blankComponent : Component
 blankComponent = record {
-  id = 0;
+  fixed = record { id = 0; region = record { base = record { 0 = 0 }; len = 0 } };
   running = record { 0 = 0 };
-  region = record { base = record { 0 = 0 }; len = 0 };
   staged = Nothing;
 }

@@ -1,4 +1,4 @@
--- The rules over the list as the code names them, so that one loop serves them all.
+-- The rules over the list as the code names them: D1's, and what S3, S4 and `find` ask, which is a value.
 use Prim.Native.Nat.{ℕ}
 use mathlib.Core.Bool.{Bool, not, _||_}
 use mathlib.Core.List.{List}
@@ -14,11 +14,11 @@ use Rattle.device_component.specs.declared.rule.Pair.the-variants as pai
 
 -- D1, of one component and a staging buffer of n bytes: S3, S4, or a staged version below running
 abbrev pub flawed : (n : ℕ) → Component → Bool
-flawed n c = badId (c .id) || (badRegion n (c .region) || not (keepsStaged c (c .staged)))
+flawed n c = badId (c .fixed .id) || (badRegion n (c .fixed .region) || not (keepsStaged c (c .staged)))
 
 -- D1, of two: the same id, or regions that overlap
 abbrev pub clash : Component → Component → Bool
-clash c c′ = eqb (c .id) (c′ .id) || overlap (c .region) (c′ .region)
+clash c c′ = eqb (c .fixed .id) (c′ .fixed .id) || overlap (c .fixed .region) (c′ .fixed .region)
 
 -- D1, of the components in use: one is flawed, or two clash
 unfoldable pub unsound : (n : ℕ) → List Component → Bool
@@ -26,15 +26,15 @@ unsound n cs = any (flawed n) cs || pairs clash cs
 
 -- a rule holds of a component
 abbrev pub ruleHolds : Rule → Component → Bool
-ruleHolds BadId c = badId (c .id)
-ruleHolds (SameId id) c = eqb id (c .id)
-ruleHolds (BadRegion n) c = badRegion n (c .region)
-ruleHolds (Overlaps r) c = overlap r (c .region)
+ruleHolds BadId c = badId (c .fixed .id)
+ruleHolds (SameId id) c = eqb id (c .fixed .id)
+ruleHolds (BadRegion n) c = badRegion n (c .fixed .region)
+ruleHolds (Overlaps r) c = overlap r (c .fixed .region)
 
 -- what a pair's rule asks of the other, where this is the one
 abbrev pub ruleOf : Pair → Component → Rule
-ruleOf pair.SameId c = SameId (c .id)
-ruleOf pair.Overlap c = Overlaps (c .region)
+ruleOf pair.SameId c = SameId (c .fixed .id)
+ruleOf pair.Overlap c = Overlaps (c .fixed .region)
 
 -- a pair's rule holds of two components
 abbrev pub pairHolds : Pair → Component → Component → Bool

@@ -1,9 +1,10 @@
 -- Rows S1 to S4 (document 01, "Numbered refusals"), tried one after another over the whole list.
 use Prim.Native.Nat.{ℕ, _+_}
-use mathlib.Core.Bool.{Bool, _||_, _&&_}
+use mathlib.Core.Bool.{Bool, cond, _||_, _&&_}
 use mathlib.Core.List.{List, [], _∷_}
 use lib.Dec.{ltb, leb, eqb}
 use lib.ListN.{take}
+use Rattle.wire.specs.Codes.{COMPONENT-LIMIT}
 use Rattle.wire.specs.Checks.{firstOf, any, pairs}
 use Rattle.image.specs.declared.region.Region.{Region}
 use Rattle.device_component.specs.declared.record.Component.{Component}
@@ -15,20 +16,28 @@ pub data Row : Type 0 where
   served : Row
   S : ℕ → Row
 
+-- a row's number, and 0 where no row refuses
+abbrev pub numberOf : SetupVerdict → ℕ
+numberOf Fine = 0
+numberOf S1 = 1
+numberOf S2 = 2
+numberOf S3 = 3
+numberOf S4 = 4
+
+-- breaks S1 to S4
+abbrev pub refusesSetup : SetupVerdict → Bool
+refusesSetup v = ltb 0 (numberOf v)
+
+-- the row with a number
+abbrev pub rowAt : ℕ → Row
+rowAt number = cond (eqb number 0) served (S number)
+
 abbrev pub rowOf : SetupVerdict → Row
-rowOf Fine = served
-rowOf S1 = S 1
-rowOf S2 = S 2
-rowOf S3 = S 3
-rowOf S4 = S 4
+rowOf v = rowAt (numberOf v)
 
 -- the largest staging buffer
 abbrev pub STAGING-LIMIT : ℕ
 STAGING-LIMIT = 65536
-
--- the most components
-abbrev pub COMPONENT-LIMIT : ℕ
-COMPONENT-LIMIT = 7
 
 -- the shortest region
 abbrev pub REGION-LEAST : ℕ
@@ -38,7 +47,7 @@ REGION-LEAST = 8
 abbrev pub stagingTooLong : ℕ → Bool
 stagingTooLong n = ltb STAGING-LIMIT n
 
--- S2: count not 1-7
+-- S2: count not from 1 to the limit
 abbrev pub badCount : ℕ → Bool
 badCount count = ltb count 1 || ltb COMPONENT-LIMIT count
 
@@ -48,7 +57,7 @@ badId id = ltb id 1 || ltb 0xDF id
 
 -- S3: .. or repeated
 unfoldable pub badIds : List Component → Bool
-badIds cs = any (λ c. badId (c .id)) cs || pairs (λ c c′. eqb (c .id) (c′ .id)) cs
+badIds cs = any (λ c. badId (c .fixed .id)) cs || pairs (λ c c′. eqb (c .fixed .id) (c′ .fixed .id)) cs
 
 -- S4: a region under 8 bytes, or past the buffer
 abbrev pub badRegion : ℕ → Region → Bool
@@ -60,7 +69,7 @@ overlap r r′ = ltb (r .base .0) (r′ .base .0 + r′ .len) && ltb (r′ .base
 
 -- S4: .. or overlapping another
 unfoldable pub badRegions : ℕ → List Component → Bool
-badRegions n cs = any (λ c. badRegion n (c .region)) cs || pairs (λ c c′. overlap (c .region) (c′ .region)) cs
+badRegions n cs = any (λ c. badRegion n (c .fixed .region)) cs || pairs (λ c c′. overlap (c .fixed .region) (c′ .fixed .region)) cs
 
 -- the rows, for a staging buffer of n bytes and the first `count` of the list
 unfoldable pub setupVerdict : (n count : ℕ) → List Component → SetupVerdict

@@ -10,18 +10,22 @@ pub enum Staged {
     Pending(Version),
 }
 
-pub struct Component {
+// What set-up fixes for good of a component.
+pub struct Fixed {
     pub id: u8,
-    pub running: Version,
     pub region: Region,
+}
+
+pub struct Component {
+    pub fixed: Fixed,
+    pub running: Version,
     pub staged: Staged,
 }
 
 // A component as set-up is told of it.
 pub struct Listed {
-    pub id: u8,
+    pub fixed: Fixed,
     pub running: Version,
-    pub region: Region,
 }
 
 impl Component {
@@ -29,12 +33,11 @@ impl Component {
     pub fn listed(l: Listed) -> Self
         ensures { λ r. ⌜ r ≡ listedAs l ⌝ }
     {
+        let fixed = l.fixed;
         let running = l.running;
-        let region = l.region;
         Component {
-            id: l.id,
+            fixed,
             running,
-            region,
             staged: Staged::Nothing,
         }
     }
@@ -43,12 +46,11 @@ impl Component {
     pub fn with_staged(self, v: Version) -> Self
         ensures { λ r. ⌜ r ≡ withStaged self v ⌝ }
     {
+        let fixed = self.fixed;
         let running = self.running;
-        let region = self.region;
         Component {
-            id: self.id,
+            fixed,
             running,
-            region,
             staged: Staged::Pending(v),
         }
     }
@@ -57,12 +59,11 @@ impl Component {
     pub fn after_reset(self) -> Self
         ensures { λ r. ⌜ r ≡ afterReset self ⌝ }
     {
+        let fixed = self.fixed;
         let running = self.effective();
-        let region = self.region;
         Component {
-            id: self.id,
+            fixed,
             running,
-            region,
             staged: Staged::Nothing,
         }
     }

@@ -1,4 +1,5 @@
-// The rules on a component: the three on its versions, and those over the list, which are values, so that one loop serves them all.
+// The rules on a component: the three on its versions, and those over the list. What S3, S4 and `find` ask is a value, which one loop serves; D1 has loops of
+// its own.
 use crate::record::Component;
 use crate::record::Staged;
 use crate::setup::REGION_LEAST;
@@ -98,26 +99,26 @@ fn overlaps(r: Region, other: Region) -> bool
 pub fn flawed(n: usize, c: Component) -> bool
     ensures { λ r. ⌜ r ≡ isFlawed n c ⌝ }
 {
-    let region = c.region;
-    bad_id(c.id) | (bad_region(n, region) | !c.keeps_staged())
+    let region = c.fixed.region;
+    bad_id(c.fixed.id) | (bad_region(n, region) | !c.keeps_staged())
 }
 
 // D1, of two: the same id, or regions that overlap.
 pub fn clash(c: Component, other: Component) -> bool
     ensures { λ r. ⌜ r ≡ clashes c other ⌝ }
 {
-    let region = c.region;
-    let next = other.region;
-    (c.id == other.id) | overlaps(region, next)
+    let region = c.fixed.region;
+    let next = other.fixed.region;
+    (c.fixed.id == other.fixed.id) | overlaps(region, next)
 }
 
 pub fn applies(rule: Rule, c: Component) -> bool
     ensures { λ r. ⌜ r ≡ ruleHolds rule c ⌝ }
 {
-    let region = c.region;
+    let region = c.fixed.region;
     match rule {
-        Rule::BadId => bad_id(c.id),
-        Rule::SameId(id) => id == c.id,
+        Rule::BadId => bad_id(c.fixed.id),
+        Rule::SameId(id) => id == c.fixed.id,
         Rule::BadRegion(n) => bad_region(n, region),
         Rule::Overlaps(r) => overlaps(r, region),
     }
@@ -127,9 +128,9 @@ pub fn applies(rule: Rule, c: Component) -> bool
 pub fn rule_of(pair: Pair, c: Component) -> Rule
     ensures { λ r. ⌜ r ≡ ruleOf pair c ⌝ }
 {
-    let region = c.region;
+    let region = c.fixed.region;
     match pair {
-        Pair::SameId => Rule::SameId(c.id),
+        Pair::SameId => Rule::SameId(c.fixed.id),
         Pair::Overlap => Rule::Overlaps(region),
     }
 }

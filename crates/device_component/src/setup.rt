@@ -4,15 +4,13 @@ use crate::list::some_two;
 use crate::record::Component;
 use crate::rule::Pair;
 use crate::rule::Rule;
+use wire::codes::COMPONENT_LIMIT;
 ghost use mathlib.Core.Path.{_≡_};
 ghost use lib.ListN.{take};
-ghost use Rattle.device_component.specs.Setup.{stagingTooLong, badCount, badIds, badRegions, setupVerdict};
+ghost use Rattle.device_component.specs.Setup.{numberOf, refusesSetup, stagingTooLong, badCount, badIds, badRegions, setupVerdict};
 
 // The largest staging buffer.
 pub const STAGING_LIMIT: u32 = 65536;
-
-// The most components.
-pub const COMPONENT_LIMIT: u8 = 7;
 
 // The shortest region.
 pub const REGION_LEAST: u32 = 8;
@@ -25,6 +23,28 @@ pub enum SetupVerdict {
     S4,
 }
 
+impl SetupVerdict {
+    // The row's number, and 0 where no row refuses.
+    pub fn number(self) -> u8
+        ensures { λ r. ⌜ r ≡ numberOf self ⌝ }
+    {
+        match self {
+            SetupVerdict::Fine => 0,
+            SetupVerdict::S1 => 1,
+            SetupVerdict::S2 => 2,
+            SetupVerdict::S3 => 3,
+            SetupVerdict::S4 => 4,
+        }
+    }
+
+    // S1 to S4 refuse it.
+    pub fn is_refused(self) -> bool
+        ensures { λ r. ⌜ r ≡ refusesSetup self ⌝ }
+    {
+        0 < self.number()
+    }
+}
+
 pub fn staging_too_long(n: usize) -> bool
     ensures { λ r. ⌜ r ≡ stagingTooLong n ⌝ }
 {
@@ -34,23 +54,23 @@ pub fn staging_too_long(n: usize) -> bool
 pub fn bad_count(count: u8) -> bool
     ensures { λ r. ⌜ r ≡ badCount count ⌝ }
 {
-    (count < 1) | (COMPONENT_LIMIT < count)
+    (count < 1) | ((COMPONENT_LIMIT as u8) < count)
 }
 
-fn bad_ids(components: [Component; 7], count: u8) -> bool
+fn bad_ids(components: [Component; COMPONENT_LIMIT], count: u8) -> bool
     ensures { λ r. ⌜ r ≡ badIds (take count components) ⌝ }
 {
     some(Rule::BadId, components, 0, count) | some_two(Pair::SameId, components, count)
 }
 
-fn bad_regions(n: usize, components: [Component; 7], count: u8) -> bool
+fn bad_regions(n: usize, components: [Component; COMPONENT_LIMIT], count: u8) -> bool
     ensures { λ r. ⌜ r ≡ badRegions n (take count components) ⌝ }
 {
     some(Rule::BadRegion(n), components, 0, count) | some_two(Pair::Overlap, components, count)
 }
 
 // S1 to S4, row after row, each over the whole list.
-pub fn setup_verdict(n: usize, count: u8, components: [Component; 7]) -> SetupVerdict
+pub fn setup_verdict(n: usize, count: u8, components: [Component; COMPONENT_LIMIT]) -> SetupVerdict
     ensures { λ r. ⌜ r ≡ setupVerdict n count components ⌝ }
 {
     if staging_too_long(n) {

@@ -1,31 +1,29 @@
 // The content entry in place (document 01, "The device").
 use crate::Reply;
 use crate::fields::component_at;
-use crate::fields::session_in;
-use crate::fields::store_component;
-use crate::fields::store_session;
 use crate::refused;
 use crate::served;
 use crate::sound::refusal_in;
+use device_bytes::component::store_component;
+use device_bytes::session::session_in;
+use device_bytes::session::store_session;
 use device_receiving::content;
 use device_slots::slot::slot_of;
 use wire_content::head::read_head;
 ghost use mathlib.Core.Path.{_≡_};
-ghost use mathlib.Core.Bool.{true};
 ghost use lib.ListN.{length, drop};
-ghost use Rattle.wire.specs.Bytes.{same};
 ghost use Rattle.wire_content.specs.Head.{headIn};
 ghost use Rattle.device_receiving.specs.Receive.{stagingAfter};
 ghost use Rattle.device.specs.Content.{sessionComponent, contentEntry, contentStaging};
-ghost use Rattle.device_bytes.specs.Layout.{DEVICE-SIZE, deviceBytes, deviceIn, readDevice};
-ghost use Rattle.device_in_place.specs.InPlace.{outcomeOf, leftBy, contentBy};
+ghost use Rattle.device_bytes.specs.Layout.{DEVICE-SIZE, deviceIn, readDevice};
+ghost use Rattle.device_in_place.specs.InPlace.{outcomeOf, contentLeaves, contentBy, contentStored};
 
 // A packet that no row refuses.
 fn on_content(bytes: &mut [u8], staging: &mut [u8], report: &[u8]) -> Reply
-    requires { ⌜ (length (now bytes) ≡ DEVICE-SIZE) × (same (deviceBytes (deviceIn (now bytes))) (now bytes) ≡ true) × (length (now report) ≡ 60) ⌝ }
+    requires { ⌜ (length (now bytes) ≡ DEVICE-SIZE) × (length (now report) ≡ 60) ⌝ }
     ensures { λ r. ⌜ (outcomeOf r (contentBy (now (bytes .entry)) (now (staging .entry)) (now (report .entry)) .device) ≡ contentBy (now (bytes .entry)) (now (staging .entry)) (now (report .entry)))
-        × (now (bytes .exit) ≡ deviceBytes (contentBy (now (bytes .entry)) (now (staging .entry)) (now (report .entry)) .device))
-        × (now (staging .exit) ≡ stagingAfter (sessionComponent (deviceIn (now (bytes .entry))) .region) (deviceIn (now (bytes .entry)) .stage) (headIn (now (report .entry))) (drop 8 (now (report .entry))) (now (staging .entry))) ⌝ }
+        × (now (bytes .exit) ≡ contentStored (now (bytes .entry)) (now (staging .entry)) (now (report .entry)))
+        × (now (staging .exit) ≡ stagingAfter (sessionComponent (deviceIn (now (bytes .entry))) .fixed .region) (deviceIn (now (bytes .entry)) .session .stage) (headIn (now (report .entry))) (drop 8 (now (report .entry))) (now (staging .entry))) ⌝ }
 {
     let session = session_in(bytes);
     let stage = session.stage;
@@ -41,10 +39,11 @@ fn on_content(bytes: &mut [u8], staging: &mut [u8], report: &[u8]) -> Reply
     served(effect)
 }
 
-// What the by-value entry answers, with the record and the staging buffer left as it leaves them; where a row refuses, the record's bytes stay.
+// What the by-value entry answers, with its session and its component left in the record, and the staging buffer as it leaves it; where a row refuses, the
+// record's bytes stay.
 pub fn content_in_place(bytes: &mut [u8], staging: &mut [u8], report: &[u8]) -> Reply
     ensures { λ r. ⌜ (outcomeOf r (contentEntry (readDevice (now (bytes .entry))) (now (staging .entry)) (now (report .entry)) .device) ≡ contentEntry (readDevice (now (bytes .entry))) (now (staging .entry)) (now (report .entry)))
-        × (now (bytes .exit) ≡ leftBy (now (bytes .entry)) (contentEntry (readDevice (now (bytes .entry))) (now (staging .entry)) (now (report .entry))))
+        × (now (bytes .exit) ≡ contentLeaves (now (bytes .entry)) (contentEntry (readDevice (now (bytes .entry))) (now (staging .entry)) (now (report .entry))))
         × (now (staging .exit) ≡ contentStaging (readDevice (now (bytes .entry))) (now (staging .entry)) (now (report .entry))) ⌝ }
 {
     let refusal = refusal_in(bytes, 60, staging.len(), report.len());

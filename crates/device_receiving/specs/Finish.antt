@@ -21,4 +21,4 @@ judge c (Bears v) =
 
 -- the only place that judges and stages
 unfoldable pub finish : Component → (s : List ℕ) → Finished
-finish c s = judge c (imageIn (regionBytes (c .region) s) (c .id))
+finish c s = judge c (imageIn (regionBytes (c .fixed .region) s) (c .fixed .id))

@@ -41,7 +41,7 @@ onBlock c session slot h s =
 -- checks 1 to 5 change nothing
 abbrev pub onVerdict : Component → Session → ContentHead → (bytes s : List ℕ) → ContentVerdict → Taken
 onVerdict c session h bytes s (Refuse status) = record { effect = blockReply (h .sequence) status owed.Nothing session; component = c }
-onVerdict c session h bytes s (Take slot) = onBlock c session slot h (takeBlock (c .region) h bytes s)
+onVerdict c session h bytes s (Take slot) = onBlock c session slot h (takeBlock (c .fixed .region) h bytes s)
 
 abbrev pub stagingBy : Region → ContentHead → (bytes s : List ℕ) → ContentVerdict → List ℕ
 stagingBy region h bytes s (Refuse status) = s
@@ -49,7 +49,7 @@ stagingBy region h bytes s (Take slot) = takeBlock region h bytes s
 
 -- a content packet, and every byte of the staging buffer afterwards
 abbrev pub onContent : Component → Session → ContentHead → (bytes s : List ℕ) → Taken
-onContent c session h bytes s = onVerdict c session h bytes s (contentVerdict (c .region) (session .stage) h)
+onContent c session h bytes s = onVerdict c session h bytes s (contentVerdict (c .fixed .region) (session .stage) h)
 
 abbrev pub stagingAfter : Region → Stage → ContentHead → (bytes s : List ℕ) → List ℕ
 stagingAfter region stage h bytes s = stagingBy region h bytes s (contentVerdict region stage h)

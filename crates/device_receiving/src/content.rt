@@ -77,10 +77,10 @@ pub fn on_content(
     staging: &mut [u8],
 ) -> Taken
     ensures { λ r. ⌜ (r ≡ onContent component session c (now («data» .entry)) (now (staging .entry)))
-        × (now (staging .exit) ≡ stagingAfter (component .region) (session .stage) c (now («data» .entry)) (now (staging .entry))) ⌝ }
+        × (now (staging .exit) ≡ stagingAfter (component .fixed .region) (session .stage) c (now («data» .entry)) (now (staging .entry))) ⌝ }
 {
     let stage = session.stage;
-    let region = component.region;
+    let region = component.fixed.region;
     let verdict = judge_content(region, stage, c);
     match verdict {
         ContentVerdict::Refuse(status) => {

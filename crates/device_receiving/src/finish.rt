@@ -22,8 +22,8 @@ fn failed(component: Component, status: u8) -> Finished
 pub(crate) fn finish(component: Component, staging: &[u8]) -> Finished
     ensures { λ r. ⌜ r ≡ finishOf component (now (staging .entry)) ⌝ }
 {
-    let region = component.region;
-    let judged = region.image(staging, component.id);
+    let region = component.fixed.region;
+    let judged = region.image(staging, component.fixed.id);
     match judged {
         Image::Damaged => failed(component, codes::ERROR_CRC),
         Image::Foreign => failed(component, codes::ERROR_VERIFY),

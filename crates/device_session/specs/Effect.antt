@@ -8,7 +8,15 @@ use Rattle.device_session.specs.declared.stage.Stage.the-variants.{Idle}
 use Rattle.device_session.specs.declared.owed.Owed.{Owed}
 use Rattle.device_session.specs.declared.owed.Owed.the-variants.{Nothing}
 use Rattle.device_session.specs.declared.effect.Session.{Session}
+use Rattle.device_session.specs.declared.effect.Replies.{Replies}
 use Rattle.device_session.specs.declared.effect.Effect.{Effect}
+use Rattle.device_session.specs.Stage.{FitsStage}
+use Rattle.device_session.specs.Owed.{FitsOwed}
+
+-- the values of the type
+pub record FitsSession (s : Session) : Type 0 where
+  pub stage : FitsStage (s .stage)
+  pub owed : FitsOwed (s .owed)
 
 -- idle and owing nothing: the one way a session becomes idle
 abbrev pub idle : Session
@@ -22,10 +30,17 @@ inStage session stage = record { stage = stage; owed = session .owed }
 abbrev pub owing : Session → Owed → Session
 owing session owed = record { stage = session .stage; owed = owed }
 
+-- nothing is sent
+abbrev pub noReplies : Replies
+noReplies = record { due = false; reply = replicate 16 0; ready = Nothing }
+
 -- one reply, and then the READY that was owed
+abbrev pub oneReply : List ℕ → Owed → Replies
+oneReply bytes ready = record { due = true; reply = bytes; ready = ready }
+
 abbrev pub answered : List ℕ → Owed → Session → Effect
-answered bytes ready session = record { due = true; reply = bytes; ready = ready; session = session }
+answered bytes ready session = record { replies = oneReply bytes ready; session = session }
 
 -- no reply now
 abbrev pub silent : Session → Effect
-silent session = record { due = false; reply = replicate 16 0; ready = Nothing; session = session }
+silent session = record { replies = noReplies; session = session }

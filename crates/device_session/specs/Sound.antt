@@ -1,6 +1,6 @@
 -- Row D1, clause by clause (document 01, "Numbered refusals").
 use Prim.Native.Nat.{ℕ}
-use mathlib.Core.Bool.{Bool, true, false, not, _||_}
+use mathlib.Core.Bool.{Bool, false, not, _||_}
 use mathlib.Core.List.{List}
 use lib.Dec.{leb}
 use lib.ListN.{take}
@@ -8,12 +8,10 @@ use Rattle.wire.specs.Checks.{any}
 use Rattle.device_component.specs.Record.{isPending}
 use Rattle.device_component.specs.Lists.{componentAt}
 use Rattle.device_component.specs.Versions.{keepsStaged}
-use Rattle.device_component.specs.Setup.{setupVerdict}
+use Rattle.device_component.specs.Setup.{refusesSetup, setupVerdict}
 use Rattle.device_component.specs.declared.record.Component.{Component}
 use Rattle.device_component.specs.declared.list.Found.{Found}
 use Rattle.device_component.specs.declared.list.Found.the-variants as found
-use Rattle.device_component.specs.declared.setup.SetupVerdict.{SetupVerdict}
-use Rattle.device_component.specs.declared.setup.SetupVerdict.the-variants.{Fine, S1, S2, S3, S4}
 use Rattle.device_slots.specs.Slots.{slotOf}
 use Rattle.device_session.specs.declared.owed.Owed.{Owed}
 use Rattle.device_session.specs.declared.effect.Session.{Session}
@@ -21,13 +19,6 @@ use Rattle.device_session.specs.Stage.{openSlot}
 use Rattle.device_session.specs.Owed.{owes}
 
 -- breaks S1 to S4
-abbrev pub refusesSetup : SetupVerdict → Bool
-refusesSetup Fine = false
-refusesSetup S1 = true
-refusesSetup S2 = true
-refusesSetup S3 = true
-refusesSetup S4 = true
-
 abbrev pub breaksSetup : (n count : ℕ) → List Component → Bool
 breaksSetup n count components = refusesSetup (setupVerdict n count components)
 

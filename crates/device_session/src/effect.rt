@@ -1,23 +1,38 @@
-// The session (document 01, "The device"), the one way it becomes idle, and what a packet does: its reply, the READY that follows, and the session
-// afterwards.
+// The session (document 01, "The device"), the one way it becomes idle, and what a packet does: what is sent after it, and the session afterwards.
 use crate::owed::Owed;
 use crate::stage::Stage;
 ghost use mathlib.Core.Path.{_≡_};
-ghost use Rattle.device_session.specs.Effect.{inStage, owing as owingOf, idle as idleSession, answered as answeredBy, silent as silentAs};
+ghost use Rattle.device_session.specs.Effect.{noReplies, inStage, owing as owingOf, idle as idleSession, answered as answeredBy, silent as silentAs};
 
 pub struct Session {
     pub stage: Stage,
     pub owed: Owed,
 }
 
-// Of a packet that no row refuses.
-pub struct Effect {
-    // A reply is due, and these are its bytes; they are zero where none is.
+// What is sent after a packet: a reply where one is due (its bytes are zero where none is), then the READY that was owed, with its token.
+pub struct Replies {
     pub due: bool,
     pub reply: [u8; 16],
-    // The owed READY follows the reply, with this token.
     pub ready: Owed,
+}
+
+// Of a packet that no row refuses.
+pub struct Effect {
+    pub replies: Replies,
     pub session: Session,
+}
+
+impl Replies {
+    // Nothing is sent.
+    pub fn none() -> Replies
+        ensures { λ r. ⌜ r ≡ noReplies ⌝ }
+    {
+        Replies {
+            due: false,
+            reply: [0u8; 16],
+            ready: Owed::Nothing,
+        }
+    }
 }
 
 impl Session {
@@ -51,10 +66,13 @@ impl Session {
     pub fn answered(self, reply: [u8; 16], ready: Owed) -> Effect
         ensures { λ r. ⌜ r ≡ answeredBy reply ready self ⌝ }
     {
-        Effect {
+        let replies = Replies {
             due: true,
             reply,
             ready,
+        };
+        Effect {
+            replies,
             session: self,
         }
     }
@@ -63,10 +81,9 @@ impl Session {
     pub fn silent(self) -> Effect
         ensures { λ r. ⌜ r ≡ silentAs self ⌝ }
     {
+        let replies = Replies::none();
         Effect {
-            due: false,
-            reply: [0u8; 16],
-            ready: Owed::Nothing,
+            replies,
             session: self,
         }
     }

@@ -4,26 +4,13 @@ use crate::owed::Owed;
 use device_component::list::Found;
 use device_component::list::some_unsound;
 use device_component::record::Component;
-use device_component::setup::SetupVerdict;
 use device_component::setup::bad_count;
 use device_component::setup::staging_too_long;
 use device_slots::slot::component_at;
 use device_slots::slot::slot_of;
+use wire::codes::COMPONENT_LIMIT;
 ghost use mathlib.Core.Path.{_≡_};
-ghost use Rattle.device_session.specs.Sound.{refusesSetup, wrongSlot, owesOn, breaksD1};
-
-// S1 to S4 refuse it.
-pub fn refuses_setup(v: SetupVerdict) -> bool
-    ensures { λ r. ⌜ r ≡ refusesSetup v ⌝ }
-{
-    match v {
-        SetupVerdict::Fine => false,
-        SetupVerdict::S1 => true,
-        SetupVerdict::S2 => true,
-        SetupVerdict::S3 => true,
-        SetupVerdict::S4 => true,
-    }
-}
+ghost use Rattle.device_session.specs.Sound.{wrongSlot, owesOn, breaksD1};
 
 // A ready-reply is owed while the session is idle.
 pub fn owes_on(at: Found, owed: Owed) -> bool
@@ -46,7 +33,12 @@ pub fn wrong_slot(count: u8, component: Component, at: Found) -> bool
 }
 
 // D1: no entry serves a device with these components, a staging buffer of n bytes and this session.
-pub fn breaks_d1(n: usize, count: u8, components: [Component; 7], session: Session) -> bool
+pub fn breaks_d1(
+    n: usize,
+    count: u8,
+    components: [Component; COMPONENT_LIMIT],
+    session: Session,
+) -> bool
     ensures { λ r. ⌜ r ≡ breaksD1 n count components session ⌝ }
 {
     let stage = session.stage;

@@ -24,4 +24,4 @@ resetComponents count components = map afterReset (take count components) ++ dro
 
 -- a component in the version reply: its running version, with the device's platform
 abbrev pub runningOf : (platform : ℕ) → Component → Running
-runningOf platform c = record { version = c .running; id = c .id; platform = platform }
+runningOf platform c = record { version = c .running; id = c .fixed .id; platform = platform }

@@ -3,20 +3,22 @@ use crate::slot::blank_component;
 use device_component::list::within_slots;
 use device_component::record::Component;
 use device_component::record::Listed;
+use wire::codes::COMPONENT_LIMIT;
 use wire_version::Running;
+use wire_version::no_component;
 ghost use mathlib.Core.Path.{_≡_};
 ghost use mathlib.Core.List.{map};
 ghost use Rattle.device_component.specs.Record.{listed};
 ghost use Rattle.device_slots.specs.Slots.{resetComponents, runningOf};
 
 // The components of a list, nothing staged.
-pub fn components_of(list: [Listed; 7]) -> [Component; 7]
+pub fn components_of(list: [Listed; COMPONENT_LIMIT]) -> [Component; COMPONENT_LIMIT]
     ensures { λ r. ⌜ r ≡ map listed list ⌝ }
 {
     let none = blank_component();
-    let mut components = [none; 7];
+    let mut components = [none; COMPONENT_LIMIT];
     let mut i: usize = 0;
-    while i < 7 {
+    while i < COMPONENT_LIMIT {
         let l = list[i];
         components[i] = Component::listed(l);
         i += 1;
@@ -25,7 +27,10 @@ pub fn components_of(list: [Listed; 7]) -> [Component; 7]
 }
 
 // The first `count` after a reset; the others stay.
-pub fn reset_components(mut components: [Component; 7], count: u8) -> [Component; 7]
+pub fn reset_components(
+    mut components: [Component; COMPONENT_LIMIT],
+    count: u8,
+) -> [Component; COMPONENT_LIMIT]
     ensures { λ r. ⌜ r ≡ resetComponents count components ⌝ }
 {
     let n = within_slots(count) as usize;
@@ -45,19 +50,21 @@ fn running(platform: u16, component: Component) -> Running
     let version = component.running;
     Running {
         version,
-        id: component.id,
+        id: component.fixed.id,
         platform,
     }
 }
 
-pub fn all_running(platform: u16, components: [Component; 7]) -> [Running; 7]
+pub fn all_running(
+    platform: u16,
+    components: [Component; COMPONENT_LIMIT],
+) -> [Running; COMPONENT_LIMIT]
     ensures { λ r. ⌜ r ≡ map (runningOf platform) components ⌝ }
 {
-    let first = components[0];
-    let one = running(platform, first);
-    let mut all = [one; 7];
+    let none = no_component();
+    let mut all = [none; COMPONENT_LIMIT];
     let mut i: usize = 0;
-    while i < 7 {
+    while i < COMPONENT_LIMIT {
         let component = components[i];
         all[i] = running(platform, component);
         i += 1;

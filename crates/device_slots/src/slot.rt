@@ -1,9 +1,11 @@
-// The component in a slot (document 01, "The device": 1 to 7 components).
+// The component in a slot (document 01, "The device").
 use device_component::list::Found;
 use device_component::record::Component;
+use device_component::record::Fixed;
 use device_component::record::Staged;
 use image::region::Region;
 use image::region::StagingOffset;
+use wire::codes::COMPONENT_LIMIT;
 use wire::version::Version;
 ghost use mathlib.Core.Path.{_≡_};
 ghost use lib.ListN.{set};
@@ -17,37 +19,41 @@ pub fn blank_component() -> Component
 {
     let running = Version::new(0, 0, 0);
     Component {
-        id: 0,
-        running,
-        region: Region {
-            base: StagingOffset::new(0),
-            len: 0,
+        fixed: Fixed {
+            id: 0,
+            region: Region {
+                base: StagingOffset::new(0),
+                len: 0,
+            },
         },
+        running,
         staged: Staged::Nothing,
     }
 }
 
-// The component in a slot; past the seven there is none.
-pub fn component_at(components: [Component; 7], slot: u8) -> Component
+// The component in a slot; past the last slot there is none.
+pub fn component_at(components: [Component; COMPONENT_LIMIT], slot: u8) -> Component
     ensures { λ r. ⌜ r ≡ componentAt components slot ⌝ }
 {
-    if slot < 7 {
-        components[slot as usize]
+    let at = slot as usize;
+    if at < COMPONENT_LIMIT {
+        components[at]
     } else {
         blank_component()
     }
 }
 
-// The components with another one in a slot; past the seven nothing changes.
+// The components with another one in a slot; past the last slot nothing changes.
 pub fn with_component(
-    mut components: [Component; 7],
+    mut components: [Component; COMPONENT_LIMIT],
     slot: u8,
     component: Component,
-) -> [Component; 7]
+) -> [Component; COMPONENT_LIMIT]
     ensures { λ r. ⌜ r ≡ set components slot component ⌝ }
 {
-    if slot < 7 {
-        components[slot as usize] = component;
+    let k = slot as usize;
+    if k < COMPONENT_LIMIT {
+        components[k] = component;
     }
     components
 }

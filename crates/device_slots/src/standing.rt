@@ -4,6 +4,7 @@ use crate::slot::slot_of;
 use device_component::list::Found;
 use device_component::list::find;
 use device_component::record::Component;
+use wire::codes::COMPONENT_LIMIT;
 ghost use mathlib.Core.Path.{_≡_};
 ghost use Rattle.device_slots.specs.Standing.{standingOf};
 
@@ -13,7 +14,7 @@ pub struct Standing {
     pub component: Component,
 }
 
-pub fn standing_of(components: [Component; 7], count: u8, id: u8) -> Standing
+pub fn standing_of(components: [Component; COMPONENT_LIMIT], count: u8, id: u8) -> Standing
     ensures { λ r. ⌜ r ≡ standingOf id count components ⌝ }
 {
     let at = find(components, count, id);

@@ -1,49 +1,137 @@
-// The inner step: over what the check answered for a bundle, and a cursor, the place of the record after the one in hand.
+// The inner step: over what the check answered for a bundle, the body in hand, and a cursor, the place of the record after the one in hand. Its packet is laid
+// into lent bytes.
 ghost use mathlib.Core.Path.{_≡_};
-ghost use Rattle.bundle.specs.Contents.{toldChecked};
-ghost use Rattle.host_packet.specs.Made.{toldInner};
-ghost use Rattle.host.specs.Inner.{innerOf};
-use bundle_layout::Checked;
-use bundle_layout::row_number;
+ghost use lib.ListN.{length};
+ghost use Rattle.bundle_layout.specs.Rows as rows;
+ghost use Rattle.host_packet.specs.Answer.{rowOf, refusedBy};
+ghost use Rattle.host_packet.specs.Made.{madeOf, toldInner};
+ghost use Rattle.host_packet.specs.Packet.{PACKET-SIZE};
+ghost use Rattle.host.specs.Inner.{innerOf, lent};
+use bundle_layout::BundleVerdict;
 use host_decide::Decided;
+use host_decide::Move;
 use host_decide::decision;
-use host_decide::entry_of;
-use host_packet::action::made;
-use host_packet::action::refused;
-use host_packet::answer::InnerAnswer;
+use host_packet::action::written;
+use host_packet::answer::Sent;
 use host_packet::answer::StepRefusal;
-use host_record::fits::body_at;
-use host_record::fits::in_hand;
+use host_packet::answer::Stepped;
+use host_packet::packet::PACKET_SIZE;
+use host_record::fits::Body;
 use host_record::record::Host;
+use wire::words;
 
-// The bundle's row, N1, or the move.
-pub fn inner_step(
-    checked: Checked,
+// A row refuses the step: the packet becomes zero, nothing is sent, and the record is unchanged.
+fn refused(packet: &mut [u8], refusal: StepRefusal, h: Host, cursor: usize) -> Stepped
+    requires { ⌜ length (now packet) ≡ PACKET-SIZE ⌝ }
+    ensures { λ r. ⌜ toldInner r (now (packet .exit)) ≡ record { step = refusedBy (rowOf refusal) h; cursor = cursor } ⌝ }
+{
+    words::fill(packet, 0);
+    Stepped {
+        refusal,
+        sent: Sent::Nothing,
+        host: h,
+        cursor,
+    }
+}
+
+// What a move sends, and the next record; N1 where the bundle lacks what is to be sent.
+fn moved(packet: &mut [u8], b: &[u8], hand: Body, cursor: usize, h: Host, m: Move) -> Stepped
+    requires { ⌜ length (now packet) ≡ PACKET-SIZE ⌝ }
+    ensures { λ r. ⌜ toldInner r (now (packet .exit)) ≡ madeOf (now (b .entry)) hand cursor h (m .host) (m .action) ⌝ }
+{
+    let next = m.host;
+    let action = m.action;
+    let w = written(packet, b, hand, cursor, action, next.token);
+    let sent = w.sent;
+    let after = w.cursor;
+    if w.served {
+        Stepped {
+            refusal: StepRefusal::Served,
+            sent,
+            host: next,
+            cursor: after,
+        }
+    } else {
+        Stepped {
+            refusal: StepRefusal::N1,
+            sent,
+            host: h,
+            cursor: after,
+        }
+    }
+}
+
+// The bundle's row, N1, or the move, in 60 bytes.
+fn inner_in(
+    packet: &mut [u8],
+    verdict: BundleVerdict,
+    place: u8,
+    count: u8,
+    hand: Body,
     cursor: usize,
     h: Host,
     bundle: &[u8],
     reply: &[u8],
-) -> InnerAnswer
-    ensures { λ r. ⌜ toldInner r ≡ innerOf (now (bundle .entry)) (toldChecked checked) cursor h (now (reply .entry)) ⌝ }
+) -> Stepped
+    requires { ⌜ length (now packet) ≡ PACKET-SIZE ⌝ }
+    ensures { λ r. ⌜ toldInner r (now (packet .exit)) ≡ innerOf (now (bundle .entry)) (rows.rowOf verdict place) count hand cursor h (now (reply .entry)) ⌝ }
 {
-    let verdict = checked.verdict;
-    if row_number(verdict) != 0 {
-        let row = StepRefusal::Bundle {
-            verdict: verdict,
-            place: checked.place,
-        };
-        return refused(row, h, cursor);
+    if verdict.is_refused() {
+        let row = StepRefusal::Bundle { verdict, place };
+        return refused(packet, row, h, cursor);
     }
-    let table = checked.table;
-    let stage = h.stage;
-    let hand = body_at(table, in_hand(stage));
-    let d = decision(checked.count, hand.records, h, reply);
+    let d = decision(count, hand.records, h, reply);
     match d {
-        Decided::N1 => refused(StepRefusal::N1, h, cursor),
-        Decided::Moves(m) => {
-            let action = m.action;
-            let body = body_at(table, entry_of(action));
-            made(bundle, body, cursor, h, m)
-        }
+        Decided::N1 => refused(packet, StepRefusal::N1, h, cursor),
+        Decided::Moves(m) => moved(packet, bundle, hand, cursor, h, m),
+    }
+}
+
+// The bundle's row, N1, or the move; its packet is laid into 60 lent bytes. Where these are not 60 the row is the same, but nothing is laid and nothing sent, and
+// the record is kept.
+pub fn inner_step(
+    packet: &mut [u8],
+    verdict: BundleVerdict,
+    place: u8,
+    count: u8,
+    hand: Body,
+    cursor: usize,
+    h: Host,
+    bundle: &[u8],
+    reply: &[u8],
+) -> Stepped
+    ensures { λ r. ⌜ toldInner r (now (packet .exit)) ≡ lent (now (packet .entry)) h cursor (innerOf (now (bundle .entry)) (rows.rowOf verdict place) count hand cursor h (now (reply .entry))) ⌝ }
+{
+    if packet.len() == PACKET_SIZE {
+        return inner_in(
+            packet,
+            verdict,
+            place,
+            count,
+            hand,
+            cursor,
+            h,
+            bundle,
+            reply,
+        );
+    }
+    let mut own = [0u8; PACKET_SIZE];
+    let s = inner_in(
+        &mut own,
+        verdict,
+        place,
+        count,
+        hand,
+        cursor,
+        h,
+        bundle,
+        reply,
+    );
+    let row = s.refusal;
+    Stepped {
+        refusal: row,
+        sent: Sent::Nothing,
+        host: h,
+        cursor,
     }
 }

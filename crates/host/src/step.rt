@@ -9,6 +9,7 @@ use bundle::check;
 use bundle_records::Next;
 use bundle_records::walk::next_record;
 use host_packet::answer::StepAnswer;
+use host_packet::packet::PACKET_SIZE;
 use host_record::fits::Body;
 use host_record::fits::body_at;
 use host_record::fits::in_hand;
@@ -65,7 +66,26 @@ pub fn step(host: Host, bundle: &[u8], reply: &[u8]) -> StepAnswer
     let stage = host.stage;
     let hand = body_at(table, in_hand(stage));
     let cursor = cursor_for(bundle, hand, stage);
-    let a = inner_step(c, cursor, host, bundle, reply);
-    let s = a.step;
-    s
+    let verdict = c.verdict;
+    let mut packet = [0u8; PACKET_SIZE];
+    let s = inner_step(
+        &mut packet,
+        verdict,
+        c.place,
+        c.count,
+        hand,
+        cursor,
+        host,
+        bundle,
+        reply,
+    );
+    let refusal = s.refusal;
+    let sent = s.sent;
+    let next = s.host;
+    StepAnswer {
+        refusal,
+        sent,
+        packet,
+        host: next,
+    }
 }

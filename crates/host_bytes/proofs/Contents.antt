@@ -1,90 +1,163 @@
 -- What the check of a bundle answers, and the cursor with its block, as they are written and read. Assumes nothing.
 use mathlib.Core.Path.{_≡_, refl, sym, ap, ap₂, _∙_}
 use mathlib.Core.Bool.{Bool, true, false, cond, _&&_}
-use mathlib.Core.List.{List, [], _∷_, _++_, map, append-assoc}
+use mathlib.Core.List.{List, [], _∷_, _++_, map, append-assoc, append-nil}
 use Prim.Native.Nat.{ℕ, zero, suc, _+_, _*_, _^_, _<_, _≤_}
 use native.Mathlib.Nat.{add-zero, add-suc}
 use native.Mathlib.Omega.{arith}
-use borrow.Author.Tests.{eq-eqb, ltb-false}
+use borrow.Author.Tests.{eq-eqb, eqb-true, ltb-true, ltb-false}
 use lib.Dec.{eqb, ltb}
-use lib.ListN.{length, getD, take, drop, length-append, List·getD-eq-default}
+use lib.ListN.{length, getD, take, drop, length-append, drop-of-length-le, List·getD-eq-default}
 use lib.Seq.{take-all, take-at, drop-drop, getD-drop}
 use Rattle.wire.specs.Bytes.{number, bytesOf, bytesAt, copyOf}
-use Rattle.wire.proofs.Pieces.{put-more, piece-written, read-sized, read-at}
+use Rattle.wire.proofs.Pieces.{copied, stored, piece-next, pieces-sized, read-sized, read-at}
+use Rattle.wire.proofs.Tests.{both}
 use Rattle.wire.proofs.words.Laws.{round}
 use Rattle.wire_offer.specs.Offer.{blankOffer}
-use Rattle.bundle_layout.specs.Layout.{blankEntry}
+use Rattle.bundle_layout.specs.Layout.{OFFER-LIMIT, blankEntry}
 use Rattle.bundle_layout.specs.Rows as bundle
 use Rattle.bundle_layout.specs.declared.BundleVerdict.{BundleVerdict}
-use Rattle.bundle_layout.specs.declared.BundleVerdict.the-variants.{Fine, B1, B2, B3, B4, B5, B6, B7, B8}
 use Rattle.bundle_layout.specs.declared.Entry.{Entry}
 use Rattle.bundle.specs.Contents.{Contents}
 use Rattle.host_record.specs.Fits.{listedAt, bodyOf}
 use Rattle.host_record.specs.declared.fits.Body.{Body}
 use Rattle.host_record.specs.declared.record.Place.{Place}
-use Rattle.host_bytes.specs.Layout.{ENTRY-AT, BODIES-START, BODY-SIZE, HAND-START, CURSOR-START, CONTENTS-SIZE, rowBytes, bodyBytes, bodiesBytes, handBytes, noPlace, contentsBytes, rowIn, bodyIn, bodiesIn, contentsIn, bodyRead, placeIn, cursorIn}
+use Rattle.host_record.specs.declared.record.HostStage.{HostStage}
+use Rattle.host_record.specs.declared.record.HostStage.the-variants.{Fresh, Opening, Listing, Offering, Waiting, Sending, Closing, Ended}
+use Rattle.host_record.specs.declared.record.End.the-variants as end
+use Rattle.host_bytes.specs.declared.stage.StageWords.{StageWords}
+use Rattle.host_bytes.specs.Layout.{ENTRY-AT, BODIES-START, BODY-SIZE, HAND-START, CURSOR-START, CONTENTS-SIZE, stageWords, rowBytes, bodyBytes, bodiesBytes, handBytes, noPlace, contentsBytes, rowIn, bodyIn, bodiesIn, contentsIn, bodyRead, placeIn, cursorIn, isKept, keptIn}
 
--- one body more is written
-pub body-written : (out front s last : List ℕ) (table : List Entry) (i k : ℕ) → i < 7 → length table ≡ 7 → length out ≡ CONTENTS-SIZE → k ≡ BODY-SIZE
-    → s ≡ bodyBytes (getD table i blankEntry) → last ≡ copyOf (take k (drop (BODIES-START + i * BODY-SIZE) out)) s
+-- three pieces after a front
+join : (a b c d : List ℕ) → ((a ++ b) ++ c) ++ d ≡ a ++ (b ++ (c ++ d))
+join a b c d = simp append-assoc
+
+-- one body more is written, word by word
+pub body-written : (out front x y z : List ℕ) (table : List Entry) (i : ℕ) → i < OFFER-LIMIT → length table ≡ OFFER-LIMIT → length out ≡ CONTENTS-SIZE
+    → x ≡ take (BODIES-START + i * BODY-SIZE) out ++ (bytesOf 4 (getD table i blankEntry .offset) ++ drop (BODIES-START + i * BODY-SIZE + 4) out)
+    → y ≡ take (BODIES-START + i * BODY-SIZE + 4) x ++ (bytesOf 4 (getD table i blankEntry .length) ++ drop (BODIES-START + i * BODY-SIZE + 4 + 4) x)
+    → z ≡ take (BODIES-START + i * BODY-SIZE + 8) y ++ (bytesOf 4 (getD table i blankEntry .records) ++ drop (BODIES-START + i * BODY-SIZE + 8 + 4) y)
     → take (BODIES-START + i * BODY-SIZE) out ≡ front ++ bodiesBytes (take i table)
-    → (length (take (BODIES-START + i * BODY-SIZE) out ++ (last ++ drop k (drop (BODIES-START + i * BODY-SIZE) out))) ≡ CONTENTS-SIZE)
-    × (take (BODIES-START + (i + 1) * BODY-SIZE) (take (BODIES-START + i * BODY-SIZE) out ++ (last ++ drop k (drop (BODIES-START + i * BODY-SIZE) out)))
-    ≡ front ++ bodiesBytes (take (i + 1) table))
+    → (length z ≡ CONTENTS-SIZE) × (take (BODIES-START + (i + 1) * BODY-SIZE) z ≡ front ++ bodiesBytes (take (i + 1) table))
 unfolding bodiesBytes
-body-written out front s last table i k h seven whole e f g before =
-    let w = piece-written bodyBytes bodiesBytes refl (λ x l. refl) out front s last table blankEntry i (BODIES-START + i * BODY-SIZE) BODY-SIZE (BODIES-START + (i + 1) * BODY-SIZE) k
-    (omega arith) e (omega arith) (ap length f) (omega arith) f g before in
-    (w .0 ∙ whole, w .1)
+body-written out front x y z table i h full whole e f g before =
+    let b = getD table i blankEntry in
+    let at = BODIES-START + i * BODY-SIZE in
+    let u = stored out (bytesOf 4 (b .offset)) at 4 refl (omega arith) in
+    let l : length x ≡ CONTENTS-SIZE = ap length e ∙ u .0 ∙ whole in
+    let v = stored x (bytesOf 4 (b .length)) (at + 4) 4 refl (omega arith) in
+    let m : length y ≡ CONTENTS-SIZE = ap length f ∙ v .0 ∙ l in
+    let w = stored y (bytesOf 4 (b .records)) (at + 8) 4 refl (omega arith) in
+    let n : BODIES-START + (i + 1) * BODY-SIZE ≡ at + 8 + 4 = omega arith in
+    let o : at + 8 ≡ at + 4 + 4 = omega arith in
+    let t : take (at + 8) y ≡ (take at out ++ bytesOf 4 (b .offset)) ++ bytesOf 4 (b .length) =
+    ap₂ take o f ∙ v .1 ∙ ap (λ (q : List ℕ). q ++ bytesOf 4 (b .length)) (ap (take (at + 4)) e ∙ u .1) in (
+      ap length g ∙ w .0 ∙ m,
+      piece-next bodyBytes bodiesBytes refl (λ r q. refl) out z front table blankEntry i at (BODIES-START + (i + 1) * BODY-SIZE) (omega arith) before
+          (ap₂ take n g ∙ w .1 ∙ ap (λ (q : List ℕ). q ++ bytesOf 4 (b .records)) t ∙ join (take at out) (bytesOf 4 (b .offset)) (bytesOf 4 (b .length)) (bytesOf 4 (b .records))),
+    )
 
 -- all of them are written
-pub written : (out front : List ℕ) (table : List Entry) (i : ℕ) → i ≡ 7 → length table ≡ 7
+pub written : (out front : List ℕ) (table : List Entry) (i : ℕ) → i ≡ OFFER-LIMIT → length table ≡ OFFER-LIMIT
     → take (BODIES-START + i * BODY-SIZE) out ≡ front ++ bodiesBytes (take i table) → take HAND-START out ≡ front ++ bodiesBytes table
-written out front table i e seven h =
+written out front table i e full h =
     let n : HAND-START ≡ BODIES-START + i * BODY-SIZE = omega arith in
     ap (λ (m : ℕ). take m out) n ∙ h ∙ ap (λ (l : List Entry). front ++ bodiesBytes l) (take-all i table (omega arith))
 
--- the row of a verdict, by its number
-pub row-written : (v : BundleVerdict) (place : ℕ) → bundle.numberOf v ∷ cond (eqb (bundle.numberOf v) 0) 0 place ∷ [] ≡ rowBytes (bundle.rowOf v place)
-row-written Fine place = refl
-row-written B1 place = refl
-row-written B2 place = refl
-row-written B3 place = refl
-row-written B4 place = refl
-row-written B5 place = refl
-row-written B6 place = refl
-row-written B7 place = refl
-row-written B8 place = refl
+-- a row, by its number
+row-written : (k place : ℕ) → k ∷ cond (eqb k 0) 0 place ∷ [] ≡ rowBytes (bundle.rowAt k place)
+row-written k place = go (eqb k 0) refl
+  where
+    go : (t : Bool) → eqb k 0 ≡ t → k ∷ cond t 0 place ∷ [] ≡ rowBytes (cond t bundle.served (bundle.B k place))
+    go true e = ap (λ (n : ℕ). n ∷ 0 ∷ []) (eqb-true k 0 e)
+    go false e = refl
 
 -- a copy of all that follows a place
 pub end-written : (out s last : List ℕ) (at n k : ℕ) → k ≡ n → length s ≡ n → at + n ≡ length out → last ≡ copyOf (take k (drop at out)) s
     → take at out ++ (last ++ drop k (drop at out)) ≡ take at out ++ s
 end-written out s last at n k e f whole g =
-    let w = put-more out s last at n k e f (omega arith) g in sym (take-all (at + n) _ (omega (arith, w .0))) ∙ w .1
+    let m : length out ≤ at + n = omega arith in
+    copied out s last at n k e f (omega arith) g ∙ ap (λ (l : List ℕ). take at out ++ (s ++ l)) (drop-of-length-le out m) ∙ ap (λ (l : List ℕ). take at out ++ l) (append-nil s)
 
 -- the row and the count, the bodies, and what no block has
-pub contents-of : (out last : List ℕ) (v : BundleVerdict) (place count row entry : ℕ) (table : List Entry) → length out ≡ CONTENTS-SIZE → row ≡ bundle.numberOf v
-    → entry ≡ cond (eqb row 0) 0 place → take HAND-START out ≡ row ∷ entry ∷ count ∷ bodiesBytes table → last ≡ copyOf (take 16 (drop HAND-START out)) (handBytes noPlace 0)
-    → take HAND-START out ++ (last ++ drop 16 (drop HAND-START out))
-    ≡ contentsBytes (record { row = bundle.rowOf v place; place = place; count = count; table = table }) noPlace 0
+pub contents-of : (out q : List ℕ) (v : BundleVerdict) (place count row entry : ℕ) (table : List Entry) → length out ≡ CONTENTS-SIZE → row ≡ bundle.numberOf v
+    → entry ≡ cond (eqb row 0) 0 place → take HAND-START out ≡ row ∷ entry ∷ count ∷ bodiesBytes table
+    → q ≡ cond (eqb (length out) CONTENTS-SIZE) (take HAND-START out ++ handBytes noPlace 0) out
+    → q ≡ contentsBytes (record { row = bundle.rowOf v place; place = place; count = count; table = table }) noPlace 0
 unfolding contentsBytes
-contents-of out last v place count row entry table whole e f g h =
-    let w = end-written out (handBytes noPlace 0) last HAND-START 16 16 refl refl (omega arith) h in
-    let r : row ∷ entry ∷ [] ≡ rowBytes (bundle.rowOf v place) = (rw (f, e)) ∙ row-written v place in
+contents-of out q v place count row entry table whole e f g h =
+    let w : q ≡ take HAND-START out ++ handBytes noPlace 0 = h ∙ rw (eq-eqb (length out) CONTENTS-SIZE whole) in
+    let r : row ∷ entry ∷ [] ≡ rowBytes (bundle.rowOf v place) = (rw (f, e)) ∙ row-written (bundle.numberOf v) place in
     w ∙ ap (λ (l : List ℕ). l ++ handBytes noPlace 0) g ∙ ap (λ (l : List ℕ). l ++ (count ∷ bodiesBytes table ++ handBytes noPlace 0)) r
 
--- the bytes of a block, and then of the cursor behind it, are copied to the end of the contents
-pub hand-stored : (q place s behind t : List ℕ) (p : Place) (cursor k m : ℕ) → k ≡ 8 → m ≡ 8 → length q ≡ CONTENTS-SIZE → place ≡ 0 ∷ bytesOf 4 (p .entry) ++ bytesOf 4 (p .block)
-    → behind ≡ bytesOf 8 cursor → s ≡ copyOf (take k (drop HAND-START q)) (take 8 (drop 1 place))
-    → t ≡ copyOf (take m (drop CURSOR-START (take HAND-START q ++ (s ++ drop k (drop HAND-START q))))) behind
-    → take CURSOR-START (take HAND-START q ++ (s ++ drop k (drop HAND-START q))) ++ (t ++ drop m (drop CURSOR-START (take HAND-START q ++ (s ++ drop k (drop HAND-START q)))))
-    ≡ take HAND-START q ++ handBytes p cursor
-hand-stored q place s behind t p cursor k m e f whole g h x y =
-    let l : List ℕ = bytesOf 4 (p .entry) ++ bytesOf 4 (p .block) in
-    let u : take 8 (drop 1 place) ≡ l = ap (λ (r : List ℕ). take 8 (drop 1 r)) g in
-    let v = put-more q l s HAND-START 8 k e refl (omega arith) (x ∙ ap (copyOf (take k (drop HAND-START q))) u) in
-    let z = end-written (take HAND-START q ++ (s ++ drop k (drop HAND-START q))) behind t CURSOR-START 8 m f (ap length h) (omega (arith, v .0)) y in
-    z ∙ ap₂ (λ (a b : List ℕ). a ++ b) (v .1) h ∙ append-assoc (take HAND-START q) l (bytesOf 8 cursor)
+-- the words of a block, and then the bytes of the cursor behind it, are stored at the end of the contents
+pub hand-stored : (q x y behind t : List ℕ) (entry block cursor k : ℕ) → k ≡ 8 → length q ≡ CONTENTS-SIZE → x ≡ take HAND-START q ++ (bytesOf 4 entry ++ drop (HAND-START + 4) q)
+    → y ≡ take (HAND-START + 4) x ++ (bytesOf 4 block ++ drop (HAND-START + 4 + 4) x) → behind ≡ bytesOf 8 cursor → t ≡ copyOf (take k (drop CURSOR-START y)) behind
+    → take CURSOR-START y ++ (t ++ drop k (drop CURSOR-START y)) ≡ take HAND-START q ++ handBytes (record { entry = entry; block = block }) cursor
+hand-stored q x y behind t entry block cursor k e whole f g h i =
+    let u = stored q (bytesOf 4 entry) HAND-START 4 refl (omega arith) in
+    let l : length x ≡ CONTENTS-SIZE = ap length f ∙ u .0 ∙ whole in
+    let v = stored x (bytesOf 4 block) (HAND-START + 4) 4 refl (omega arith) in
+    let m : length y ≡ CONTENTS-SIZE = ap length g ∙ v .0 ∙ l in
+    let z = end-written y behind t CURSOR-START 8 k e (ap length h) (omega arith) i in
+    let w : take CURSOR-START y ≡ (take HAND-START q ++ bytesOf 4 entry) ++ bytesOf 4 block =
+    ap (take CURSOR-START) g ∙ v .1 ∙ ap (λ (r : List ℕ). r ++ bytesOf 4 block) (ap (take (HAND-START + 4)) f ∙ u .1) in
+    z ∙ ap₂ (λ (a b : List ℕ). a ++ b) w h ∙ join (take HAND-START q) (bytesOf 4 entry) (bytesOf 4 block) (bytesOf 8 cursor)
+
+-- the cursor is kept for a block, by the words of the stage
+pub kept-test : (q : List ℕ) (s : HostStage)
+    → (eqb (stageWords s .number) 5 && (eqb (number (bytesAt 4 HAND-START q)) (stageWords s .first) && eqb (number (bytesAt 4 (HAND-START + 4) q)) (stageWords s .second))) ≡ isKept q s
+kept-test q Fresh = refl
+kept-test q Opening = refl
+kept-test q Listing = refl
+kept-test q (Offering t) = refl
+kept-test q (Waiting t) = refl
+kept-test q (Sending p) = refl
+kept-test q Closing = refl
+kept-test q (Ended end.Done) = refl
+kept-test q (Ended (end.Status s)) = refl
+kept-test q (Ended end.Foreign) = refl
+kept-test q (Ended end.Unexpected) = refl
+kept-test q (Ended end.Busy) = refl
+
+-- what stays as it is, whatever the test
+stays : (q : List ℕ) (t : Bool) → q ≡ cond t q q
+stays q true = refl
+stays q false = refl
+
+-- the block and the cursor are kept where the stage has one, and where it has none all stays
+sending-kept : (q : List ℕ) (s : HostStage) (cursor : ℕ) → stageWords s .number ≡ 5
+    → cond (eqb (length q) CONTENTS-SIZE) (take HAND-START q ++ handBytes (record { entry = stageWords s .first; block = stageWords s .second }) cursor) q ≡ keptIn q s cursor
+sending-kept q Fresh cursor h = absurd (omega arith)
+sending-kept q Opening cursor h = absurd (omega arith)
+sending-kept q Listing cursor h = absurd (omega arith)
+sending-kept q (Offering t) cursor h = absurd (omega arith)
+sending-kept q (Waiting t) cursor h = absurd (omega arith)
+sending-kept q (Sending p) cursor h = refl
+sending-kept q Closing cursor h = absurd (omega arith)
+sending-kept q (Ended end.Done) cursor h = absurd (omega arith)
+sending-kept q (Ended (end.Status s)) cursor h = absurd (omega arith)
+sending-kept q (Ended end.Foreign) cursor h = absurd (omega arith)
+sending-kept q (Ended end.Unexpected) cursor h = absurd (omega arith)
+sending-kept q (Ended end.Busy) cursor h = absurd (omega arith)
+
+other-kept : (q : List ℕ) (s : HostStage) (cursor : ℕ) → (stageWords s .number ≡ 5 → ⊥) → q ≡ keptIn q s cursor
+other-kept q Fresh cursor h = stays q (eqb (length q) CONTENTS-SIZE)
+other-kept q Opening cursor h = stays q (eqb (length q) CONTENTS-SIZE)
+other-kept q Listing cursor h = stays q (eqb (length q) CONTENTS-SIZE)
+other-kept q (Offering t) cursor h = stays q (eqb (length q) CONTENTS-SIZE)
+other-kept q (Waiting t) cursor h = stays q (eqb (length q) CONTENTS-SIZE)
+other-kept q (Sending p) cursor h = absurd (h refl)
+other-kept q Closing cursor h = stays q (eqb (length q) CONTENTS-SIZE)
+other-kept q (Ended e) cursor h = stays q (eqb (length q) CONTENTS-SIZE)
+
+module _ (q : List ℕ) (s : HostStage) (w : StageWords) (cursor : ℕ) (e : w ≡ stageWords s) where
+  pub hand-kept : w .number ≡ 5
+      → cond (eqb (length q) CONTENTS-SIZE) (take HAND-START q ++ handBytes (record { entry = w .first; block = w .second }) cursor) q ≡ keptIn q s cursor
+  hand-kept h = rw e (sending-kept q s cursor (sym (ap (λ (u : StageWords). u .number) e) ∙ h))
+
+  pub none-kept : (w .number ≡ 5 → ⊥) → q ≡ keptIn q s cursor
+  none-kept h = other-kept q s cursor (λ k. h (ap (λ (u : StageWords). u .number) e ∙ k))
 
 -- what stands before the block and the cursor
 abbrev front : Contents → List ℕ
@@ -106,35 +179,39 @@ after (suc k) n i q = ap₂ (λ (x : ℕ) (l : List ℕ). x ∷ l) (getD-drop n 
 abbrev bodyNumbers : (offset length records : ℕ) → Body
 bodyNumbers offset length records = record { start = offset; end = offset + length; records = records }
 
--- one of the seven bodies, from its bytes
-pub body-listed : (q : List ℕ) (i : ℕ) → i < 7 → bodyOf (contentsIn q) i ≡ bodyFrom (BODIES-START + i * BODY-SIZE) q
+-- an entry that the contents list, from the test of it
+pub entry-listed : (t : Bool) (i : ℕ) → (t && ltb i OFFER-LIMIT) ≡ true → i < OFFER-LIMIT
+entry-listed t i h = ltb-true i OFFER-LIMIT (both t (ltb i OFFER-LIMIT) h .1)
+
+-- one of the bodies, from its bytes
+pub body-listed : (q : List ℕ) (i : ℕ) → i < OFFER-LIMIT → bodyOf (contentsIn q) i ≡ bodyFrom (BODIES-START + i * BODY-SIZE) q
 unfolding contentsIn bodiesIn
 body-listed q i h =
     let n = BODIES-START + i * BODY-SIZE in
-    let e = read-at BODY-SIZE bodyIn bodiesIn (λ q. refl) (λ n q. refl) 7 i (drop BODIES-START q) blankEntry h ∙ ap bodyIn (drop-drop (i * BODY-SIZE) BODIES-START q) in
+    let e = read-at BODY-SIZE bodyIn bodiesIn (λ q. refl) (λ n q. refl) OFFER-LIMIT i (drop BODIES-START q) blankEntry h ∙ ap bodyIn (drop-drop (i * BODY-SIZE) BODIES-START q) in
     let x : number (bytesAt 4 0 (drop n q)) ≡ number (bytesAt 4 n q) = ap number (after 4 n 0 q ∙ ap (λ (m : ℕ). bytesAt 4 m q) (add-zero n)) in
     let y : number (bytesAt 4 4 (drop n q)) ≡ number (bytesAt 4 (n + 4) q) = ap number (after 4 n 4 q) in
     let z : number (bytesAt 4 8 (drop n q)) ≡ number (bytesAt 4 (n + 8) q) = ap number (after 4 n 8 q) in
     ap (λ (l : Entry). bodyNumbers (l .offset) (l .length) (l .records)) e ∙ ap (λ (m : ℕ). bodyNumbers m (number (bytesAt 4 4 (drop n q))) (number (bytesAt 4 8 (drop n q)))) x
     ∙ ap₂ (bodyNumbers (number (bytesAt 4 n q))) y z
 
--- there are seven
-past : (q : List ℕ) (i : ℕ) → 7 ≤ i → listedAt (contentsIn q) i ≡ blankEntry
+-- there are no more
+past : (q : List ℕ) (i : ℕ) → OFFER-LIMIT ≤ i → listedAt (contentsIn q) i ≡ blankEntry
 unfolding contentsIn bodiesIn
 past q i h =
-    List·getD-eq-default (bodiesIn 7 (drop BODIES-START q)) blankEntry {n = i} (omega (arith, read-sized BODY-SIZE bodyIn bodiesIn (λ q. refl) (λ n q. refl) 7 (drop BODIES-START q)))
+    List·getD-eq-default (bodiesIn OFFER-LIMIT (drop BODIES-START q)) blankEntry {n = i} (omega (arith, read-sized BODY-SIZE bodyIn bodiesIn (λ q. refl) (λ n q. refl) OFFER-LIMIT (drop BODIES-START q)))
 
--- the body of any entry of the contents: past the seventh it is empty
+-- the body of any entry of the contents: past the most offers it is empty
 pub body-read : (q : List ℕ) (i : ℕ) → length q ≡ CONTENTS-SIZE → bodyRead q i ≡ bodyOf (contentsIn q) i
 unfolding bodyRead
-body-read q i whole = go (ltb i 7) refl
+body-read q i whole = go (ltb i OFFER-LIMIT) refl
   where
     sized : eqb (length q) CONTENTS-SIZE ≡ true
     sized = eq-eqb (length q) CONTENTS-SIZE whole
 
-    go : (t : Bool) → ltb i 7 ≡ t → cond (eqb (length q) CONTENTS-SIZE && ltb i 7) (bodyOf (contentsIn q) i) (bodyNumbers 0 0 0) ≡ bodyOf (contentsIn q) i
+    go : (t : Bool) → ltb i OFFER-LIMIT ≡ t → cond (eqb (length q) CONTENTS-SIZE && ltb i OFFER-LIMIT) (bodyOf (contentsIn q) i) (bodyNumbers 0 0 0) ≡ bodyOf (contentsIn q) i
     go true e = rw (sized, e)
-    go false e = rw (sized, e) (sym (ap (λ (l : Entry). bodyNumbers (l .offset) (l .length) (l .records)) (past q i (ltb-false i 7 e))))
+    go false e = rw (sized, e) (sym (ap (λ (l : Entry). bodyNumbers (l .offset) (l .length) (l .records)) (past q i (ltb-false i OFFER-LIMIT e))))
 
 -- an entry without its offer, and contents with such entries
 abbrev pub bareEntry : Entry → Entry
@@ -159,8 +236,7 @@ bodies-back (e ∷ l) rest f =
 -- bodies are as many bytes as each has
 bodies-sized : (l : List Entry) → length (bodiesBytes l) ≡ length l * BODY-SIZE
 unfolding bodiesBytes
-bodies-sized [] = refl
-bodies-sized (e ∷ l) = rw (length-append (bodyBytes e) (bodiesBytes l)) (omega (arith, bodies-sized l))
+bodies-sized l = pieces-sized bodyBytes bodiesBytes refl (λ e l. refl) BODY-SIZE (λ e. refl) l
 
 -- bytes after others, by their place
 shift : (k i x : ℕ) (l : List ℕ) → bytesAt k (suc i) (x ∷ l) ≡ bytesAt k i l
@@ -178,7 +254,7 @@ row-sized (bundle.B k entry) = refl
 
 -- what stands in bytes that begin with a row and a count
 begun : (r : bundle.Row) (n : ℕ) (rest : List ℕ)
-    → contentsIn (rowBytes r ++ (n ∷ rest)) ≡ record { row = rowIn (rowBytes r); place = getD (rowBytes r) ENTRY-AT 0; count = n; table = bodiesIn 7 rest }
+    → contentsIn (rowBytes r ++ (n ∷ rest)) ≡ record { row = rowIn (rowBytes r); place = getD (rowBytes r) ENTRY-AT 0; count = n; table = bodiesIn OFFER-LIMIT rest }
 unfolding contentsIn
 begun bundle.served n rest = refl
 begun (bundle.B k entry) n rest = refl
@@ -188,16 +264,16 @@ pub record FitsPlace (p : Place) : Type 0 where
   pub entry : p .entry < 256 ^ 4
   pub block : p .block < 256 ^ 4
 
--- what the check answers: seven entries that fit their words, and a row that reads back
+-- what the check answers: entries that fit their words, and a row that reads back
 pub record Written (c : Contents) : Type 0 where
-  pub seven : length (c .table) ≡ 7
+  pub full : length (c .table) ≡ OFFER-LIMIT
   pub fits : (k : ℕ) → FitsBody (getD (c .table) k blankEntry)
   pub row : rowIn (rowBytes (c .row)) ≡ c .row
   pub place : getD (rowBytes (c .row)) ENTRY-AT 0 ≡ c .place
 
 module _ (c : Contents) (w : Written c) (p : Place) (cursor : ℕ) where
   front-sized : length (front c) ≡ HAND-START
-  front-sized = length-append (rowBytes (c .row)) (c .count ∷ bodiesBytes (c .table)) ∙ omega (arith, row-sized (c .row), bodies-sized (c .table), w .seven)
+  front-sized = length-append (rowBytes (c .row)) (c .count ∷ bodiesBytes (c .table)) ∙ omega (arith, row-sized (c .row), bodies-sized (c .table), w .full)
 
   -- contents are of the one length
   pub contents-sized : length (contentsBytes c p cursor) ≡ CONTENTS-SIZE
@@ -228,5 +304,5 @@ module _ (c : Contents) (w : Written c) (p : Place) (cursor : ℕ) where
   unfolding contentsBytes
   contents-back =
       let rest = bodiesBytes (c .table) ++ handBytes p cursor in
-      let e : bodiesIn 7 rest ≡ map bareEntry (c .table) = ap (λ (n : ℕ). bodiesIn n rest) (sym (w .seven)) ∙ bodies-back (c .table) (handBytes p cursor) (w .fits) in
+      let e : bodiesIn OFFER-LIMIT rest ≡ map bareEntry (c .table) = ap (λ (n : ℕ). bodiesIn n rest) (sym (w .full)) ∙ bodies-back (c .table) (handBytes p cursor) (w .fits) in
       begun (c .row) (c .count) rest ∙ rw (w .row, w .place, e)

@@ -17,21 +17,18 @@ use Rattle.bundle_layout.specs.Rows as bundle
 use Rattle.bundle_layout.specs.declared.Entry.{Entry}
 use Rattle.bundle.specs.Contents.{Contents, entryIn, contentsBy, checkOf}
 use Rattle.bundle.proofs.Accepted.{Accepted, accepted}
-use Rattle.host_record.specs.Fits.{BUSY-LIMIT, bodyOf, recordsOn, inHand}
+use Rattle.host_record.specs.Fits.{BUSY-LIMIT, bodyOf, inHand}
 use Rattle.host_record.specs.declared.fits.Body.{Body}
 use Rattle.host_record.specs.declared.record.Host.{Host}
 use Rattle.host_record.specs.declared.record.Place.{Place}
 use Rattle.host_record.specs.declared.record.HostStage.{HostStage}
 use Rattle.host_record.specs.declared.record.HostStage.the-variants.{Fresh, Opening, Listing, Offering, Waiting, Sending, Closing, Ended}
-use Rattle.host_decide.specs.declared.Decided.{Decided}
-use Rattle.host_decide.specs.declared.Decided.the-variants as decided
 use Rattle.host_decide.specs.declared.Move.{Move}
-use Rattle.host_decide.specs.Decide.{entryOf, decideIn, decisionOf, offerFrom, noted, completes}
+use Rattle.host_decide.specs.Decide.{decideIn, offerFrom, noted, completes}
 use Rattle.host_decide.proofs.Moves.{opening-cases, listing-cases, offering-cases, waiting-cases, closing-cases, sending-cases, offer-cases}
 use Rattle.host_packet.specs.Answer.{Row, served, B, N, Step}
-use Rattle.host_packet.specs.Made.{madeOf}
 use Rattle.host.specs.Step.{entryAt, badStage, breaksN1, lastIn, stepOf, stepOn}
-use Rattle.host.specs.Inner.{innerOn, innerBy, innerOf, CursorIn, cursorAt}
+use Rattle.host.specs.Inner.{innerOf, innerFor, CursorIn, cursorAt}
 use Rattle.host.proofs.inner.IsStep.{place-inside, agrees}
 use Rattle.host.proofs.step.Laws.{cursor-found}
 use Rattle.host_bytes.specs.Layout.{ROW-AT, COUNT-AT, HAND-START, CONTENTS-SIZE, rowBytes, bodiesBytes, handBytes, noPlace, contentsBytes, contentsIn, bodyRead, placeIn, cursorIn, areContents, isRow, isCount, isKept, cursorFor, keptWith, keptBy}
@@ -46,20 +43,8 @@ body-bare : (c : Contents) (i : ℕ) → bodyOf (bare c) i ≡ bodyOf c i
 body-bare c i = ap (λ (e : Entry). record { start = e .offset; end = e .offset + e .length; records = e .records }) (listed (c .table) i)
 
 -- the inner step reads no offer of the contents
-module _ (b : List ℕ) (c : Contents) (cursor : ℕ) (h : Host) where
-  on-bare : (d : Decided) → innerOn b (bare c) cursor h d ≡ innerOn b c cursor h d
-  on-bare decided.N1 = refl
-  on-bare (decided.Moves m) = ap (λ (y : Body). madeOf b y cursor h (m .host) (m .action)) (body-bare c (entryOf (m .action)))
-
-  by-bare : (r : bundle.Row) (reply : List ℕ) → innerBy r b (bare c) cursor h reply ≡ innerBy r b c cursor h reply
-  by-bare bundle.served reply =
-      ap (λ (y : Body). innerOn b (bare c) cursor h (decisionOf (c .count) (y .records) h reply)) (body-bare c (inHand (h .stage)))
-      ∙ on-bare (decisionOf (c .count) (recordsOn c (inHand (h .stage))) h reply)
-  by-bare (bundle.B k entry) reply = refl
-
-  inner-bare : (reply : List ℕ) → innerOf b (bare c) cursor h reply ≡ innerOf b c cursor h reply
-  unfolding innerOf
-  inner-bare reply = by-bare (c .row) reply
+inner-bare : (b : List ℕ) (c : Contents) (cursor : ℕ) (h : Host) (reply : List ℕ) → innerFor b (bare c) cursor h reply ≡ innerFor b c cursor h reply
+inner-bare b c cursor h reply = ap (λ (y : Body). innerOf b (c .row) (c .count) y cursor h reply) (body-bare c (inHand (h .stage)))
 
 -- no entry fits
 blank-fits : (m k : ℕ) → FitsBody (getD (replicate m blankEntry) k blankEntry)
@@ -112,13 +97,13 @@ check-written b bytes = go (bundle.bundleRow b) refl (is-row b)
     go bundle.served s i =
         let α = accepted b bytes s in
         record {
-          seven = simp (length-append, length-map, length-replicate) (omega (arith, α .entries, α .few));
+          full = simp (length-append, length-map, length-replicate) (omega (arith, α .entries, α .few));
           fits = entries-fit b α (entriesIn b) (OFFER-LIMIT - countIn b) (entry-bytes b α);
           row = refl;
           place = refl;
         }
     go (bundle.B k entry) s i = record {
-      seven = length-replicate OFFER-LIMIT blankEntry;
+      full = length-replicate OFFER-LIMIT blankEntry;
       fits = blank-fits OFFER-LIMIT;
       row = rw (ne-eqb k 0 (λ z. omega arith));
       place = refl;
@@ -249,17 +234,17 @@ module _ (b q : List ℕ) (bytes : Bytes b) (k : Keeps b q) where
 pub kept-contents-step : KeptContentsStep
 kept-contents-step b q h reply bytes k =
     let n = cursorFor b q (h .stage) in
-    let e : innerOf b (contentsIn q) n h reply ≡ innerOf b (checkOf b) n h reply =
-    ap (λ (c : Contents). innerOf b c n h reply) (contents-are b q bytes k) ∙ inner-bare b (checkOf b) n h reply in
+    let e : innerFor b (contentsIn q) n h reply ≡ innerFor b (checkOf b) n h reply =
+    ap (λ (c : Contents). innerFor b c n h reply) (contents-are b q bytes k) ∙ inner-bare b (checkOf b) n h reply in
     let r : bundle.bundleRow b ≡ bundle.served → badStage b (h .stage) ≡ false → CursorIn b (h .stage) n = λ s w. cursor-right b q bytes k s (h .stage) w in
     let a = agrees b h n reply bytes r in
-    let m = innerOf b (checkOf b) n h reply .cursor in
+    let m = innerFor b (checkOf b) n h reply .cursor in
     rw e (
       a .0,
       subst (λ (x : Step). Keeps b (keptBy (x .row) q (keptWith q (x .host .stage) m))) (sym (a .0)) (after b q bytes k (stepOf b h reply .row) (stepOf b h reply .host .stage) m (step-left b h m reply bytes (λ s w. a .1 (r s w)))),
     )
 
--- the number of a row of the check, and 1 to 7 offers where none refuses
+-- the number of a row of the check, and as many offers as a bundle may have where none refuses
 abbrev areBegun : List ℕ → Bool
 areBegun q = isRow (getD q ROW-AT 0) && (not (eqb (getD q ROW-AT 0) 0) || isCount (getD q COUNT-AT 0))
 

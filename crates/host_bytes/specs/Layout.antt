@@ -5,7 +5,7 @@ use mathlib.Core.Bool.{Bool, true, false, not, cond, _&&_, _||_}
 use mathlib.Core.List.{List, [], _∷_, _++_}
 use lib.Dec.{eqb, leb, ltb}
 use lib.ListN.{length, getD, take, drop}
-use Rattle.wire.specs.Bytes.{number, bytesOf, bytesAt, same}
+use Rattle.wire.specs.Bytes.{number, bytesOf, bytesAt}
 use Rattle.wire_offer.specs.Offer.{blankOffer}
 use Rattle.bundle_layout.specs.Layout.{OFFER-LIMIT}
 use Rattle.bundle_layout.specs.Rows as bundle
@@ -22,29 +22,63 @@ use Rattle.host_record.specs.declared.record.End.the-variants as end
 use Rattle.host_packet.specs.Answer.{Row, served, B, N}
 use Rattle.host_packet.specs.Made.{InnerStep}
 use Rattle.host.specs.Inner.{cursorAt}
+use Rattle.host_bytes.specs.declared.stage.StageWords.{StageWords}
 
--- the length of a record
+-- where the fields of a record stand, and its length
+abbrev pub TOKEN-AT : ℕ
+TOKEN-AT = 0
+
+abbrev pub STAGE-START : ℕ
+STAGE-START = TOKEN-AT + 1
+
+abbrev pub FIRST-AT : ℕ
+FIRST-AT = STAGE-START + 1
+
+abbrev pub SECOND-AT : ℕ
+SECOND-AT = FIRST-AT + 4
+
+abbrev pub STAGE-SIZE : ℕ
+STAGE-SIZE = 9
+
+abbrev pub MASK-AT : ℕ
+MASK-AT = STAGE-START + STAGE-SIZE
+
+abbrev pub PACKETS-AT : ℕ
+PACKETS-AT = MASK-AT + 4
+
+abbrev pub PASSES-AT : ℕ
+PASSES-AT = PACKETS-AT + 4
+
+abbrev pub SKIPPED-AT : ℕ
+SKIPPED-AT = PASSES-AT + 4
+
+abbrev pub LANDED-AT : ℕ
+LANDED-AT = SKIPPED-AT + 1
+
 abbrev pub HOST-SIZE : ℕ
-HOST-SIZE = 24
+HOST-SIZE = LANDED-AT + 1
 
--- an end: its number (0 done, 1 to 4 for H1 to H4) and the content status of H1
-abbrev pub endBytes : End → List ℕ
-endBytes end.Done = bytesOf 4 0 ++ bytesOf 4 0
-endBytes (end.Status s) = bytesOf 4 1 ++ bytesOf 4 s
-endBytes end.Foreign = bytesOf 4 2 ++ bytesOf 4 0
-endBytes end.Unexpected = bytesOf 4 3 ++ bytesOf 4 0
-endBytes end.Busy = bytesOf 4 4 ++ bytesOf 4 0
+-- a stage as its number and two words, zero where it has none: the entry and its BUSY replies, the entry and the block, or the end: its number (0 done, 1 to 4
+-- for H1 to H4) and the content status of H1
+abbrev pub endWords : End → StageWords
+endWords end.Done = record { number = 7; first = 0; second = 0 }
+endWords (end.Status s) = record { number = 7; first = 1; second = s }
+endWords end.Foreign = record { number = 7; first = 2; second = 0 }
+endWords end.Unexpected = record { number = 7; first = 3; second = 0 }
+endWords end.Busy = record { number = 7; first = 4; second = 0 }
 
--- bytes 1-9: the stage, then the entry and its BUSY replies, the entry and the block, or the end; zero where the stage has none
+abbrev pub stageWords : HostStage → StageWords
+stageWords Fresh = record { number = 0; first = 0; second = 0 }
+stageWords Opening = record { number = 1; first = 0; second = 0 }
+stageWords Listing = record { number = 2; first = 0; second = 0 }
+stageWords (Offering t) = record { number = 3; first = t .entry; second = t .busy }
+stageWords (Waiting t) = record { number = 4; first = t .entry; second = t .busy }
+stageWords (Sending p) = record { number = 5; first = p .entry; second = p .block }
+stageWords Closing = record { number = 6; first = 0; second = 0 }
+stageWords (Ended e) = endWords e
+
 abbrev pub stageBytes : HostStage → List ℕ
-stageBytes Fresh = 0 ∷ bytesOf 4 0 ++ bytesOf 4 0
-stageBytes Opening = 1 ∷ bytesOf 4 0 ++ bytesOf 4 0
-stageBytes Listing = 2 ∷ bytesOf 4 0 ++ bytesOf 4 0
-stageBytes (Offering t) = 3 ∷ bytesOf 4 (t .entry) ++ bytesOf 4 (t .busy)
-stageBytes (Waiting t) = 4 ∷ bytesOf 4 (t .entry) ++ bytesOf 4 (t .busy)
-stageBytes (Sending p) = 5 ∷ bytesOf 4 (p .entry) ++ bytesOf 4 (p .block)
-stageBytes Closing = 6 ∷ bytesOf 4 0 ++ bytesOf 4 0
-stageBytes (Ended e) = 7 ∷ endBytes e
+stageBytes s = stageWords s .number ∷ bytesOf 4 (stageWords s .first) ++ bytesOf 4 (stageWords s .second)
 
 -- 1 where it holds
 abbrev pub flagByte : Bool → ℕ
@@ -59,7 +93,7 @@ hostBytes h =
     ++ (bytesOf 4 (h .mask)
     ++ (bytesOf 4 (h .packets) ++ (bytesOf 4 (h .passes) ++ flagByte (h .skipped) ∷ flagByte (h .landed) ∷ [])))
 
--- the fields that stand in bytes, unjudged
+-- the fields that stand in bytes, unjudged; what the stage has no use for is not read
 abbrev pub endIn : (number status : ℕ) → End
 endIn n status =
     cond (eqb n 1) (end.Status (status % 256))
@@ -77,25 +111,32 @@ stageIn stage first second =
 
 unfoldable pub hostIn : List ℕ → Host
 hostIn b = record {
-  token = getD b 0 0;
-  stage = stageIn (getD b 1 0) (number (bytesAt 4 2 b)) (number (bytesAt 4 6 b));
-  mask = number (bytesAt 4 10 b);
-  packets = number (bytesAt 4 14 b);
-  passes = number (bytesAt 4 18 b);
-  skipped = eqb (getD b 22 0) 1;
-  landed = eqb (getD b 23 0) 1;
+  token = getD b TOKEN-AT 0;
+  stage = stageIn (getD b STAGE-START 0) (number (bytesAt 4 FIRST-AT b)) (number (bytesAt 4 SECOND-AT b));
+  mask = number (bytesAt 4 MASK-AT b);
+  packets = number (bytesAt 4 PACKETS-AT b);
+  passes = number (bytesAt 4 PASSES-AT b);
+  skipped = eqb (getD b SKIPPED-AT 0) 1;
+  landed = eqb (getD b LANDED-AT 0) 1;
 }
+
+-- each flag is one that a record has: the stage, the number of an end where the stage is one, and the two booleans
+abbrev pub areFlags : (stage end skipped landed : ℕ) → Bool
+areFlags stage end skipped landed = leb stage 7 && ((not (eqb stage 7) || leb end 4) && (leb skipped 1 && leb landed 1))
+
+unfoldable pub flagsFit : List ℕ → Bool
+flagsFit b = areFlags (getD b STAGE-START 0) (number (bytesAt 4 FIRST-AT b)) (getD b SKIPPED-AT 0) (getD b LANDED-AT 0)
 
 -- a record that N1 refuses over every bundle: it counts more packets than any host may
 abbrev pub lostHost : Host
 lostHost = record { token = 0; stage = Fresh; mask = 0; packets = 2 ^ 32 - 1; passes = 0; skipped = false; landed = false }
 
--- the record whose bytes these are; bytes that are no record's are read as the lost record
+-- the record that stands in bytes; bytes of another length, or with a flag that no record has, are read as the lost record
 unfoldable pub readHost : List ℕ → Host
-readHost b = cond (same (hostBytes (hostIn b)) b) (hostIn b) lostHost
+readHost b = cond (eqb (length b) HOST-SIZE && flagsFit b) (hostIn b) lostHost
 
--- the contents of a checked bundle: the number of the row that refuses it, 0 for none, and the entry that this names; the count; from BODIES-START on seven
--- times offset, length and records of a body; from HAND-START on the block that the cursor is kept for, its entry and its number; and the cursor
+-- the contents of a checked bundle: the number of the row that refuses it, 0 for none, and the entry that this names; the count; from BODIES-START on, for as
+-- many offers as a bundle may have, offset, length and records of a body; from HAND-START on the block that the cursor is kept for, its entry and its number; and the cursor
 abbrev pub ROW-AT : ℕ
 ROW-AT = 0
 
@@ -112,7 +153,7 @@ abbrev pub BODY-SIZE : ℕ
 BODY-SIZE = 12
 
 abbrev pub HAND-START : ℕ
-HAND-START = BODIES-START + 7 * BODY-SIZE
+HAND-START = BODIES-START + OFFER-LIMIT * BODY-SIZE
 
 abbrev pub CURSOR-START : ℕ
 CURSOR-START = HAND-START + 8
@@ -143,7 +184,7 @@ contentsBytes c p cursor = rowBytes (c .row) ++ (c .count ∷ bodiesBytes (c .ta
 
 -- what stands in bytes, unjudged: the inner step judges what it takes of them. An offer is read from the bundle, never from here
 abbrev pub rowIn : List ℕ → bundle.Row
-rowIn q = cond (eqb (getD q ROW-AT 0) 0) bundle.served (bundle.B (getD q ROW-AT 0) (getD q ENTRY-AT 0))
+rowIn q = bundle.rowAt (getD q ROW-AT 0) (getD q ENTRY-AT 0)
 
 abbrev pub bodyIn : List ℕ → Entry
 bodyIn q = record { offer = blankOffer; offset = number (bytesAt 4 0 q); length = number (bytesAt 4 4 q); records = number (bytesAt 4 8 q) }
@@ -153,11 +194,11 @@ bodiesIn zero q = []
 bodiesIn (suc n) q = bodyIn q ∷ bodiesIn n (drop BODY-SIZE q)
 
 unfoldable pub contentsIn : List ℕ → Contents
-contentsIn q = record { row = rowIn q; place = getD q ENTRY-AT 0; count = getD q COUNT-AT 0; table = bodiesIn 7 (drop BODIES-START q) }
+contentsIn q = record { row = rowIn q; place = getD q ENTRY-AT 0; count = getD q COUNT-AT 0; table = bodiesIn OFFER-LIMIT (drop BODIES-START q) }
 
--- the body of an entry of these; past the seventh it is empty, and so in bytes that are no contents
+-- the body of an entry of these; past the most offers it is empty, and so in bytes that are no contents
 unfoldable pub bodyRead : List ℕ → ℕ → Body
-bodyRead q i = cond (eqb (length q) CONTENTS-SIZE && ltb i 7) (bodyOf (contentsIn q) i) (record { start = 0; end = 0; records = 0 })
+bodyRead q i = cond (eqb (length q) CONTENTS-SIZE && ltb i OFFER-LIMIT) (bodyOf (contentsIn q) i) (record { start = 0; end = 0; records = 0 })
 
 abbrev pub placeIn : List ℕ → Place
 placeIn q = record { entry = number (bytesAt 4 HAND-START q); block = number (bytesAt 4 (HAND-START + 4) q) }
@@ -172,7 +213,7 @@ isRow k = leb k 8
 abbrev pub isCount : ℕ → Bool
 isCount n = leb 1 n && leb n OFFER-LIMIT
 
--- bytes that a check may have left: of the one length, with a row of the check, and 1 to 7 offers where none refuses
+-- bytes that a check may have left: of the one length, with a row of the check, and 1 to OFFER-LIMIT offers where none refuses
 abbrev pub areContents : List ℕ → Bool
 areContents q =
     eqb (length q) CONTENTS-SIZE && (isRow (getD q ROW-AT 0) && (not (eqb (getD q ROW-AT 0) 0) || isCount (getD q COUNT-AT 0)))

@@ -1,16 +1,18 @@
 -- What the bytes of a host's record, and of a checked bundle's contents, promise.
 use Prim.Native.Nat.{ℕ}
 use mathlib.Core.Path.{_≡_}
-use mathlib.Core.Bool.{true, false}
+use mathlib.Core.Bool.{true, false, _&&_}
 use mathlib.Core.List.{List}
+use lib.Dec.{eqb}
+use lib.ListN.{length}
 use Rattle.wire.specs.Bytes.{Bytes, Packet}
 use Rattle.bundle.specs.Contents.{checkOf}
 use Rattle.host_record.specs.declared.record.Host.{Host}
 use Rattle.host_record.specs.declared.record.HostStage.the-variants.{Sending}
 use Rattle.host_record.specs.Record.{FitsHost}
 use Rattle.host.specs.Step.{badStage, breaksN1, stepOf}
-use Rattle.host.specs.Inner.{innerOf, CursorIn}
-use Rattle.host_bytes.specs.Layout.{HOST-SIZE, hostBytes, readHost, noPlace, contentsBytes, contentsIn, placeIn, cursorIn, cursorFor, contentsAfter}
+use Rattle.host.specs.Inner.{innerFor, CursorIn}
+use Rattle.host_bytes.specs.Layout.{HOST-SIZE, hostBytes, flagsFit, readHost, noPlace, contentsBytes, contentsIn, placeIn, cursorIn, cursorFor, contentsAfter}
 
 -- every record is bytes of the one length
 abbrev pub HostSized : Type 0
@@ -20,10 +22,9 @@ HostSized = (h : Host) → FitsHost h → Packet HOST-SIZE (hostBytes h)
 abbrev pub HostReadsBack : Type 0
 HostReadsBack = (h : Host) → FitsHost h → readHost (hostBytes h) ≡ h
 
--- bytes that are no record's are read as a record that N1 refuses over every bundle
+-- bytes of another length, or with a flag that no record has, are read as a record that N1 refuses over every bundle
 abbrev pub OthersBreakN1 : Type 0
-OthersBreakN1 =
-    (b bundle : List ℕ) → Bytes b → ((h : Host) → FitsHost h → hostBytes h ≡ b → ⊥) → breaksN1 bundle (readHost b) ≡ true
+OthersBreakN1 = (b bundle : List ℕ) → (eqb (length b) HOST-SIZE && flagsFit b) ≡ false → breaksN1 bundle (readHost b) ≡ true
 
 -- contents that the check of b, and the steps over it, leave: the check's answer, and a cursor that is right for the block that it is kept for
 pub record Keeps (b q : List ℕ) : Type 0 where
@@ -38,5 +39,5 @@ CheckKeeps = (b : List ℕ) → Bytes b → Keeps b (contentsBytes (checkOf b) n
 abbrev pub KeptContentsStep : Type 0
 KeptContentsStep =
     (b q : List ℕ) (h : Host) (reply : List ℕ) → Bytes b → Keeps b q
-    → (innerOf b (contentsIn q) (cursorFor b q (h .stage)) h reply .step ≡ stepOf b h reply)
-    × Keeps b (contentsAfter q (innerOf b (contentsIn q) (cursorFor b q (h .stage)) h reply))
+    → (innerFor b (contentsIn q) (cursorFor b q (h .stage)) h reply .step ≡ stepOf b h reply)
+    × Keeps b (contentsAfter q (innerFor b (contentsIn q) (cursorFor b q (h .stage)) h reply))

@@ -1,32 +1,50 @@
 // The host's record as bytes of a fixed length; and what the check of a bundle answers, with the cursor and the block that it is kept for, as bytes.
 ghost use mathlib.Core.Path.{_≡_};
-ghost use mathlib.Core.Bool.{_&&_, cond};
+ghost use mathlib.Core.Bool.{cond};
 ghost use mathlib.Core.List.{_++_};
 ghost use lib.Dec.{eqb};
 ghost use lib.ListN.{length, take};
 ghost use Prim.Native.Nat.{_+_, _≤_};
-ghost use Rattle.wire.specs.Bytes.{number, bytesAt, same};
+ghost use Rattle.wire.specs.Bytes.{number, bytesAt};
 ghost use Rattle.bundle.specs.Contents.{toldChecked};
-ghost use Rattle.host_bytes.specs.Layout.{HOST-SIZE, BODY-SIZE, BODIES-START, HAND-START, CONTENTS-SIZE, flagByte, hostBytes, hostIn, readHost, bodiesBytes, handBytes, noPlace, contentsBytes, bodyRead, placeIn, cursorIn, areContents, isKept, keptIn, lostHost};
-use crate::body::body_bytes;
-use crate::stage::numbered;
-use crate::stage::stage_bytes;
+ghost use Rattle.host_bytes.specs.Layout.{BODY-SIZE, BODIES-START, HAND-START, CONTENTS-SIZE, flagByte, hostBytes, areFlags, readHost, bodiesBytes, handBytes, noPlace, contentsBytes, bodyRead, cursorIn, areContents, isKept, keptIn, lostHost};
+use crate::put::put32;
+use crate::stage::SENDING;
 use crate::stage::stage_in;
+use crate::stage::stage_words;
 use bundle_layout::Checked;
 use bundle_layout::Entry;
 use bundle_layout::limits::OFFER_LIMIT;
-use bundle_layout::row_number;
 use host_record::fits::Body;
 use host_record::record::Host;
 use host_record::record::HostStage;
-use host_record::record::Place;
 use wire::words;
 
+mod put; // put.rt: a word is stored at a place
 mod stage; // stage.rt: what the host awaits, and how a session ends
-mod body; // body.rt: where a body stands, and how many records it has
 
-// The length of a record.
-pub const HOST_SIZE: usize = 24;
+// Where the fields of a record stand, and its length.
+const TOKEN_AT: usize = 0;
+
+const STAGE_START: usize = TOKEN_AT + 1;
+
+const FIRST_AT: usize = STAGE_START + 1;
+
+const SECOND_AT: usize = FIRST_AT + 4;
+
+const STAGE_SIZE: usize = 9;
+
+const MASK_AT: usize = STAGE_START + STAGE_SIZE;
+
+const PACKETS_AT: usize = MASK_AT + 4;
+
+const PASSES_AT: usize = PACKETS_AT + 4;
+
+const SKIPPED_AT: usize = PASSES_AT + 4;
+
+const LANDED_AT: usize = SKIPPED_AT + 1;
+
+pub const HOST_SIZE: usize = LANDED_AT + 1;
 
 // Where the parts of the contents stand: the number of the row that refuses the bundle, the entry that it names, the count, the bodies, the block that the
 // cursor is kept for, the cursor; and their length.
@@ -38,7 +56,7 @@ pub const COUNT_AT: usize = ENTRY_AT + 1;
 
 const BODIES_START: usize = COUNT_AT + 1;
 
-const HAND_START: usize = BODIES_START + 7 * BODY_SIZE;
+const HAND_START: usize = BODIES_START + OFFER_LIMIT * BODY_SIZE;
 
 const CURSOR_START: usize = HAND_START + 8;
 
@@ -53,62 +71,22 @@ fn flag_byte(holds: bool) -> u8
     if holds { 1 } else { 0 }
 }
 
-pub fn host_bytes(h: Host) -> [u8; 24]
+pub fn host_bytes(h: Host) -> [u8; HOST_SIZE]
     ensures { λ r. ⌜ r ≡ hostBytes h ⌝ }
 {
     let stage = h.stage;
-    let s = stage_bytes(stage);
-    let m = words::bytes32(h.mask);
-    let p = words::bytes32(h.packets);
-    let n = words::bytes32(h.passes);
-    let skipped = flag_byte(h.skipped);
-    let landed = flag_byte(h.landed);
-    [
-        h.token,
-        s[0],
-        s[1],
-        s[2],
-        s[3],
-        s[4],
-        s[5],
-        s[6],
-        s[7],
-        s[8],
-        m[0],
-        m[1],
-        m[2],
-        m[3],
-        p[0],
-        p[1],
-        p[2],
-        p[3],
-        n[0],
-        n[1],
-        n[2],
-        n[3],
-        skipped,
-        landed,
-    ]
-}
-
-// The fields that stand in the bytes, unjudged.
-fn host_in(b: &[u8]) -> Host
-    ensures { λ r. ⌜ r ≡ hostIn (now (b .entry)) ⌝ }
-{
-    let stage = stage_in(
-        words::byte_at(b, 1),
-        words::word32_at(b, 2),
-        words::word32_at(b, 6),
-    );
-    Host {
-        token: words::byte_at(b, 0),
-        stage,
-        mask: words::word32_at(b, 10),
-        packets: words::word32_at(b, 14),
-        passes: words::word32_at(b, 18),
-        skipped: words::byte_at(b, 22) == 1,
-        landed: words::byte_at(b, 23) == 1,
-    }
+    let s = stage_words(stage);
+    let mut out = [0u8; HOST_SIZE];
+    out[TOKEN_AT] = h.token;
+    out[STAGE_START] = s.number;
+    put32(&mut out, FIRST_AT, s.first);
+    put32(&mut out, SECOND_AT, s.second);
+    put32(&mut out, MASK_AT, h.mask);
+    put32(&mut out, PACKETS_AT, h.packets);
+    put32(&mut out, PASSES_AT, h.passes);
+    out[SKIPPED_AT] = flag_byte(h.skipped);
+    out[LANDED_AT] = flag_byte(h.landed);
+    out
 }
 
 // A record that N1 refuses over every bundle.
@@ -126,25 +104,35 @@ fn lost_host() -> Host
     }
 }
 
-// The stage's nine bytes and the two flags are as a record has them; every value of the other bytes is some record's.
-fn is_tidy(h: Host, b: &[u8]) -> bool
-    requires { ⌜ (length (now b) ≡ HOST-SIZE) × (h ≡ hostIn (now b)) ⌝ }
-    ensures { λ r. ⌜ r ≡ same (hostBytes (hostIn (now (b .entry)))) (now (b .entry)) ⌝ }
+// Each flag is one that a record has: the stage, the number of an end, and the two booleans.
+fn are_flags(stage: u8, end: u32, skipped: u8, landed: u8) -> bool
+    ensures { λ r. ⌜ r ≡ areFlags stage end skipped landed ⌝ }
 {
-    let stage = h.stage;
-    let s = stage_bytes(stage);
-    words::same(&s, &b[1..10]) & (flag_byte(h.skipped) == b[22]) & (flag_byte(h.landed) == b[23])
+    (stage <= 7) & (((stage != 7) | (end <= 4)) & ((skipped <= 1) & (landed <= 1)))
 }
 
-// Bytes that are no record's, of whatever length, are read as a record that N1 refuses.
+// Bytes of another length, or with a flag that no record has, are read as a record that N1 refuses. What the stage has no use for is not looked at.
 pub fn read_host(b: &[u8]) -> Host
     ensures { λ r. ⌜ r ≡ readHost (now (b .entry)) ⌝ }
 {
-    if b.len() != HOST_SIZE {
-        return lost_host();
+    let number = words::byte_at(b, STAGE_START);
+    let first = words::word32_at(b, FIRST_AT as u16);
+    let skipped = words::byte_at(b, SKIPPED_AT);
+    let landed = words::byte_at(b, LANDED_AT);
+    if (b.len() == HOST_SIZE) & are_flags(number, first, skipped, landed) {
+        let stage = stage_in(number, first, words::word32_at(b, SECOND_AT as u16));
+        Host {
+            token: words::byte_at(b, TOKEN_AT),
+            stage,
+            mask: words::word32_at(b, MASK_AT as u16),
+            packets: words::word32_at(b, PACKETS_AT as u16),
+            passes: words::word32_at(b, PASSES_AT as u16),
+            skipped: skipped == 1,
+            landed: landed == 1,
+        }
+    } else {
+        lost_host()
     }
-    let h = host_in(b);
-    if is_tidy(h, b) { h } else { lost_host() }
 }
 
 // The entry that a row names, by the row's number: none where no row refuses.
@@ -155,52 +143,34 @@ fn entry_named(row: u8, place: u8) -> u8
 }
 
 // The bodies, one after the other, after the first three bytes.
-fn with_bodies(mut out: [u8; 103], table: [Entry; 7]) -> [u8; 103]
+fn with_bodies(mut out: [u8; CONTENTS_SIZE], table: [Entry; OFFER_LIMIT]) -> [u8; CONTENTS_SIZE]
     ensures { λ r. ⌜ take HAND-START r ≡ take BODIES-START out ++ bodiesBytes table ⌝ }
 {
     let mut i = 0;
-    while i < 7 {
+    while i < OFFER_LIMIT {
         let entry = table[i];
-        let b = body_bytes(entry);
         let at = BODIES_START + i * BODY_SIZE;
-        let end = at + BODY_SIZE;
-        words::copy(&mut out[at..end], &b);
+        put32(&mut out, at, entry.offset);
+        put32(&mut out, at + 4, entry.length);
+        put32(&mut out, at + 8, entry.records);
         i += 1;
     }
     out
 }
 
 // What the check answers, with no block in hand and the cursor at 0.
-pub fn contents_bytes(c: Checked) -> [u8; 103]
+pub fn contents_bytes(c: Checked) -> [u8; CONTENTS_SIZE]
     ensures { λ r. ⌜ r ≡ contentsBytes (toldChecked c) noPlace 0 ⌝ }
 {
     let verdict = c.verdict;
     let table = c.table;
-    let row = row_number(verdict);
-    let mut out = [0u8; 103];
+    let row = verdict.number();
+    let mut out = [0u8; CONTENTS_SIZE];
     out[ROW_AT] = row;
     out[ENTRY_AT] = entry_named(row, c.place);
     out[COUNT_AT] = c.count;
     let mut filled = with_bodies(out, table);
-    let none = [
-        255u8,
-        255,
-        255,
-        255,
-        255,
-        255,
-        255,
-        255,
-        0,
-        0,
-        0,
-        0,
-        0,
-        0,
-        0,
-        0,
-    ];
-    words::copy(&mut filled[HAND_START..CONTENTS_SIZE], &none);
+    store_hand(&mut filled, 0xFFFFFFFF, 0xFFFFFFFF, 0);
     filled
 }
 
@@ -211,37 +181,29 @@ pub fn are_contents(q: &[u8]) -> bool
     let row = words::byte_at(q, ROW_AT);
     let count = words::byte_at(q, COUNT_AT);
     (q.len() == CONTENTS_SIZE)
-        & ((row <= 8) & ((row != 0) | ((1 <= count) & (count <= OFFER_LIMIT))))
+        & ((row <= 8) & ((row != 0) | ((1 <= count) & (count as usize <= OFFER_LIMIT))))
 }
 
-fn word_from(q: &[u8], at: usize) -> u32
-    requires { ⌜ at + 4 ≤ length (now q) ⌝ }
-    ensures { λ r. ⌜ r ≡ number (bytesAt 4 at (now (q .entry))) ⌝ }
-{
-    words::word32(q[at], q[at + 1], q[at + 2], q[at + 3])
-}
-
-// Where the body of an entry stands, and how many records it has, from the twelve bytes of it.
-fn body_from(q: &[u8], at: usize) -> Body
-    requires { ⌜ at + BODY-SIZE ≤ length (now q) ⌝ }
+// Where a body stands, and how many records it has, from its bytes.
+fn body_from(q: &[u8], at: u16) -> Body
+    requires { ⌜ at + BODY-SIZE ≤ CONTENTS-SIZE ⌝ }
     ensures { λ r. ⌜ r ≡ record { start = number (bytesAt 4 at (now (q .entry))); end = number (bytesAt 4 at (now (q .entry))) + number (bytesAt 4 (at + 4) (now (q .entry))); records = number (bytesAt 4 (at + 8) (now (q .entry))) } ⌝ }
 {
-    let offset = word_from(q, at);
-    let length = word_from(q, at + 4);
-    let records = word_from(q, at + 8);
+    let offset = words::word32_at(q, at);
+    let length = words::word32_at(q, at + 4);
     Body {
         start: offset as usize,
         end: (offset as u64) + (length as u64),
-        records,
+        records: words::word32_at(q, at + 8),
     }
 }
 
-// The body of an entry of the contents; past the seventh it is empty, and so in bytes that are no contents.
+// The body of an entry of the contents; past the most offers it is empty, and so in bytes that are no contents.
 pub fn read_body(q: &[u8], i: u32) -> Body
     ensures { λ r. ⌜ r ≡ bodyRead (now (q .entry)) i ⌝ }
 {
-    if (q.len() == CONTENTS_SIZE) & (i < 7) {
-        body_from(q, BODIES_START + (i as usize) * BODY_SIZE)
+    if (q.len() == CONTENTS_SIZE) & ((i as usize) < OFFER_LIMIT) {
+        body_from(q, (BODIES_START + (i as usize) * BODY_SIZE) as u16)
     } else {
         Body {
             start: 0,
@@ -251,28 +213,14 @@ pub fn read_body(q: &[u8], i: u32) -> Body
     }
 }
 
-// The cursor is kept for this block.
-fn is_hand(q: &[u8], p: Place) -> bool
-    ensures { λ r. ⌜ r ≡ (eqb (placeIn (now (q .entry)) .entry) (p .entry) && eqb (placeIn (now (q .entry)) .block) (p .block)) ⌝ }
-{
-    let at = HAND_START as u16;
-    (words::word32_at(q, at) == p.entry) & (words::word32_at(q, at + 4) == p.block)
-}
-
 // The cursor is kept for the block whose reply is awaited.
 pub fn is_kept(q: &[u8], stage: HostStage) -> bool
     ensures { λ r. ⌜ r ≡ isKept (now (q .entry)) stage ⌝ }
 {
-    match stage {
-        HostStage::Fresh => false,
-        HostStage::Opening => false,
-        HostStage::Listing => false,
-        HostStage::Offering(_) => false,
-        HostStage::Waiting(_) => false,
-        HostStage::Sending(p) => is_hand(q, p),
-        HostStage::Closing => false,
-        HostStage::Ended(_) => false,
-    }
+    let s = stage_words(stage);
+    let at = HAND_START as u16;
+    (s.number == SENDING)
+        & ((words::word32_at(q, at) == s.first) & (words::word32_at(q, at + 4) == s.second))
 }
 
 // A cursor that was stored is a place in a bundle, so a usize of 32 bits holds it too.
@@ -286,13 +234,13 @@ pub fn read_cursor(q: &[u8]) -> usize
 }
 
 // A block, and the cursor behind its record, are stored; bytes of another length than contents stay as they are.
-fn store_hand(q: &mut [u8], p: Place, cursor: usize)
-    ensures { λ _. ⌜ now (q .exit) ≡ cond (eqb (length (now (q .entry))) CONTENTS-SIZE) (take HAND-START (now (q .entry)) ++ handBytes p cursor) (now (q .entry)) ⌝ }
+fn store_hand(q: &mut [u8], entry: u32, block: u32, cursor: usize)
+    ensures { λ _. ⌜ now (q .exit) ≡ cond (eqb (length (now (q .entry))) CONTENTS-SIZE) (take HAND-START (now (q .entry)) ++ handBytes (record { entry = entry; block = block }) cursor) (now (q .entry)) ⌝ }
 {
     if q.len() == CONTENTS_SIZE {
-        let place = numbered(0, p.entry, p.block);
+        put32(q, HAND_START, entry);
+        put32(q, HAND_START + 4, block);
         let behind = words::bytes64(cursor);
-        words::copy(&mut q[HAND_START..CURSOR_START], &place[1..9]);
         words::copy(&mut q[CURSOR_START..CONTENTS_SIZE], &behind);
     }
 }
@@ -301,14 +249,8 @@ fn store_hand(q: &mut [u8], p: Place, cursor: usize)
 pub fn keep(q: &mut [u8], stage: HostStage, cursor: usize)
     ensures { λ _. ⌜ now (q .exit) ≡ keptIn (now (q .entry)) stage cursor ⌝ }
 {
-    match stage {
-        HostStage::Fresh => {}
-        HostStage::Opening => {}
-        HostStage::Listing => {}
-        HostStage::Offering(_) => {}
-        HostStage::Waiting(_) => {}
-        HostStage::Sending(p) => store_hand(q, p, cursor),
-        HostStage::Closing => {}
-        HostStage::Ended(_) => {}
+    let s = stage_words(stage);
+    if s.number == SENDING {
+        store_hand(q, s.first, s.second, cursor);
     }
 }

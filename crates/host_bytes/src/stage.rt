@@ -1,48 +1,93 @@
-// What the host awaits as nine bytes: the stage, then the entry and its BUSY replies, the entry and the block, or the end.
+// What the host awaits as a number and two words, zero where the stage has none: the entry and its BUSY replies, the entry and the block, or the end.
 ghost use mathlib.Core.Path.{_≡_};
-ghost use mathlib.Core.List.{_∷_, _++_};
-ghost use Rattle.wire.specs.Bytes.{bytesOf};
-ghost use Rattle.host_bytes.specs.Layout.{endBytes, stageBytes, endIn, stageIn};
+ghost use Rattle.host_bytes.specs.Layout.{endWords, stageWords, endIn, stageIn};
 use host_record::record::End;
 use host_record::record::HostStage;
 use host_record::record::Place;
 use host_record::record::Turn;
-use wire::words;
 
-// A number of a stage, and two words after it.
-pub(crate) fn numbered(number: u8, first: u32, second: u32) -> [u8; 9]
-    ensures { λ r. ⌜ r ≡ number ∷ bytesOf 4 first ++ bytesOf 4 second ⌝ }
-{
-    let a = words::bytes32(first);
-    let b = words::bytes32(second);
-    [number, a[0], a[1], a[2], a[3], b[0], b[1], b[2], b[3]]
+// The number of the stage in which the reply to a block is awaited.
+pub(crate) const SENDING: u8 = 5;
+
+pub(crate) struct StageWords {
+    pub number: u8,
+    pub first: u32,
+    pub second: u32,
 }
 
 // The stage of an end, its number, and the content status of H1.
-fn ended_bytes(e: End) -> [u8; 9]
-    ensures { λ r. ⌜ r ≡ 7 ∷ endBytes e ⌝ }
+fn end_words(e: End) -> StageWords
+    ensures { λ r. ⌜ r ≡ endWords e ⌝ }
 {
     match e {
-        End::Done => numbered(7, 0, 0),
-        End::Status(s) => numbered(7, 1, s as u32),
-        End::Foreign => numbered(7, 2, 0),
-        End::Unexpected => numbered(7, 3, 0),
-        End::Busy => numbered(7, 4, 0),
+        End::Done => StageWords {
+            number: 7,
+            first: 0,
+            second: 0,
+        },
+        End::Status(s) => StageWords {
+            number: 7,
+            first: 1,
+            second: s as u32,
+        },
+        End::Foreign => StageWords {
+            number: 7,
+            first: 2,
+            second: 0,
+        },
+        End::Unexpected => StageWords {
+            number: 7,
+            first: 3,
+            second: 0,
+        },
+        End::Busy => StageWords {
+            number: 7,
+            first: 4,
+            second: 0,
+        },
     }
 }
 
-pub(crate) fn stage_bytes(stage: HostStage) -> [u8; 9]
-    ensures { λ r. ⌜ r ≡ stageBytes stage ⌝ }
+pub(crate) fn stage_words(stage: HostStage) -> StageWords
+    ensures { λ r. ⌜ r ≡ stageWords stage ⌝ }
 {
     match stage {
-        HostStage::Fresh => numbered(0, 0, 0),
-        HostStage::Opening => numbered(1, 0, 0),
-        HostStage::Listing => numbered(2, 0, 0),
-        HostStage::Offering(t) => numbered(3, t.entry, t.busy),
-        HostStage::Waiting(t) => numbered(4, t.entry, t.busy),
-        HostStage::Sending(p) => numbered(5, p.entry, p.block),
-        HostStage::Closing => numbered(6, 0, 0),
-        HostStage::Ended(e) => ended_bytes(e),
+        HostStage::Fresh => StageWords {
+            number: 0,
+            first: 0,
+            second: 0,
+        },
+        HostStage::Opening => StageWords {
+            number: 1,
+            first: 0,
+            second: 0,
+        },
+        HostStage::Listing => StageWords {
+            number: 2,
+            first: 0,
+            second: 0,
+        },
+        HostStage::Offering(t) => StageWords {
+            number: 3,
+            first: t.entry,
+            second: t.busy,
+        },
+        HostStage::Waiting(t) => StageWords {
+            number: 4,
+            first: t.entry,
+            second: t.busy,
+        },
+        HostStage::Sending(p) => StageWords {
+            number: SENDING,
+            first: p.entry,
+            second: p.block,
+        },
+        HostStage::Closing => StageWords {
+            number: 6,
+            first: 0,
+            second: 0,
+        },
+        HostStage::Ended(e) => end_words(e),
     }
 }
 

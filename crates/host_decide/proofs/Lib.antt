@@ -1,2 +1,3 @@
+pub mod Hands
 pub mod Heard
 pub mod Moves

@@ -1,6 +1,7 @@
 -- What the host decides on a reply (document 01, "The host"): the table of rows by stage and reply, the ends H1 to H4, the replay rule. No byte of a
 -- bundle is looked at: only how many offers it has, and whether the block in hand is the last of its body.
 use Prim.Native.Nat.{ℕ, _+_}
+use mathlib.Core.Path.{_≡_}
 use mathlib.Core.Bool.{Bool, true, false, not, cond, _&&_, _||_}
 use mathlib.Core.List.{List}
 use lib.Dec.{ltb, eqb}
@@ -17,7 +18,7 @@ use Rattle.host_record.specs.declared.record.HostStage.the-variants.{Fresh, Ope
 use Rattle.host_record.specs.declared.record.End.{End}
 use Rattle.host_record.specs.declared.record.End.the-variants.{Done, Status, Foreign, Unexpected, Busy}
 use Rattle.host_record.specs.Record.{withBit, sequenceOf}
-use Rattle.host_record.specs.Fits.{BUSY-LIMIT, recordBreaks, lastOf}
+use Rattle.host_record.specs.Fits.{BUSY-LIMIT, recordBreaks, lastOf, inHand}
 use Rattle.host_decide.specs.declared.Action.{Action}
 use Rattle.host_decide.specs.declared.Action.the-variants.{Nothing, Information, Notify, Offer, Block}
 use Rattle.host_decide.specs.declared.Move.{Move}
@@ -159,14 +160,11 @@ decideIn (Ended e) n last h reply = record { action = Nothing; host = h }
 abbrev pub decideOf : (n : ℕ) → (last : Bool) → Host → (reply : List ℕ) → Move
 decideOf n last h reply = decideIn (h .stage) n last h reply
 
--- the entry of what is sent, and 0 where there is none
-abbrev pub entryOf : Action → ℕ
-entryOf Nothing = 0
-entryOf (Information code) = 0
-entryOf Notify = 0
-entryOf (Offer entry) = entry
-entryOf (Block p) = p .entry
-
 -- what is decided over a bundle of n offers, where the body in hand has k records: N1, or a move
 unfoldable pub decisionOf : (n k : ℕ) → Host → (reply : List ℕ) → Decided
 decisionOf n k h reply = cond (recordBreaks n k h) N1 (Moves (decideOf n (lastOf k (h .stage)) h reply))
+
+-- a block that is sent is of the entry in hand
+abbrev pub BlocksInHand : Type 0
+BlocksInHand = (n k : ℕ) (h : Host) (reply : List ℕ) (m : Move) (p : Place)
+    → decisionOf n k h reply ≡ Moves m → m .action ≡ Block p → p .entry ≡ inHand (h .stage)

@@ -28,10 +28,10 @@ fn sends(h: Host, stage: HostStage, action: Action) -> Move
     ensures { λ r. ⌜ r ≡ decided.sends h stage action ⌝ }
 {
     Move {
-        action: action,
+        action,
         host: Host {
             token: h.token,
-            stage: stage,
+            stage,
             mask: h.mask,
             packets: h.packets + 1,
             passes: h.passes,
@@ -83,10 +83,7 @@ fn offer_from(n: u32, entry: u32, h: Host) -> Move
     if entry < n {
         sends(
             h,
-            HostStage::Offering(Turn {
-                entry: entry,
-                busy: 0,
-            }),
+            HostStage::Offering(Turn { entry, busy: 0 }),
             Action::Offer(entry),
         )
     } else {

@@ -1,6 +1,6 @@
 // What the host decides on a reply (document 01, "The host"): N1, or what to send and the next record.
 ghost use mathlib.Core.Path.{_≡_};
-ghost use Rattle.host_decide.specs.Decide.{entryOf, decisionOf};
+ghost use Rattle.host_decide.specs.Decide.{decisionOf};
 use crate::decide::decide;
 use host_record::fits::breaks;
 use host_record::fits::last_in;
@@ -29,19 +29,6 @@ pub struct Move {
 pub enum Decided {
     N1,
     Moves(Move),
-}
-
-// The entry of what is sent, and 0 where there is none.
-pub fn entry_of(action: Action) -> u32
-    ensures { λ r. ⌜ r ≡ entryOf action ⌝ }
-{
-    match action {
-        Action::Nothing => 0,
-        Action::Information(_) => 0,
-        Action::Notify => 0,
-        Action::Offer(entry) => entry,
-        Action::Block(p) => p.entry,
-    }
 }
 
 // Over a bundle of n offers, where the body in hand has k records: N1, or the move.

@@ -1,9 +1,11 @@
 -- What a step answers (document 01, "The host" and rows B, N1).
 use Prim.Native.Nat.{ℕ, _-_}
+use mathlib.Core.Bool.{Bool, true, false}
 use mathlib.Core.List.{List, [], _∷_, _++_}
 use lib.ListN.{length, take, replicate}
 use Rattle.bundle_layout.specs.Rows as bundle
 use Rattle.host_record.specs.declared.record.Host.{Host}
+use Rattle.host_packet.specs.Packet.{PACKET-SIZE}
 use Rattle.host_packet.specs.declared.answer.Sent.{Sent}
 use Rattle.host_packet.specs.declared.answer.Sent.the-variants as sent
 use Rattle.host_packet.specs.declared.answer.StepRefusal.{StepRefusal}
@@ -24,18 +26,34 @@ pub record Step : Type 0 where
   pub host : Host
 
 abbrev pub filled : List (List ℕ) → List ℕ
-filled [] = replicate 60 0
-filled (p ∷ ps) = p ++ replicate (60 - length p) 0
+filled [] = replicate PACKET-SIZE 0
+filled (p ∷ ps) = p ++ replicate (PACKET-SIZE - length p) 0
 
 -- a refused step: its row, nothing sent, the record unchanged
 abbrev pub refusedBy : Row → Host → Step
-refusedBy row h = record { row = row; sent = []; packet = replicate 60 0; host = h }
+refusedBy row h = record { row = row; sent = []; packet = replicate PACKET-SIZE 0; host = h }
 
 -- what an answer tells
 abbrev pub rowOf : StepRefusal → Row
 rowOf refusal.Served = served
 rowOf (refusal.Bundle verdict place) = B (bundle.numberOf verdict) place
 rowOf refusal.N1 = N 1
+
+-- the number of a row, 0 where none refuses; the entry that it names, or 0; and whether it refuses
+abbrev pub numberOf : Row → ℕ
+numberOf served = 0
+numberOf (B k entry) = k
+numberOf (N k) = k
+
+abbrev pub entryOf : Row → ℕ
+entryOf served = 0
+entryOf (B k entry) = entry
+entryOf (N k) = 0
+
+abbrev pub isRefused : Row → Bool
+isRefused served = false
+isRefused (B k entry) = true
+isRefused (N k) = true
 
 abbrev pub sentBy : Sent → List ℕ → List (List ℕ)
 sentBy sent.Nothing packet = []

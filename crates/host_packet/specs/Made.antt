@@ -1,4 +1,4 @@
--- What an action sends, over the body of its entry in a bundle that was checked once, and a cursor, the place of the record after the one in hand.
+-- What an action sends, over the body in hand of a bundle that was checked once, and a cursor, the place of the record after the one in hand.
 use Prim.Native.Nat.{ℕ, _+_}
 use mathlib.Core.Bool.{Bool, true, false, cond}
 use mathlib.Core.List.{List, [], _∷_}
@@ -16,10 +16,10 @@ use Rattle.host_record.specs.declared.fits.Body.{Body}
 use Rattle.host_record.specs.Fits.{isLastOf}
 use Rattle.host_decide.specs.declared.Action.{Action}
 use Rattle.host_decide.specs.declared.Action.the-variants as action
-use Rattle.host_packet.specs.declared.answer.InnerAnswer.{InnerAnswer}
+use Rattle.host_packet.specs.declared.answer.Stepped.{Stepped}
 use Rattle.host_packet.specs.declared.answer.Written.{Written}
-use Rattle.host_packet.specs.Packet.{blockBytes}
-use Rattle.host_packet.specs.Answer.{served, N, Step, filled, refusedBy, sentBy, told}
+use Rattle.host_packet.specs.Packet.{PACKET-SIZE, blockBytes}
+use Rattle.host_packet.specs.Answer.{served, N, Step, filled, rowOf, sentBy}
 
 -- what is laid into a packet of 60 bytes: whether the step is served, what is sent, the bytes, and the place of the record after the one in hand
 pub record Laid : Type 0 where
@@ -70,7 +70,7 @@ laidOf b body cursor token (action.Block p) = laidBlock b body cursor p
 -- laid into lent bytes; where these are not 60, nothing is laid and nothing sent
 unfoldable pub writtenOf : (packet b : List ℕ) → Body → (cursor token : ℕ) → Action → Laid
 writtenOf packet b body cursor token action =
-    cond (eqb (length packet) 60) (laidOf b body cursor token action) (record { served = false; sent = []; packet = packet; cursor = cursor })
+    cond (eqb (length packet) PACKET-SIZE) (laidOf b body cursor token action) (record { served = false; sent = []; packet = packet; cursor = cursor })
 
 -- what an answer and the lent bytes tell
 abbrev pub laidBy : Written → (packet : List ℕ) → Laid
@@ -84,7 +84,7 @@ pub record InnerStep : Type 0 where
 -- the step of what is laid: the next record, or N1 and the record unchanged
 abbrev pub stepOfLaid : Laid → (before after : Host) → InnerStep
 stepOfLaid l before after = record {
-  step = cond (l .served) (record { row = served; sent = l .sent; packet = l .packet; host = after }) (refusedBy (N 1) before);
+  step = record { row = cond (l .served) served (N 1); sent = l .sent; packet = l .packet; host = cond (l .served) after before };
   cursor = l .cursor;
 }
 
@@ -92,6 +92,9 @@ stepOfLaid l before after = record {
 abbrev pub madeOf : (b : List ℕ) → Body → (cursor : ℕ) → (before after : Host) → Action → InnerStep
 madeOf b body cursor before after action = stepOfLaid (laidOf b body cursor (after .token) action) before after
 
--- what an answer tells
-abbrev pub toldInner : InnerAnswer → InnerStep
-toldInner a = record { step = told (a .step); cursor = a .cursor }
+-- what an answer and the lent bytes tell
+abbrev pub toldInner : Stepped → (packet : List ℕ) → InnerStep
+toldInner a packet = record {
+  step = record { row = rowOf (a .refusal); sent = sentBy (a .sent) packet; packet = packet; host = a .host };
+  cursor = a .cursor;
+}

@@ -9,6 +9,10 @@ use Rattle.wire_content.specs.Content.{contentBytes}
 use Rattle.bundle_records.specs.Record.{Block}
 use Rattle.host_record.specs.Record.{sequenceOf}
 
+-- the bytes that are lent for a packet
+abbrev pub PACKET-SIZE : ℕ
+PACKET-SIZE = 60
+
 -- first and last flags as fit
 abbrev pub flagsOf : (first last : Bool) → ℕ
 flagsOf first last = cond first FLAG-FIRST-BLOCK 0 + cond last FLAG-LAST-BLOCK 0

@@ -1,52 +1,32 @@
-// What an action sends, over the body of its entry in a bundle that was checked once, and a cursor, the place of the record after the one in hand.
+// What an action sends, over the body in hand of a bundle that was checked once, and a cursor, the place of the record after the one in hand.
 ghost use mathlib.Core.Path.{_≡_};
 ghost use mathlib.Core.List.{[]};
 ghost use lib.ListN.{length, replicate};
-ghost use Rattle.host_packet.specs.Answer.{rowOf, refusedBy};
-ghost use Rattle.host_packet.specs.Made.{recordStart, laidOffer, laidBlock, laidOf, writtenOf, laidBy, madeOf, toldInner};
-use crate::answer::InnerAnswer;
+ghost use Rattle.host_packet.specs.Made.{recordStart, laidOffer, laidBlock, laidOf, writtenOf, laidBy};
 use crate::answer::Sent;
-use crate::answer::StepAnswer;
-use crate::answer::StepRefusal;
 use crate::answer::Written;
 use crate::packet;
+use crate::packet::PACKET_SIZE;
 use bundle_layout::limits::ENTRY;
 use bundle_layout::limits::HEAD;
 use bundle_records::Next;
 use bundle_records::walk::next_record;
 use host_decide::Action;
-use host_decide::Move;
 use host_record::fits;
 use host_record::fits::Body;
-use host_record::record::Host;
 use host_record::record::Place;
-
-// A row refuses the step: nothing is sent, and the record is unchanged.
-pub fn refused(refusal: StepRefusal, h: Host, cursor: usize) -> InnerAnswer
-    ensures { λ r. ⌜ toldInner r ≡ record { step = refusedBy (rowOf refusal) h; cursor = cursor } ⌝ }
-{
-    let none = [0u8; 60];
-    InnerAnswer {
-        step: StepAnswer {
-            refusal: refusal,
-            sent: Sent::Nothing,
-            packet: none,
-            host: h,
-        },
-        cursor: cursor,
-    }
-}
+use wire::words;
 
 // Nothing is sent.
 fn none(packet: &mut [u8], served: bool, cursor: usize) -> Written
     ensures { λ r. ⌜ laidBy r (now (packet .exit)) ≡ record { served = served; sent = []; packet = replicate (length (now (packet .entry))) 0; cursor = cursor } ⌝ }
 {
-    packet::clear(packet);
+    words::fill(packet, 0);
     let sent = Sent::Nothing;
     Written {
-        served: served,
-        sent: sent,
-        cursor: cursor,
+        served,
+        sent,
+        cursor,
     }
 }
 
@@ -60,7 +40,7 @@ fn written_offer(packet: &mut [u8], b: &[u8], cursor: usize, entry: u32, token: 
         Written {
             served: true,
             sent: Sent::Offer,
-            cursor: cursor,
+            cursor,
         }
     } else {
         none(packet, false, cursor)
@@ -120,7 +100,7 @@ fn written_in(
             Written {
                 served: true,
                 sent: Sent::Offer,
-                cursor: cursor,
+                cursor,
             }
         }
         Action::Notify => {
@@ -128,7 +108,7 @@ fn written_in(
             Written {
                 served: true,
                 sent: Sent::Offer,
-                cursor: cursor,
+                cursor,
             }
         }
         Action::Offer(entry) => written_offer(packet, b, cursor, entry, token),
@@ -147,37 +127,13 @@ pub fn written(
 ) -> Written
     ensures { λ r. ⌜ laidBy r (now (packet .exit)) ≡ writtenOf (now (packet .entry)) (now (b .entry)) body cursor token action ⌝ }
 {
-    if packet.len() == 60 {
+    if packet.len() == PACKET_SIZE {
         written_in(packet, b, body, cursor, action, token)
     } else {
         Written {
             served: false,
             sent: Sent::Nothing,
-            cursor: cursor,
+            cursor,
         }
-    }
-}
-
-// What an action sends, with the body of its entry.
-pub fn made(b: &[u8], body: Body, cursor: usize, before: Host, m: Move) -> InnerAnswer
-    ensures { λ r. ⌜ toldInner r ≡ madeOf (now (b .entry)) body cursor before (m .host) (m .action) ⌝ }
-{
-    let after = m.host;
-    let action = m.action;
-    let mut packet = [0u8; 60];
-    let w = written_in(&mut packet, b, body, cursor, action, after.token);
-    if w.served {
-        let sent = w.sent;
-        InnerAnswer {
-            step: StepAnswer {
-                refusal: StepRefusal::Served,
-                sent: sent,
-                packet: packet,
-                host: after,
-            },
-            cursor: w.cursor,
-        }
-    } else {
-        refused(StepRefusal::N1, before, w.cursor)
     }
 }

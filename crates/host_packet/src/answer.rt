@@ -1,4 +1,7 @@
 // What a step of the host answers.
+ghost use mathlib.Core.Path.{_≡_};
+ghost use Rattle.host_packet.specs.Answer.{rowOf, numberOf, entryOf, isRefused};
+use crate::packet::PACKET_SIZE;
 use bundle_layout::BundleVerdict;
 use host_record::record::Host;
 
@@ -8,6 +11,44 @@ pub enum StepRefusal {
     // The bundle's row, with its entry.
     Bundle { verdict: BundleVerdict, place: u8 },
     N1,
+}
+
+impl StepRefusal {
+    // The number of the row that refuses, 0 for none.
+    pub fn number(self) -> u8
+        ensures { λ r. ⌜ r ≡ numberOf (rowOf self) ⌝ }
+    {
+        match self {
+            StepRefusal::Served => 0,
+            StepRefusal::Bundle { verdict, place: _ } => verdict.number(),
+            StepRefusal::N1 => 1,
+        }
+    }
+
+    // The entry that the row names, or 0.
+    pub fn entry(self) -> u8
+        ensures { λ r. ⌜ r ≡ entryOf (rowOf self) ⌝ }
+    {
+        match self {
+            StepRefusal::Served => 0,
+            StepRefusal::Bundle { verdict: _, place } => place,
+            StepRefusal::N1 => 0,
+        }
+    }
+
+    // A row refuses.
+    pub fn is_refused(self) -> bool
+        ensures { λ r. ⌜ r ≡ isRefused (rowOf self) ⌝ }
+    {
+        match self {
+            StepRefusal::Served => false,
+            StepRefusal::Bundle {
+                verdict: _,
+                place: _,
+            } => true,
+            StepRefusal::N1 => true,
+        }
+    }
 }
 
 // What is sent: nothing, the first 16 bytes of the packet, or all 60.
@@ -21,7 +62,7 @@ pub struct StepAnswer {
     pub refusal: StepRefusal,
     pub sent: Sent,
     // Zero where nothing is sent, and past what is sent.
-    pub packet: [u8; 60],
+    pub packet: [u8; PACKET_SIZE],
     pub host: Host,
 }
 
@@ -32,8 +73,10 @@ pub struct Written {
     pub cursor: usize,
 }
 
-// What the inner step answers: a step, and the place of the record after the one in hand.
-pub struct InnerAnswer {
-    pub step: StepAnswer,
+// What the inner step answers beside the packet that it lays: the row, what is sent, the next record, and the place of the record after the one in hand.
+pub struct Stepped {
+    pub refusal: StepRefusal,
+    pub sent: Sent,
+    pub host: Host,
     pub cursor: usize,
 }

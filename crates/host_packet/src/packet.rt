@@ -18,16 +18,8 @@ use wire_offer::signal::Signal;
 use wire_offer::signal::build_extended;
 use wire_offer::signal::build_information;
 
-// Every byte becomes zero.
-pub(crate) fn clear(packet: &mut [u8])
-    ensures { λ _. ⌜ now (packet .exit) ≡ replicate (length (now (packet .entry))) 0 ⌝ }
-{
-    let mut i = 0;
-    while i < packet.len() {
-        packet[i] = 0;
-        i += 1;
-    }
-}
+// The bytes that are lent for a packet.
+pub const PACKET_SIZE: usize = 60;
 
 // Sixteen bytes at the start of 60.
 fn lay(packet: &mut [u8], p: [u8; 16])
@@ -35,17 +27,14 @@ fn lay(packet: &mut [u8], p: [u8; 16])
     ensures { λ _. ⌜ now (packet .exit) ≡ p ++ replicate 44 0 ⌝ }
 {
     words::copy(&mut packet[0..16], &p);
-    clear(&mut packet[16..60]);
+    words::fill(&mut packet[16..60], 0);
 }
 
 pub(crate) fn information(packet: &mut [u8], code: u8, token: u8)
     requires { ⌜ length (now packet) ≡ 60 ⌝ }
     ensures { λ _. ⌜ now (packet .exit) ≡ informationBytes (record { code = code; token = token }) ++ replicate 44 0 ⌝ }
 {
-    let p = build_information(Signal {
-        code: code,
-        token: token,
-    });
+    let p = build_information(Signal { code, token });
     lay(packet, p);
 }
 
@@ -55,7 +44,7 @@ pub(crate) fn notify(packet: &mut [u8], token: u8)
 {
     let p = build_extended(Signal {
         code: codes::NOTIFY_ON_READY,
-        token: token,
+        token,
     });
     lay(packet, p);
 }
@@ -109,5 +98,5 @@ pub(crate) fn block(
     let h = head(f, size, s, address);
     words::copy(&mut packet[0..8], &h);
     words::copy(&mut packet[8..past], &b[start..end]);
-    clear(&mut packet[past..60]);
+    words::fill(&mut packet[past..60], 0);
 }

@@ -26,7 +26,7 @@ PACKET-LIMIT = 2 ^ 31
 abbrev pub turnBreaks : (n : ℕ) → Turn → Bool
 turnBreaks n t = leb n (t .entry) || ltb BUSY-LIMIT (t .busy)
 
--- N1, where the body in hand has k records: points at an entry or a body record that the bundle lacks; no bundle has an eighth entry
+-- N1, where the body in hand has k records: points at an entry or a body record that the bundle lacks; no bundle has an entry past the limit
 abbrev pub placeBreaks : (n k : ℕ) → Place → Bool
 placeBreaks n k p = leb n (p .entry) || (leb OFFER-LIMIT (p .entry) || leb k (p .block))
 

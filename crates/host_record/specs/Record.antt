@@ -69,6 +69,23 @@ endingOf end.Foreign = H2
 endingOf end.Unexpected = H3
 endingOf end.Busy = H4
 
+-- the number of the row that ends a host, 0 where none has; and the content status of H1, 0 otherwise
+abbrev pub numberOf : Ending → ℕ
+numberOf running = 0
+numberOf done = 0
+numberOf (H1 status) = 1
+numberOf H2 = 2
+numberOf H3 = 3
+numberOf H4 = 4
+
+abbrev pub statusOf : Ending → ℕ
+statusOf running = 0
+statusOf done = 0
+statusOf (H1 status) = status
+statusOf H2 = 0
+statusOf H3 = 0
+statusOf H4 = 0
+
 abbrev pub endingIn : HostStage → Ending
 endingIn Fresh = running
 endingIn Opening = running

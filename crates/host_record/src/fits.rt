@@ -33,10 +33,10 @@ fn body_of(e: Entry) -> Body
 }
 
 // The body of entry i; past the table it is empty.
-pub fn body_at(table: [Entry; 7], i: u32) -> Body
+pub fn body_at(table: [Entry; OFFER_LIMIT], i: u32) -> Body
     ensures { λ r. ⌜ r ≡ bodyOn table i ⌝ }
 {
-    if i < 7 {
+    if i < OFFER_LIMIT as u32 {
         let e = table[i as usize];
         body_of(e)
     } else {
@@ -55,7 +55,7 @@ fn turn_breaks(n: u8, t: Turn) -> bool
     (n as u32 <= t.entry) | (BUSY_LIMIT < t.busy)
 }
 
-// N1: points at an entry or a body record that the bundle lacks; no bundle has an eighth entry.
+// N1: points at an entry or a body record that the bundle lacks; no bundle has an entry past the limit.
 fn place_breaks(n: u8, k: u32, p: Place) -> bool
     ensures { λ r. ⌜ r ≡ placeBreaks n k p ⌝ }
 {

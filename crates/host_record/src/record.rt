@@ -1,6 +1,6 @@
 // The host's record (document 01, "The host").
 ghost use mathlib.Core.Path.{_≡_};
-ghost use Rattle.host_record.specs.Record.{freshHost, endingIn, toldProgress, toldReport, reportOf, sequenceOf};
+ghost use Rattle.host_record.specs.Record.{freshHost, endingOf, numberOf, statusOf, endingIn, toldProgress, toldReport, reportOf, sequenceOf};
 use crate::report::Progress;
 use crate::report::Report;
 
@@ -30,6 +30,34 @@ pub enum End {
     Unexpected,
     // H4: a ninth BUSY for one offer in one pass.
     Busy,
+}
+
+impl End {
+    // The number of the row that ends it, 0 where it is done.
+    pub fn number(self) -> u8
+        ensures { λ r. ⌜ r ≡ numberOf (endingOf self) ⌝ }
+    {
+        match self {
+            End::Done => 0,
+            End::Status(_) => 1,
+            End::Foreign => 2,
+            End::Unexpected => 3,
+            End::Busy => 4,
+        }
+    }
+
+    // The content status of H1, and 0 otherwise.
+    pub fn status(self) -> u8
+        ensures { λ r. ⌜ r ≡ statusOf (endingOf self) ⌝ }
+    {
+        match self {
+            End::Done => 0,
+            End::Status(status) => status,
+            End::Foreign => 0,
+            End::Unexpected => 0,
+            End::Busy => 0,
+        }
+    }
 }
 
 // What the host awaits.
@@ -92,7 +120,7 @@ impl Host {
         ensures { λ r. ⌜ r ≡ freshHost token ⌝ }
     {
         Host {
-            token: token,
+            token,
             stage: HostStage::Fresh,
             mask: 0,
             packets: 0,

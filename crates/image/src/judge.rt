@@ -2,8 +2,9 @@
 use crate::region::Region;
 use crc16::crc16;
 use wire::version::Version;
+use wire::words::least;
 ghost use mathlib.Core.Path.{_≡_};
-ghost use Prim.Native.Nat.{_+_, _*_, min};
+ghost use Prim.Native.Nat.{_+_, _*_};
 ghost use Rattle.image.specs.Judge.{imageIn};
 ghost use Rattle.image.specs.Region.{regionBytes};
 
@@ -21,12 +22,6 @@ fn high_first(high: u8, low: u8) -> u16
     ensures { λ r. ⌜ r ≡ high * 256 + low ⌝ }
 {
     (high as u16) * 256 + (low as u16)
-}
-
-fn least(a: usize, b: usize) -> usize
-    ensures { λ r. ⌜ r ≡ min a b ⌝ }
-{
-    if a <= b { a } else { b }
 }
 
 // What these bytes are, for the component with this id: CRC first, then id, then the version that they bear.

@@ -2,10 +2,11 @@
 // into an offset.
 use wire::address::RegionAddress;
 use wire::words::copy;
+use wire::words::fill;
 ghost use mathlib.Core.Path.{_≡_};
 ghost use Prim.Native.Nat.{_+_, _^_, _≤_, _<_};
 ghost use lib.ListN.{length};
-ghost use Rattle.image.specs.Region.{placeOf, isInside, holds as holdsBytes, blank, put as putBytes, eraseOf, writeOf};
+ghost use Rattle.image.specs.Region.{placeOf, isInside, holds as holdsBytes, put as putBytes, eraseOf, writeOf};
 
 // An offset into the staging buffer.
 pub struct StagingOffset(u32);
@@ -33,17 +34,6 @@ pub struct Region {
 
 // What a byte is after an erase.
 const ERASED: u8 = 0xFF;
-
-// Every byte of d becomes an erased one.
-fn fill(d: &mut [u8])
-    ensures { λ _. ⌜ now (d .exit) ≡ blank (length (now (d .entry))) ⌝ }
-{
-    let mut i = 0;
-    while i < d.len() {
-        d[i] = ERASED;
-        i += 1;
-    }
-}
 
 // The bytes go into the buffer, from the offset on.
 fn put(staging: &mut [u8], place: StagingOffset, bytes: &[u8])
@@ -90,7 +80,7 @@ impl Region {
         let base = self.base.0 as usize;
         let end = ((self.base.0 as u64) + (self.len as u64)) as usize;
         if self.is_inside(staging.len()) {
-            fill(&mut staging[base..end]);
+            fill(&mut staging[base..end], ERASED);
         }
     }
 

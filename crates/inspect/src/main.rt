@@ -1,38 +1,29 @@
 // Reads a bundle from standard input and prints what it contains, or the row that refuses it (document 01, E14).
 use bundle_layout::Entry;
-use bundle_layout::row_number;
+use bundle_layout::limits::OFFER_LIMIT;
 use bundle_report::check_input;
 use bundle_report::line_of;
 use libc::STDIN_FILENO;
-use libc::STDOUT_FILENO;
-
-fn print(words: &[u8]) {
-    io::write_all(STDOUT_FILENO, words);
-}
-
-fn print_number(n: u64) {
-    io::print_decimal(STDOUT_FILENO, n);
-}
+use run_print::number;
+use run_print::rows;
+use run_print::text;
 
 fn print_entry(e: Entry) {
     let line = line_of(e);
-    print_number(line.id as u64);
-    print(b" ");
-    print_number(line.major as u64);
-    print(b".");
-    print_number(line.minor as u64);
-    print(b".");
-    print_number(line.variant as u64);
-    print(b" records ");
-    print_number(line.records as u64);
-    print(b"\n");
+    number(b"", line.id as u32);
+    number(b" ", line.major as u32);
+    number(b".", line.minor as u32);
+    number(b".", line.variant as u32);
+    number(b" records ", line.records);
+    text(b"\n");
 }
 
-fn print_entries(table: [Entry; 7], count: u8) {
-    let mut i: u8 = 0;
-    while i < 7 {
-        if i < count {
-            let e = table[i as usize];
+fn print_entries(table: [Entry; OFFER_LIMIT], count: u8) {
+    let n = count as usize;
+    let mut i = 0;
+    while i < OFFER_LIMIT {
+        if i < n {
+            let e = table[i];
             print_entry(e);
         }
         i += 1;
@@ -46,18 +37,14 @@ fn main() {
     let more = io::read_full(STDIN_FILENO, &mut probe);
     let c = check_input(&buffer[..n], 0 < more);
     let verdict = c.verdict;
-    let row = row_number(verdict);
+    let row = verdict.number();
     if row == 0 {
         let table = c.table;
-        print(b"offers ");
-        print_number(c.count as u64);
-        print(b"\n");
+        number(b"offers ", c.count as u32);
+        text(b"\n");
         print_entries(table, c.count);
     } else {
-        print(b"refused B");
-        print_number(row as u64);
-        print(b" ");
-        print_number(c.place as u64);
-        print(b"\n");
+        rows::refused(row, c.place);
+        text(b"\n");
     }
 }

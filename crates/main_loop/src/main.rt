@@ -2,6 +2,7 @@
 use device::answer::Channel;
 use device::record::Device;
 use device::setup::set_up;
+use device_component::record::Fixed;
 use device_component::record::Listed;
 use firmware::serve_in_place;
 use image::region::Region;
@@ -20,14 +21,12 @@ const TURNS: u64 = 0xFFFF_FFFF_FFFF_FFFF;
 
 // A component of the bench device, with 64 bytes of the staging buffer.
 fn listed(id: u8, running: Version, base: u32) -> Listed {
-    Listed {
-        id,
-        running,
-        region: Region {
-            base: StagingOffset::new(base),
-            len: 64,
-        },
-    }
+    let region = Region {
+        base: StagingOffset::new(base),
+        len: 64,
+    };
+    let fixed = Fixed { id, region };
+    Listed { fixed, running }
 }
 
 // The bench device of document 01: platform 0x0042, two components.

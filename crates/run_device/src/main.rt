@@ -1,12 +1,16 @@
 // Runs a script of frames (tests/device/README.md) against the device end, and prints a line for each frame.
 use device::record::Device;
 use device::setup::set_up;
-use run_print::payload;
+use device_bytes::DEVICE_SIZE;
 use run_print::text;
 use run_script::buffer::fill;
-use run_script::buffer::read_first;
 use run_script::frame;
+use run_script::script::FRAMES;
+use run_script::script::next;
 use run_script::tell;
+use wire::words::byte_at;
+use wire::words::word16_at;
+use wire::words::word32_at;
 
 // What a script runs against, beside the buffer: the record, and how many bytes of the buffer are lent.
 pub struct Bench {
@@ -25,12 +29,12 @@ fn bad_frame(b: Bench) -> Bench {
 }
 
 fn run_set_up(p: &[u8], buffer: &[u8]) -> Bench {
-    let lent = lendable(payload::word32(p, 2, 0));
+    let lent = lendable(word32_at(p, 2));
     let list = frame::list(p);
     let a = set_up(
-        payload::word16(p, 0, 0),
+        word16_at(p, 0),
         list,
-        payload::byte(p, 6, 0),
+        byte_at(p, 6),
         run_print::first(buffer, lent),
     );
     let verdict = a.verdict;
@@ -46,7 +50,7 @@ fn run_version_reply(b: Bench) -> Bench {
     let packet = a.packet;
     text(b"version reply: ");
     tell::refusal(r);
-    if tell::is_served(r) {} else {
+    if r.is_refused() {
         text(b", ");
     }
     run_print::bytes(&packet);
@@ -61,7 +65,7 @@ fn run_reset(b: Bench) -> Bench {
     let device = a.device;
     text(b"reset: ");
     tell::refusal(r);
-    if tell::is_served(r) {
+    if !r.is_refused() {
         text(b"served");
     }
     text(b"\n");
@@ -101,10 +105,9 @@ fn run_content(b: Bench, p: &[u8], buffer: &mut [u8]) -> Bench {
 }
 
 fn run_lend(b: Bench, p: &[u8]) -> Bench {
-    let n = payload::word32(p, 0, 0);
+    let n = word32_at(p, 0);
     let device = b.device;
-    text(b"lent ");
-    run_print::decimal(n as u64);
+    run_print::number(b"lent ", n);
     text(b"\n");
     Bench {
         device,
@@ -128,11 +131,10 @@ fn run_show(b: Bench) -> Bench {
 }
 
 fn run_bytes(b: Bench, p: &[u8], buffer: &[u8]) -> Bench {
-    let at = payload::word32(p, 0, 0);
-    text(b"staging from ");
-    run_print::decimal(at as u64);
+    let at = word32_at(p, 0);
+    run_print::number(b"staging from ", at);
     text(b": ");
-    run_print::bytes(run_print::part(buffer, at as usize, payload::byte(p, 4, 0) as usize));
+    run_print::bytes(run_print::part(buffer, at as usize, byte_at(p, 4) as usize));
     text(b"\n");
     b
 }
@@ -155,7 +157,7 @@ fn run_still(b: Bench, kind: u8, p: &[u8], buffer: &[u8]) -> Bench {
     if (kind == b'L') & (n == 4) {
         return run_lend(b, p);
     }
-    if (kind == b'K') & (n == 140) {
+    if (kind == b'K') & (n == DEVICE_SIZE) {
         return run_record(b, p);
     }
     if (kind == b'D') & (n == 0) {
@@ -184,62 +186,29 @@ fn run_frame(b: Bench, kind: u8, p: &[u8], buffer: &mut [u8]) -> Bench {
         return run_content(b, p, buffer);
     }
     if (kind == b'F') & (p.len() == 1) {
-        run_fill(buffer, payload::byte(p, 0, 0));
+        run_fill(buffer, byte_at(p, 0));
         return b;
     }
     run_still(b, kind, p, buffer)
 }
 
-// What a frame leaves, and whether there was one.
-struct Ran {
-    bench: Bench,
-    more: bool,
-}
-
-fn wide(n: u8) -> usize {
-    n as usize
-}
-
-// The next frame of the input.
-fn run_next(b: Bench, buffer: &mut [u8]) -> Ran {
-    let mut head = [0u8; 2];
-    if read_first(&mut head, 2) {
-        let mut payload = [0u8; 255];
-        if read_first(&mut payload, wide(head[1])) {
-            let bench = run_frame(
-                b,
-                head[0],
-                run_print::first(&payload, wide(head[1])),
-                buffer,
-            );
-            return Ran { bench, more: true };
-        }
-    }
-    Ran {
-        bench: b,
-        more: false,
-    }
-}
-
-// So many frames, or as many as there are.
-fn run_all(b: Bench, buffer: &mut [u8], frames: u32) {
-    let mut bench = b;
-    let mut k = 0;
-    while k < frames {
-        let t = run_next(bench, buffer);
-        if t.more {
-            let next = t.bench;
-            bench = next;
-        } else {
-            return;
-        }
-        k += 1;
-    }
-}
-
 fn main() {
     let mut buffer = [0u8; 65600];
     let device = frame::record(b"");
-    let bench = Bench { device, lent: 0 };
-    run_all(bench, &mut buffer, 1000000);
+    let mut bench = Bench { device, lent: 0 };
+    let mut k: u32 = 0;
+    while k < FRAMES {
+        let mut payload = [0u8; 255];
+        let f = next(&mut payload, 2);
+        if !f.whole {
+            return;
+        }
+        bench = run_frame(
+            bench,
+            f.kind,
+            run_print::first(&payload, f.len),
+            &mut buffer,
+        );
+        k += 1;
+    }
 }

@@ -4,8 +4,8 @@ use host_record::record::Host;
 use host_record::record::HostStage;
 use host_record::record::Place;
 use host_record::record::Turn;
-use run_print::payload::byte;
-use run_print::payload::word32;
+use wire::words::byte_at;
+use wire::words::word32_at;
 
 fn end(code: u8, status: u8) -> End {
     if code == 0 {
@@ -25,9 +25,9 @@ fn end(code: u8, status: u8) -> End {
 
 // The stage by its number, with what it holds.
 fn stage(p: &[u8]) -> HostStage {
-    let kind = byte(p, 1, 0);
-    let entry = word32(p, 2, 0);
-    let count = word32(p, 6, 0);
+    let kind = byte_at(p, 1);
+    let entry = word32_at(p, 2);
+    let count = word32_at(p, 6);
     if kind == 0 {
         return HostStage::Fresh;
     }
@@ -52,19 +52,19 @@ fn stage(p: &[u8]) -> HostStage {
     if kind == 6 {
         return HostStage::Closing;
     }
-    HostStage::Ended(end(byte(p, 2, 0), byte(p, 6, 0)))
+    HostStage::Ended(end(byte_at(p, 2), byte_at(p, 6)))
 }
 
 // A record as it stands in 24 bytes.
 pub fn record(p: &[u8]) -> Host {
     let stage = stage(p);
     Host {
-        token: byte(p, 0, 0),
+        token: byte_at(p, 0),
         stage,
-        mask: word32(p, 10, 0),
-        packets: word32(p, 14, 0),
-        passes: word32(p, 18, 0),
-        skipped: byte(p, 22, 0) == 1,
-        landed: byte(p, 23, 0) == 1,
+        mask: word32_at(p, 10),
+        packets: word32_at(p, 14),
+        passes: word32_at(p, 18),
+        skipped: byte_at(p, 22) == 1,
+        landed: byte_at(p, 23) == 1,
     }
 }

@@ -1,9 +1,12 @@
 // Runs a script of frames (tests/host/README.md) against the host end: a line for each record that is set and for each step.
 use host::step::step;
 use host_record::record::Host;
-use run_print::payload;
 use run_print::text;
-use run_script::buffer::read_first;
+use run_script::script::FRAMES;
+use run_script::script::Frame;
+use run_script::script::next;
+use wire::words::byte_at;
+use wire::words::copy;
 
 mod frame; // frame.rt: a record in the payload of a frame
 mod told; // told.rt: what is printed of a step and of a record
@@ -12,112 +15,64 @@ mod told; // told.rt: what is printed of a step and of a record
 struct Bench {
     host: Host,
     len: usize,
-    // There was a frame.
-    more: bool,
-}
-
-fn run_text(b: Bench, p: &[u8]) -> Bench {
-    text(p);
-    text(b"\n");
-    b
 }
 
 // The record becomes this one.
-fn run_record(b: Bench, host: Host) -> Bench {
+fn set(host: Host) -> Host {
     told::record(host);
-    Bench {
-        host,
-        len: b.len,
-        more: true,
-    }
+    host
 }
 
 // A reply: one step.
-fn run_step(b: Bench, bundle: &[u8], reply: &[u8]) -> Bench {
-    let h = b.host;
-    let a = step(h, run_print::first(bundle, b.len), reply);
+fn run_step(h: Host, bundle: &[u8], reply: &[u8]) -> Host {
+    let a = step(h, bundle, reply);
     told::step(a);
-    let host = a.host;
-    run_record(b, host)
+    set(a.host)
 }
 
-fn run_frame(b: Bench, kind: u8, bundle: &[u8], p: &[u8]) -> Bench {
+// A frame that keeps the bundle.
+fn run_kept(host: Host, kind: u8, bundle: &[u8], p: &[u8]) -> Host {
     if kind == b'#' {
-        return run_text(b, p);
+        text(p);
+        text(b"\n");
+        return host;
     }
     if kind == b'F' {
-        return run_record(b, Host::fresh(payload::byte(p, 0, 0)));
+        return set(Host::fresh(byte_at(p, 0)));
     }
     if kind == b'K' {
-        return run_record(b, frame::record(p));
+        return set(frame::record(p));
     }
-    run_step(b, bundle, p)
+    run_step(host, bundle, p)
 }
 
-// The script is at its end.
-fn at_end(b: Bench) -> Bench {
+// A frame, with its payload at the start of the bytes that were read. The payload of `B` becomes the bundle.
+fn run_frame(b: Bench, f: Frame, read: &[u8], buffer: &mut [u8]) -> Bench {
     let host = b.host;
+    if f.kind == b'B' {
+        copy(buffer, read);
+        return Bench { host, len: f.len };
+    }
+    let bundle = run_print::first(buffer, b.len);
+    let next = run_kept(host, f.kind, bundle, run_print::first(read, f.len));
     Bench {
-        host,
+        host: next,
         len: b.len,
-        more: false,
-    }
-}
-
-// The next n bytes of the input are the bundle of later steps.
-fn run_bundle(b: Bench, bundle: &mut [u8], n: usize) -> Bench {
-    if read_first(bundle, n) {
-        let host = b.host;
-        return Bench {
-            host,
-            len: n,
-            more: true,
-        };
-    }
-    at_end(b)
-}
-
-fn run_payload(b: Bench, kind: u8, bundle: &[u8], n: usize) -> Bench {
-    let mut payload = [0u8; 256];
-    if read_first(&mut payload, n) {
-        return run_frame(b, kind, bundle, run_print::first(&payload, n));
-    }
-    at_end(b)
-}
-
-// The next frame of the input: its kind, its length in two bytes, and its payload.
-fn run_next(b: Bench, bundle: &mut [u8]) -> Bench {
-    let mut head = [0u8; 3];
-    if read_first(&mut head, 3) {
-        let n = payload::word16(&head, 1, 0) as usize;
-        if head[0] == b'B' {
-            return run_bundle(b, bundle, n);
-        }
-        return run_payload(b, head[0], bundle, n);
-    }
-    at_end(b)
-}
-
-// So many frames, or as many as there are.
-fn run_all(first: Bench, bundle: &mut [u8], frames: u32) {
-    let mut bench = first;
-    let mut k = 0;
-    while k < frames {
-        bench = run_next(bench, bundle);
-        if bench.more {} else {
-            return;
-        }
-        k += 1;
     }
 }
 
 fn main() {
-    let mut bundle = [0u8; 2048];
+    let mut buffer = [0u8; 2048];
     let host = Host::fresh(0);
-    let bench = Bench {
-        host,
-        len: 0,
-        more: true,
-    };
-    run_all(bench, &mut bundle, 1000000);
+    let mut bench = Bench { host, len: 0 };
+    let mut k: u32 = 0;
+    while k < FRAMES {
+        let mut payload = [0u8; 2048];
+        let f = next(&mut payload, 3);
+        if !f.whole {
+            return;
+        }
+        bench = run_frame(bench, f, &payload, &mut buffer);
+        k += 1;
+    }
 }

@@ -1,18 +1,12 @@
 // What is printed of a step and of a record.
-use bundle_layout::row_number;
 use host_packet::answer::Sent;
 use host_packet::answer::StepAnswer;
 use host_packet::answer::StepRefusal;
-use host_record::record::End;
 use host_record::record::Host;
 use host_record::record::HostStage;
-use run_print::decimal;
+use run_print::number;
+use run_print::rows;
 use run_print::text;
-
-fn number(name: &[u8], n: u32) {
-    text(name);
-    decimal(n as u64);
-}
 
 fn numbers(name: &[u8], a: u32, other: &[u8], b: u32) {
     number(name, a);
@@ -23,7 +17,7 @@ fn refusal(r: StepRefusal) {
     match r {
         StepRefusal::Served => {}
         StepRefusal::Bundle { verdict, place } => {
-            numbers(b"refused B", row_number(verdict) as u32, b" ", place as u32);
+            rows::refused(verdict.number(), place);
             text(b", ");
         }
         StepRefusal::N1 => text(b"refused N1, "),
@@ -49,16 +43,6 @@ pub fn step(a: StepAnswer) {
     text(b"; ");
 }
 
-fn end(e: End) {
-    match e {
-        End::Done => text(b"done"),
-        End::Status(s) => number(b"H1 status ", s as u32),
-        End::Foreign => text(b"H2"),
-        End::Unexpected => text(b"H3"),
-        End::Busy => text(b"H4"),
-    }
-}
-
 fn stage(s: HostStage) {
     match s {
         HostStage::Fresh => text(b"fresh"),
@@ -68,7 +52,7 @@ fn stage(s: HostStage) {
         HostStage::Waiting(t) => numbers(b"waiting ", t.entry, b" busy ", t.busy),
         HostStage::Sending(p) => numbers(b"sending ", p.entry, b" block ", p.block),
         HostStage::Closing => text(b"closing"),
-        HostStage::Ended(e) => end(e),
+        HostStage::Ended(e) => rows::end(e.number(), e.status()),
     }
 }
 

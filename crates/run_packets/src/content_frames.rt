@@ -1,11 +1,11 @@
 // The content channel. To build content: flags, length, sequence (2), address (4), data (52). A reply: sequence (2), status.
 use run_print::line;
 use run_print::names;
-use run_print::payload::byte;
-use run_print::payload::word16;
-use run_print::payload::word32;
 use wire::address::RegionAddress;
 use wire::words;
+use wire::words::byte_at;
+use wire::words::word16_at;
+use wire::words::word32_at;
 use wire_content::content::ContentFields;
 use wire_content::reply::ContentReply;
 
@@ -24,10 +24,10 @@ pub fn build(p: &[u8]) {
     let mut data = [0u8; 52];
     words::copy(&mut data, run_print::part(p, 8, 52));
     let c = ContentFields {
-        flags: byte(p, 0, 0),
-        length: byte(p, 0, 1),
-        sequence: word16(p, 0, 2),
-        address: RegionAddress::new(word32(p, 0, 4)),
+        flags: byte_at(p, 0),
+        length: byte_at(p, 1),
+        sequence: word16_at(p, 2),
+        address: RegionAddress::new(word32_at(p, 4)),
         data: data,
     };
     fields(c);
@@ -53,8 +53,8 @@ fn reply(r: ContentReply) {
 
 pub fn build_reply(p: &[u8]) {
     let r = ContentReply {
-        sequence: word16(p, 0, 0),
-        status: byte(p, 0, 2),
+        sequence: word16_at(p, 0),
+        status: byte_at(p, 2),
     };
     reply(r);
     line::packet(wire_content::reply::build_content_reply(r));

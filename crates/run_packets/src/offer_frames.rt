@@ -2,11 +2,11 @@
 // platform (2). An information or extended packet: code, token. A reply: token, reason, status.
 use run_print::line;
 use run_print::names;
-use run_print::payload::byte;
-use run_print::payload::version;
-use run_print::payload::word16;
-use run_print::payload::word32;
 use wire::verdict::Verdict;
+use wire::version::Version;
+use wire::words::byte_at;
+use wire::words::word16_at;
+use wire::words::word32_at;
 use wire_offer::kind::OfferPacket;
 use wire_offer::offer::OfferFields;
 use wire_offer::reply::OfferReply;
@@ -30,16 +30,16 @@ fn fields(k: usize, o: OfferFields) {
 
 pub fn build(p: &[u8]) {
     let o = OfferFields {
-        segment: byte(p, 0, 0),
-        force_immediate_reset: byte(p, 0, 1) != 0,
-        force_ignore_version: byte(p, 0, 2) != 0,
-        id: byte(p, 0, 3),
-        token: byte(p, 0, 4),
-        version: version(p, 0, 5),
-        need: byte(p, 0, 9),
-        least: word32(p, 0, 10),
-        protocol: byte(p, 0, 14),
-        platform: word16(p, 0, 15),
+        segment: byte_at(p, 0),
+        force_immediate_reset: byte_at(p, 1) != 0,
+        force_ignore_version: byte_at(p, 2) != 0,
+        id: byte_at(p, 3),
+        token: byte_at(p, 4),
+        version: Version::read_at(p, 5),
+        need: byte_at(p, 9),
+        least: word32_at(p, 10),
+        protocol: byte_at(p, 14),
+        platform: word16_at(p, 15),
     };
     fields(names::NOTHING, o);
     let b = wire_offer::offer::build_offer(o);
@@ -57,8 +57,8 @@ fn signal(k: usize, s: Signal) {
 
 pub fn build_signal(p: &[u8], extended: bool) {
     let s = Signal {
-        code: byte(p, 0, 0),
-        token: byte(p, 0, 1),
+        code: byte_at(p, 0),
+        token: byte_at(p, 1),
     };
     signal(names::NOTHING, s);
     if extended {
@@ -88,9 +88,9 @@ fn reply(r: OfferReply) {
 
 pub fn build_reply(p: &[u8]) {
     let r = OfferReply {
-        token: byte(p, 0, 0),
-        reason: byte(p, 0, 1),
-        status: byte(p, 0, 2),
+        token: byte_at(p, 0),
+        reason: byte_at(p, 1),
+        status: byte_at(p, 2),
     };
     reply(r);
     line::packet(wire_offer::reply::build_offer_reply(r));

@@ -7,8 +7,8 @@ use crate::offer_frames;
 use crate::version_frames;
 use run_print::line;
 use run_print::names;
-use run_print::payload::byte;
 use wire::verdict::Verdict;
+use wire::words::byte_at;
 
 // How many bytes a payload of this kind has, where a packet is built; n otherwise.
 fn payload(kind: u8, n: usize) -> usize {
@@ -69,11 +69,11 @@ fn frame(s: &[u8]) -> usize
     ensures { λ r. ⌜ (0 < r) × (r ≤ length (now (s .entry))) ⌝ }
 {
     let n = s.len();
-    let end = 2 + byte(s, 1, 0) as usize;
+    let end = 2 + byte_at(s, 1) as usize;
     if n < end {
         return n;
     }
-    answer(byte(s, 0, 0), &s[2..end]);
+    answer(byte_at(s, 0), &s[2..end]);
     end
 }
 

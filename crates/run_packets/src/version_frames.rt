@@ -1,14 +1,15 @@
-// The version reply. To build: count, protocol, and seven times version (4), id, platform (2).
+// The version reply. To build: count, protocol, and for each of the seven components version (4), id, platform (2).
 use run_print::line;
 use run_print::names;
-use run_print::payload::byte;
-use run_print::payload::version;
-use run_print::payload::word16;
+use wire::codes::COMPONENT_LIMIT;
+use wire::version::Version;
+use wire::words::byte_at;
+use wire::words::word16_at;
 use wire_version::Running;
 use wire_version::VersionReply;
 
-fn component(es: [Running; 7], i: usize) {
-    if i < 7 {
+fn component(es: [Running; COMPONENT_LIMIT], i: usize) {
+    if i < COMPONENT_LIMIT {
         let e = es[i];
         line::hex8(names::COMPONENT, e.id);
         let version = e.version;
@@ -32,9 +33,9 @@ fn fields(r: VersionReply) {
 
 fn component_in(p: &[u8], at: u8) -> Running {
     Running {
-        version: version(p, at, 0),
-        id: byte(p, at, 4),
-        platform: word16(p, at, 5),
+        version: Version::read_at(p, at as u16),
+        id: byte_at(p, at as usize + 4),
+        platform: word16_at(p, at as u16 + 5),
     }
 }
 
@@ -49,8 +50,8 @@ pub fn build(p: &[u8]) {
         component_in(p, 44),
     ];
     let r = VersionReply {
-        count: byte(p, 0, 0),
-        protocol: byte(p, 0, 1),
+        count: byte_at(p, 0),
+        protocol: byte_at(p, 1),
         components: es,
     };
     fields(r);

@@ -1,7 +1,7 @@
-// What the programs read frames and print lines with: words, numbers, bytes, versions. Nothing here decides anything.
+// What the programs print lines with: words, numbers, bytes, versions. Nothing here decides anything.
 pub mod names; // names.rt: the words of a line, by number
 pub mod line; // line.rt: words and numbers behind them
-pub mod payload; // payload.rt: numbers in the payload of a frame
+pub mod rows; // rows.rt: the row of a bundle, and how a host's session ends
 
 use libc::STDOUT_FILENO;
 use wire::version::Version;
@@ -12,6 +12,12 @@ pub fn text(s: &[u8]) {
 
 pub fn decimal(n: u64) {
     io::print_decimal(STDOUT_FILENO, n);
+}
+
+// A number behind its name.
+pub fn number(name: &[u8], n: u32) {
+    text(name);
+    decimal(n as u64);
 }
 
 pub fn hex(n: u64, digits: usize) {

@@ -6,11 +6,13 @@ use device::record::Device;
 use device_component::record::Component;
 use device_component::record::Staged;
 use device_component::setup::SetupVerdict;
+use device_session::effect::Replies;
 use device_session::owed::Owed;
 use device_session::stage::Stage;
 use run_print::bytes;
-use run_print::decimal;
+use run_print::number;
 use run_print::text;
+use wire::codes::COMPONENT_LIMIT;
 
 pub fn set_up(v: SetupVerdict) {
     match v {
@@ -32,15 +34,6 @@ pub fn refusal(r: Refusal) {
     }
 }
 
-pub fn is_served(r: Refusal) -> bool {
-    match r {
-        Refusal::Served => true,
-        Refusal::D1 => false,
-        Refusal::D2 => false,
-        Refusal::D3 => false,
-    }
-}
-
 // The READY that follows the reply.
 fn follows(ready: Owed) {
     match ready {
@@ -53,22 +46,29 @@ fn follows(ready: Owed) {
     }
 }
 
+// What is sent after a served call.
+fn sent(r: Replies) {
+    let reply = r.reply;
+    let ready = r.ready;
+    if r.due {
+        text(b"reply ");
+        bytes(&reply);
+        follows(ready);
+    } else {
+        text(b"no reply");
+    }
+}
+
 pub fn answer(a: Answer) {
     let r = a.refusal;
-    let reply = a.reply;
-    let ready = a.ready;
-    if is_served(r) {
-        if a.due {
-            text(b"reply ");
-            bytes(&reply);
-            follows(ready);
-        } else {
-            text(b"no reply");
-        }
-    } else {
+    let replies = a.replies;
+    if r.is_refused() {
+        let reply = replies.reply;
         refusal(r);
         text(b", ");
         bytes(&reply);
+    } else {
+        sent(replies);
     }
     text(b"\n");
 }
@@ -77,18 +77,15 @@ fn stage(s: Stage) {
     match s {
         Stage::Idle => text(b"idle"),
         Stage::Offered(o) => {
-            text(b"offered slot ");
-            decimal(o.slot as u64);
+            number(b"offered slot ", o.slot as u32);
             text(b" token ");
             run_print::byte(o.token);
         }
         Stage::Receiving(r) => {
-            text(b"receiving slot ");
-            decimal(r.slot as u64);
+            number(b"receiving slot ", r.slot as u32);
             text(b" token ");
             run_print::byte(r.token);
-            text(b" next ");
-            decimal(r.next as u64);
+            number(b" next ", r.next as u32);
         }
     }
 }
@@ -104,18 +101,16 @@ fn owed(o: Owed) {
 }
 
 fn component(c: Component) {
-    let region = c.region;
+    let fixed = c.fixed;
+    let region = fixed.region;
     let base = region.base;
     let running = c.running;
     let staged = c.staged;
-    text(b"; ");
-    decimal(c.id as u64);
+    number(b"; ", fixed.id as u32);
     text(b" at ");
     run_print::version(running);
-    text(b" in ");
-    decimal(base.number() as u64);
-    text(b"+");
-    decimal(region.len as u64);
+    number(b" in ", base.number());
+    number(b"+", region.len);
     match staged {
         Staged::Nothing => {}
         Staged::Pending(v) => {
@@ -127,19 +122,19 @@ fn component(c: Component) {
 
 fn listed(d: Device, slot: u8) {
     let components = d.components;
-    if (slot < d.count) & (slot < 7) {
-        let c = components[(slot % 7) as usize];
+    if (slot < d.count) & (slot < COMPONENT_LIMIT as u8) {
+        let c = components[(slot % COMPONENT_LIMIT as u8) as usize];
         component(c);
     }
 }
 
 pub fn record(d: Device) {
-    let s = d.stage;
-    let o = d.owed;
+    let session = d.session;
+    let s = session.stage;
+    let o = session.owed;
     text(b"record: platform ");
     run_print::hex(d.platform as u64, 4);
-    text(b", staging ");
-    decimal(d.staging_len as u64);
+    number(b", staging ", d.staging_len);
     text(b", ");
     stage(s);
     text(b", ");

@@ -1,5 +1,6 @@
 // Runs the bundle of standard input as often as its argument says, each time against the same fresh device, and prints the last report (tests/time).
 use device::setup::set_up;
+use device_component::record::Fixed;
 use device_component::record::Listed;
 use host_record::record::End;
 use host_record::report::Progress;
@@ -7,8 +8,8 @@ use host_record::report::Report;
 use image::region::Region;
 use image::region::StagingOffset;
 use libc::STDIN_FILENO;
-use run_print::decimal;
 use run_print::text;
+use wire::codes::COMPONENT_LIMIT;
 use wire::version::Version;
 
 // A decimal number with one more digit; what is no digit, or too much, is passed over.
@@ -36,22 +37,20 @@ fn number(s: &[u8]) -> u32 {
 
 // Component 1 runs 1.0.0 and has the whole staging buffer.
 fn listed() -> Listed {
+    let region = Region {
+        base: StagingOffset::new(0),
+        len: 64,
+    };
+    let fixed = Fixed { id: 1, region };
     let running = Version::new(1, 0, 0);
-    Listed {
-        id: 1,
-        running,
-        region: Region {
-            base: StagingOffset::new(0),
-            len: 64,
-        },
-    }
+    Listed { fixed, running }
 }
 
 // One run, from a fresh device and a staging buffer of zeros.
 fn run_once(bundle: &[u8], token: u8) -> Report {
     let mut staging = [0u8; 64];
     let one = listed();
-    let made = set_up(0x0042, [one; 7], 1, &staging);
+    let made = set_up(0x0042, [one; COMPONENT_LIMIT], 1, &staging);
     let device = made.device;
     let a = update::run(bundle, token, device, &mut staging);
     a.report
@@ -88,12 +87,9 @@ fn print(r: Report) {
     } else {
         text(b"not done");
     }
-    text(b", packets ");
-    decimal(r.packets as u64);
-    text(b", passes ");
-    decimal(r.passes as u64);
-    text(b", completed ");
-    decimal(r.completed as u64);
+    run_print::number(b", packets ", r.packets);
+    run_print::number(b", passes ", r.passes);
+    run_print::number(b", completed ", r.completed);
     text(b"\n");
 }
 

@@ -7,6 +7,7 @@ use device_session::stage::Stage;
 use host_record::record::End;
 use host_record::report::Progress;
 use host_record::report::Report;
+use wire::codes::COMPONENT_LIMIT;
 
 fn end_number(e: End) -> u16 {
     match e {
@@ -45,13 +46,15 @@ fn staged_number(s: Staged) -> u64 {
 fn components(a: Component, b: Component) -> bool {
     let running = a.running;
     let other = b.running;
-    let region = a.region;
-    let place = b.region;
+    let fixed = a.fixed;
+    let set = b.fixed;
+    let region = fixed.region;
+    let place = set.region;
     let base = region.base;
     let start = place.base;
     let s = a.staged;
     let t = b.staged;
-    (a.id == b.id)
+    (fixed.id == set.id)
         & (running.number() == other.number())
         & (base.number() == start.number())
         & (region.len == place.len)
@@ -62,7 +65,7 @@ fn components(a: Component, b: Component) -> bool {
 fn slots(a: Device, b: Device, slot: u8) -> bool {
     let p = a.components;
     let q = b.components;
-    if slot < 7 {
+    if slot < COMPONENT_LIMIT as u8 {
         let x = p[slot as usize];
         let y = q[slot as usize];
         return components(x, y);
@@ -88,10 +91,12 @@ fn owed_number(o: Owed) -> u16 {
 }
 
 pub fn devices(a: Device, b: Device) -> bool {
-    let s = a.stage;
-    let t = b.stage;
-    let o = a.owed;
-    let p = b.owed;
+    let one = a.session;
+    let two = b.session;
+    let s = one.stage;
+    let t = two.stage;
+    let o = one.owed;
+    let p = two.owed;
     (a.platform == b.platform)
         & (a.staging_len == b.staging_len)
         & (a.count == b.count)

@@ -2,16 +2,18 @@
 // same by `run`, and whether both come to the same.
 use device::answer::Channel;
 use device::record::Device;
+use device_bytes::DEVICE_SIZE;
 use host::step::step;
 use host_packet::answer::Sent;
 use host_record::record::Host;
-use run_print::payload;
 use run_print::text;
 use run_script::buffer::fill;
-use run_script::buffer::read_first;
 use run_script::frame;
+use run_script::script::FRAMES;
+use run_script::script::next;
 use run_script::tell;
 use update::RunAnswer;
+use wire::words::byte_at;
 
 mod compare; // compare.rt: two records alike
 mod told; // told.rt: what is printed of a run
@@ -41,11 +43,12 @@ fn answer(host: Host, d: Device, channel: Channel, packet: &[u8], staging: &mut 
     let a = d.serve(channel, staging, packet);
     told::answer(packet.len(), a);
     let device = a.device;
-    let reply = a.reply;
+    let replies = a.replies;
+    let reply = replies.reply;
     Turn {
         host,
         device,
-        due: a.due,
+        due: replies.due,
         reply,
         more: true,
     }
@@ -151,21 +154,25 @@ fn both_lent(bundle: &[u8], token: u8, device: Device, one: &mut [u8], two: &mut
     }
 }
 
-// A case: token, the byte that the staging buffer is filled with, the record in 140 bytes, and the bundle.
+// Where the record stands in a case, behind the token and the byte that the staging buffer is filled with; and the bundle behind it.
+const RECORD_AT: usize = 2;
+
+const BUNDLE_AT: usize = RECORD_AT + DEVICE_SIZE;
+
 fn run_case(p: &[u8]) {
     let mut one = [0u8; 512];
     let mut two = [0u8; 512];
-    fill(&mut one, payload::byte(p, 1, 0));
-    fill(&mut two, payload::byte(p, 1, 0));
-    let device = frame::record(run_print::part(p, 2, 140));
-    if 142 <= p.len() {
+    fill(&mut one, byte_at(p, 1));
+    fill(&mut two, byte_at(p, 1));
+    let device = frame::record(run_print::part(p, RECORD_AT, DEVICE_SIZE));
+    if BUNDLE_AT <= p.len() {
         both_lent(
-            run_print::part(p, 142, p.len() - 142),
-            payload::byte(p, 0, 0),
+            run_print::part(p, BUNDLE_AT, p.len() - BUNDLE_AT),
+            byte_at(p, 0),
             device,
             &mut one,
             &mut two,
-            payload::word32(p, 4, 0) as usize,
+            device.staging_len as usize,
         );
     }
 }
@@ -179,27 +186,15 @@ fn run_frame(kind: u8, p: &[u8]) {
     }
 }
 
-// The next frame of the input: its kind, its length in two bytes, and its payload. False where there is none.
-fn run_next() -> bool {
-    let mut head = [0u8; 3];
-    let mut payload = [0u8; 2048];
-    if read_first(&mut head, 3) {
-        let n = payload::word16(&head, 1, 0) as usize;
-        if read_first(&mut payload, n) {
-            run_frame(head[0], run_print::first(&payload, n));
-            return true;
-        }
-    }
-    false
-}
-
 fn main() {
     let mut k: u32 = 0;
-    while k < 1000000 {
-        if run_next() {
-            k += 1;
-        } else {
+    while k < FRAMES {
+        let mut payload = [0u8; 2048];
+        let f = next(&mut payload, 3);
+        if !f.whole {
             return;
         }
+        run_frame(f.kind, run_print::first(&payload, f.len));
+        k += 1;
     }
 }

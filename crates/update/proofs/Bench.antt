@@ -1,5 +1,6 @@
 -- E13 in both orders, by computation. Assumes nothing.
 use mathlib.Core.Path.{refl}
+use mathlib.Core.List.{flatten}
 use native.Mathlib.Omega.{arith}
 use lib.ListN.{replicate}
 use Rattle.wire.specs.Checks.{firstOf, any, pairs}
@@ -17,10 +18,10 @@ use Rattle.device_component.specs.Lists.{firstFrom, find}
 use Rattle.device_component.specs.Setup.{badIds, badRegions, setupVerdict}
 use Rattle.bundle_layout.specs.Layout.{entriesFrom, entriesIn, bodyIn}
 use Rattle.bundle_layout.specs.Rows.{firstEntry, rowB5, repeated, rowB6, gap, rowB7, rowB8, bundleRow}
-use Rattle.bundle.specs.Contents.{joined, tableBytes, bundleBytes}
+use Rattle.bundle.specs.Contents.{tableBytes, bundleBytes}
 use Rattle.device.specs.Record.{FitsDevice}
-use Rattle.device.specs.Record as record-of
 use Rattle.device_session.specs.Sound.{breaksD1}
+use Rattle.device_session.proofs.effect.Laws.{idle-fits}
 use Rattle.device_offering.specs.Offer.{rejections, needUnmet, offerVerdict, onOffer}
 use Rattle.device_offering.specs.Signal.{onInformation}
 use Rattle.device_receiving.specs.Content.{contentVerdict, takeBlock}
@@ -56,13 +57,12 @@ bench-fits = record {
           (blank-fits, (blank-fits, (blank-fits, (blank-fits, (blank-fits, tt))))),
         ),
       );
-  stage = tt;
-  owed = tt;
+  session = idle-fits;
 }
 
 -- each run, by computation
 pub one-first : OneFirst
-unfolding firstOf any pairs bitStep bitSteps byteStep crcFrom crcOf joined tableBytes bundleBytes written placed image headIn parse entriesFrom entriesIn bodyIn firstEntry rowB5 repeated rowB6 gap rowB7 rowB8 bundleRow offer.fieldsIn kindIn content.fieldsIn content.cleared content.contentBytes within regionBytes blank put eraseOf writeOf imageIn firstFrom find badIds badRegions setupVerdict breaksD1 refusalOf rejections needUnmet offerVerdict onOffer onInformation offerEntry contentVerdict takeBlock finish onBlock contentEntry contentStaging serveEntry serveStaging table act hears hearsBlock decideIn breaksN1 packetOf stepOn stepOf deliver exchange run recordsFrom passesIn writes imageOf
+unfolding firstOf any pairs bitStep bitSteps byteStep crcFrom crcOf flatten tableBytes bundleBytes written placed image headIn parse entriesFrom entriesIn bodyIn firstEntry rowB5 repeated rowB6 gap rowB7 rowB8 bundleRow offer.fieldsIn kindIn content.fieldsIn content.cleared content.contentBytes within regionBytes blank put eraseOf writeOf imageIn firstFrom find badIds badRegions setupVerdict breaksD1 refusalOf rejections needUnmet offerVerdict onOffer onInformation offerEntry contentVerdict takeBlock finish onBlock contentEntry contentStaging serveEntry serveStaging table act hears hearsBlock decideIn breaksN1 packetOf stepOn stepOf deliver exchange run recordsFrom passesIn writes imageOf
 one-first = record {
   size = refl;
   accepted = refl;
@@ -85,7 +85,7 @@ one-first = record {
 }
 
 pub two-first : TwoFirst
-unfolding firstOf any pairs bitStep bitSteps byteStep crcFrom crcOf joined tableBytes bundleBytes written placed image headIn parse entriesFrom entriesIn bodyIn firstEntry rowB5 repeated rowB6 gap rowB7 rowB8 bundleRow offer.fieldsIn kindIn content.fieldsIn content.cleared content.contentBytes within regionBytes blank put eraseOf writeOf imageIn firstFrom find badIds badRegions setupVerdict breaksD1 refusalOf rejections needUnmet offerVerdict onOffer onInformation offerEntry contentVerdict takeBlock finish onBlock contentEntry contentStaging serveEntry serveStaging table act hears hearsBlock decideIn breaksN1 packetOf stepOn stepOf deliver exchange run recordsFrom passesIn writes imageOf
+unfolding firstOf any pairs bitStep bitSteps byteStep crcFrom crcOf flatten tableBytes bundleBytes written placed image headIn parse entriesFrom entriesIn bodyIn firstEntry rowB5 repeated rowB6 gap rowB7 rowB8 bundleRow offer.fieldsIn kindIn content.fieldsIn content.cleared content.contentBytes within regionBytes blank put eraseOf writeOf imageIn firstFrom find badIds badRegions setupVerdict breaksD1 refusalOf rejections needUnmet offerVerdict onOffer onInformation offerEntry contentVerdict takeBlock finish onBlock contentEntry contentStaging serveEntry serveStaging table act hears hearsBlock decideIn breaksN1 packetOf stepOn stepOf deliver exchange run recordsFrom passesIn writes imageOf
 two-first = record {
   size = refl;
   accepted = refl;

@@ -1,8 +1,10 @@
 -- The chain of seven, the mixed case and the need cycle, by computation. Assumes nothing.
 use mathlib.Core.Path.{refl}
-use Prim.Native.Nat.{ℕ, _*_, _-_, _<_}
+use mathlib.Core.List.{flatten}
+use Prim.Native.Nat.{ℕ, _*_, _-_, _≤_}
 use native.Mathlib.Omega.{arith}
 use lib.ListN.{replicate}
+use Rattle.wire.specs.Codes.{COMPONENT-LIMIT}
 use Rattle.wire.specs.Checks.{firstOf, any, pairs}
 use Rattle.wire.proofs.Tests.{all-bytes}
 use Rattle.crc16.specs.Crc.{bitStep, bitSteps, byteStep, crcFrom, crcOf}
@@ -19,10 +21,10 @@ use Rattle.device_component.specs.Lists.{firstFrom, find}
 use Rattle.device_component.specs.Setup.{badIds, badRegions, setupVerdict}
 use Rattle.bundle_layout.specs.Layout.{entriesFrom, entriesIn, bodyIn}
 use Rattle.bundle_layout.specs.Rows.{firstEntry, rowB5, repeated, rowB6, gap, rowB7, rowB8, bundleRow}
-use Rattle.bundle.specs.Contents.{joined, tableBytes, bundleBytes}
+use Rattle.bundle.specs.Contents.{tableBytes, bundleBytes}
 use Rattle.device.specs.Record.{FitsDevice}
-use Rattle.device.specs.Record as record-of
 use Rattle.device_session.specs.Sound.{breaksD1}
+use Rattle.device_session.proofs.effect.Laws.{idle-fits}
 use Rattle.device_offering.specs.Offer.{rejections, needUnmet, offerVerdict, onOffer}
 use Rattle.device_offering.specs.Signal.{onInformation}
 use Rattle.device_receiving.specs.Content.{contentVerdict, takeBlock}
@@ -47,7 +49,7 @@ use Rattle.update.specs.Bench.{placed}
 use Rattle.update.specs.Cases.{at100, image16, seven, chain, mixed, tangle, ChainReaches, MixedDevice, MixedStaging, MixedRuns, CycleStops}
 
 -- a component of the cases
-at100-fits : (id : ℕ) → id < 8 → FitsComponent (at100 id)
+at100-fits : (id : ℕ) → id ≤ COMPONENT-LIMIT → FitsComponent (at100 id)
 at100-fits id h = component-fits id 16777216 (16 * (id - 1)) 16 Nothing (omega arith) (omega arith) (omega arith) (omega arith) tt
 
 seven-fits : FitsDevice seven
@@ -70,8 +72,7 @@ seven-fits = record {
           ),
         ),
       );
-  stage = tt;
-  owed = tt;
+  session = idle-fits;
 }
 
 mixed-fits : FitsDevice mixed
@@ -88,16 +89,15 @@ mixed-fits = record {
           (at100-fits 3 (omega arith), (at100-fits 4 (omega arith), (blank-fits, (blank-fits, (blank-fits, tt))))),
         ),
       );
-  stage = (omega arith, omega arith, omega arith);
-  owed = omega arith;
+  session = record { stage = (omega arith, omega arith, omega arith); owed = omega arith };
 }
 
 pub cycle-stops : CycleStops
-unfolding firstOf any pairs bitStep bitSteps byteStep crcFrom crcOf joined tableBytes bundleBytes written placed headIn parse entriesFrom entriesIn bodyIn firstEntry rowB5 repeated rowB6 gap rowB7 rowB8 bundleRow offer.fieldsIn kindIn content.fieldsIn content.cleared content.contentBytes within regionBytes blank put eraseOf writeOf imageIn firstFrom find badIds badRegions setupVerdict breaksD1 refusalOf rejections needUnmet offerVerdict onOffer onInformation offerEntry contentVerdict takeBlock finish onBlock contentEntry contentStaging serveEntry serveStaging table act hears hearsBlock decideIn breaksN1 packetOf stepOn stepOf deliver exchange run recordsFrom passesIn writes imageOf image16
+unfolding firstOf any pairs bitStep bitSteps byteStep crcFrom crcOf flatten tableBytes bundleBytes written placed headIn parse entriesFrom entriesIn bodyIn firstEntry rowB5 repeated rowB6 gap rowB7 rowB8 bundleRow offer.fieldsIn kindIn content.fieldsIn content.cleared content.contentBytes within regionBytes blank put eraseOf writeOf imageIn firstFrom find badIds badRegions setupVerdict breaksD1 refusalOf rejections needUnmet offerVerdict onOffer onInformation offerEntry contentVerdict takeBlock finish onBlock contentEntry contentStaging serveEntry serveStaging table act hears hearsBlock decideIn breaksN1 packetOf stepOn stepOf deliver exchange run recordsFrom passesIn writes imageOf image16
 cycle-stops = record { done = refl; passes = refl; packets = refl }
 
 pub chain-reaches : ChainReaches
-unfolding firstOf any pairs bitStep bitSteps byteStep crcFrom crcOf joined tableBytes bundleBytes written placed headIn parse entriesFrom entriesIn bodyIn firstEntry rowB5 repeated rowB6 gap rowB7 rowB8 bundleRow offer.fieldsIn kindIn content.fieldsIn content.cleared content.contentBytes within regionBytes blank put eraseOf writeOf imageIn firstFrom find badIds badRegions setupVerdict breaksD1 refusalOf rejections needUnmet offerVerdict onOffer onInformation offerEntry contentVerdict takeBlock finish onBlock contentEntry contentStaging serveEntry serveStaging table act hears hearsBlock decideIn breaksN1 packetOf stepOn stepOf deliver exchange run recordsFrom passesIn writes imageOf image16
+unfolding firstOf any pairs bitStep bitSteps byteStep crcFrom crcOf flatten tableBytes bundleBytes written placed headIn parse entriesFrom entriesIn bodyIn firstEntry rowB5 repeated rowB6 gap rowB7 rowB8 bundleRow offer.fieldsIn kindIn content.fieldsIn content.cleared content.contentBytes within regionBytes blank put eraseOf writeOf imageIn firstFrom find badIds badRegions setupVerdict breaksD1 refusalOf rejections needUnmet offerVerdict onOffer onInformation offerEntry contentVerdict takeBlock finish onBlock contentEntry contentStaging serveEntry serveStaging table act hears hearsBlock decideIn breaksN1 packetOf stepOn stepOf deliver exchange run recordsFrom passesIn writes imageOf image16
 chain-reaches = record {
   premise = record {
     small = omega arith;
@@ -116,7 +116,7 @@ chain-reaches = record {
 }
 
 mixed-premise : Premise tangle 7 mixed (replicate 64 0)
-unfolding firstOf any pairs bitStep bitSteps byteStep crcFrom crcOf joined tableBytes bundleBytes written placed headIn parse entriesFrom entriesIn bodyIn firstEntry rowB5 repeated rowB6 gap rowB7 rowB8 bundleRow offer.fieldsIn kindIn content.fieldsIn content.cleared content.contentBytes within regionBytes blank put eraseOf writeOf imageIn firstFrom find badIds badRegions setupVerdict breaksD1 refusalOf rejections needUnmet offerVerdict onOffer onInformation offerEntry contentVerdict takeBlock finish onBlock contentEntry contentStaging serveEntry serveStaging table act hears hearsBlock decideIn breaksN1 packetOf stepOn stepOf deliver exchange run recordsFrom passesIn writes imageOf image16
+unfolding firstOf any pairs bitStep bitSteps byteStep crcFrom crcOf flatten tableBytes bundleBytes written placed headIn parse entriesFrom entriesIn bodyIn firstEntry rowB5 repeated rowB6 gap rowB7 rowB8 bundleRow offer.fieldsIn kindIn content.fieldsIn content.cleared content.contentBytes within regionBytes blank put eraseOf writeOf imageIn firstFrom find badIds badRegions setupVerdict breaksD1 refusalOf rejections needUnmet offerVerdict onOffer onInformation offerEntry contentVerdict takeBlock finish onBlock contentEntry contentStaging serveEntry serveStaging table act hears hearsBlock decideIn breaksN1 packetOf stepOn stepOf deliver exchange run recordsFrom passesIn writes imageOf image16
 mixed-premise = record {
   small = omega arith;
   fits = mixed-fits;
@@ -129,13 +129,13 @@ mixed-premise = record {
 }
 
 mixed-device : MixedDevice
-unfolding firstOf any pairs bitStep bitSteps byteStep crcFrom crcOf joined tableBytes bundleBytes written placed headIn parse entriesFrom entriesIn bodyIn firstEntry rowB5 repeated rowB6 gap rowB7 rowB8 bundleRow offer.fieldsIn kindIn content.fieldsIn content.cleared content.contentBytes within regionBytes blank put eraseOf writeOf imageIn firstFrom find badIds badRegions setupVerdict breaksD1 refusalOf rejections needUnmet offerVerdict onOffer onInformation offerEntry contentVerdict takeBlock finish onBlock contentEntry contentStaging serveEntry serveStaging table act hears hearsBlock decideIn breaksN1 packetOf stepOn stepOf deliver exchange run recordsFrom passesIn writes imageOf image16
+unfolding firstOf any pairs bitStep bitSteps byteStep crcFrom crcOf flatten tableBytes bundleBytes written placed headIn parse entriesFrom entriesIn bodyIn firstEntry rowB5 repeated rowB6 gap rowB7 rowB8 bundleRow offer.fieldsIn kindIn content.fieldsIn content.cleared content.contentBytes within regionBytes blank put eraseOf writeOf imageIn firstFrom find badIds badRegions setupVerdict breaksD1 refusalOf rejections needUnmet offerVerdict onOffer onInformation offerEntry contentVerdict takeBlock finish onBlock contentEntry contentStaging serveEntry serveStaging table act hears hearsBlock decideIn breaksN1 packetOf stepOn stepOf deliver exchange run recordsFrom passesIn writes imageOf image16
 mixed-device = refl
 
 mixed-staging : MixedStaging
-unfolding firstOf any pairs bitStep bitSteps byteStep crcFrom crcOf joined tableBytes bundleBytes written placed headIn parse entriesFrom entriesIn bodyIn firstEntry rowB5 repeated rowB6 gap rowB7 rowB8 bundleRow offer.fieldsIn kindIn content.fieldsIn content.cleared content.contentBytes within regionBytes blank put eraseOf writeOf imageIn firstFrom find badIds badRegions setupVerdict breaksD1 refusalOf rejections needUnmet offerVerdict onOffer onInformation offerEntry contentVerdict takeBlock finish onBlock contentEntry contentStaging serveEntry serveStaging table act hears hearsBlock decideIn breaksN1 packetOf stepOn stepOf deliver exchange run recordsFrom passesIn writes imageOf image16
+unfolding firstOf any pairs bitStep bitSteps byteStep crcFrom crcOf flatten tableBytes bundleBytes written placed headIn parse entriesFrom entriesIn bodyIn firstEntry rowB5 repeated rowB6 gap rowB7 rowB8 bundleRow offer.fieldsIn kindIn content.fieldsIn content.cleared content.contentBytes within regionBytes blank put eraseOf writeOf imageIn firstFrom find badIds badRegions setupVerdict breaksD1 refusalOf rejections needUnmet offerVerdict onOffer onInformation offerEntry contentVerdict takeBlock finish onBlock contentEntry contentStaging serveEntry serveStaging table act hears hearsBlock decideIn breaksN1 packetOf stepOn stepOf deliver exchange run recordsFrom passesIn writes imageOf image16
 mixed-staging = refl
 
 pub mixed-runs : MixedRuns
-unfolding firstOf any pairs bitStep bitSteps byteStep crcFrom crcOf joined tableBytes bundleBytes written placed headIn parse entriesFrom entriesIn bodyIn firstEntry rowB5 repeated rowB6 gap rowB7 rowB8 bundleRow offer.fieldsIn kindIn content.fieldsIn content.cleared content.contentBytes within regionBytes blank put eraseOf writeOf imageIn firstFrom find badIds badRegions setupVerdict breaksD1 refusalOf rejections needUnmet offerVerdict onOffer onInformation offerEntry contentVerdict takeBlock finish onBlock contentEntry contentStaging serveEntry serveStaging table act hears hearsBlock decideIn breaksN1 packetOf stepOn stepOf deliver exchange run recordsFrom passesIn writes imageOf image16
+unfolding firstOf any pairs bitStep bitSteps byteStep crcFrom crcOf flatten tableBytes bundleBytes written placed headIn parse entriesFrom entriesIn bodyIn firstEntry rowB5 repeated rowB6 gap rowB7 rowB8 bundleRow offer.fieldsIn kindIn content.fieldsIn content.cleared content.contentBytes within regionBytes blank put eraseOf writeOf imageIn firstFrom find badIds badRegions setupVerdict breaksD1 refusalOf rejections needUnmet offerVerdict onOffer onInformation offerEntry contentVerdict takeBlock finish onBlock contentEntry contentStaging serveEntry serveStaging table act hears hearsBlock decideIn breaksN1 packetOf stepOn stepOf deliver exchange run recordsFrom passesIn writes imageOf image16
 mixed-runs = record { premise = mixed-premise; done = refl; says = refl; device = mixed-device; staging = mixed-staging }

@@ -20,7 +20,8 @@ use Rattle.host_record.specs.declared.record.End.{End}
 use Rattle.host_decide.specs.declared.Move.{Move}
 use Rattle.host_decide.specs.declared.Action.the-variants.{Nothing}
 use Rattle.update.specs.Run.{boundOf}
-use Rattle.update.specs.Ends.{talk, AllBuilt, HostEnds}
+use Rattle.wire.specs.Checks.{All}
+use Rattle.update.specs.Ends.{talk, Built, HostEnds}
 use Rattle.update.proofs.Packets.{all-built}
 use Rattle.update.proofs.Ready.{Ready, Goes, goes, step-moves, fresh-ready, owed-step}
 
@@ -101,9 +102,9 @@ module _ (b : List ℕ) (token : ℕ) (replies : ℕ → List ℕ) (α : Accepte
       absurd (omega (arith, ready-at (boundOf b) .room, owed-step b α (hostAt (boundOf b) .stage) e))
 
   -- every packet is one that P2 allows
-  built-at : (k : ℕ) → AllBuilt (stepOf b (hostAt k) (replies k) .sent)
+  built-at : (k : ℕ) → All Built (stepOf b (hostAt k) (replies k) .sent)
   built-at k =
-      subst (λ (x : Step). AllBuilt (x .sent)) (sym (step-at k))
+      subst (λ (x : Step). All Built (x .sent)) (sym (step-at k))
       (all-built b α (moveAt k .host .token) (moveAt k .action) (goes-at k .ready .token) (goes-at k .action))
 
 -- the host always ends

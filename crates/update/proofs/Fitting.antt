@@ -13,7 +13,7 @@ AllFit [] = Unit {0}
 AllFit (c ∷ cs) = FitsComponent c × AllFit cs
 
 pub blank-fits : FitsComponent blankComponent
-blank-fits = record { id = omega arith; running = omega arith; region = record { base = omega arith; len = omega arith }; staged = tt }
+blank-fits = record { fixed = record { id = omega arith; region = record { base = omega arith; len = omega arith } }; running = omega arith; staged = tt }
 
 pub all-fit : (cs : List Component) → AllFit cs → (k : ℕ) → FitsComponent (componentAt cs k)
 all-fit [] h k = blank-fits
@@ -22,5 +22,5 @@ all-fit (c ∷ cs) h (suc k) = all-fit cs (h .1) k
 
 -- a component by its parts
 pub component-fits : (id running base len : ℕ) (staged : Staged) → id < 256 → running < 256 ^ 4 → base < 256 ^ 4 → len < 256 ^ 4 → FitsStaged staged
-    → FitsComponent (record { id = id; running = record { 0 = running }; region = record { base = record { 0 = base }; len = len }; staged = staged })
-component-fits id running base len staged i r b l s = record { id = i; running = r; region = record { base = b; len = l }; staged = s }
+    → FitsComponent (record { fixed = record { id = id; region = record { base = record { 0 = base }; len = len } }; running = record { 0 = running }; staged = staged })
+component-fits id running base len staged i r b l s = record { fixed = record { id = i; region = record { base = b; len = l } }; running = r; staged = s }

@@ -36,18 +36,18 @@ inside-of len (r ∷ rs) h =
 -- the body is good
 abbrev pub goodTest : Component → OfferFields → List Block → Bool
 goodTest c o rs =
-    insideTest (c .region .len) rs
-    && (isRight (imageOf (c .region .len) rs)
-    && (eqb (imageId (imageOf (c .region .len) rs)) (o .id) && eqb (imageVersion (imageOf (c .region .len) rs) .0) (o .version .0)))
+    insideTest (c .fixed .region .len) rs
+    && (isRight (imageOf (c .fixed .region .len) rs)
+    && (eqb (imageId (imageOf (c .fixed .region .len) rs)) (o .id) && eqb (imageVersion (imageOf (c .fixed .region .len) rs) .0) (o .version .0)))
 
 good-of : (c : Component) (o : OfferFields) (rs : List Block) → goodTest c o rs ≡ true → Good c o rs
 good-of c o rs h =
-    let m = imageOf (c .region .len) rs in
-    let k = both (insideTest (c .region .len) rs) (isRight m && (eqb (imageId m) (o .id) && eqb (imageVersion m .0) (o .version .0))) h in
+    let m = imageOf (c .fixed .region .len) rs in
+    let k = both (insideTest (c .fixed .region .len) rs) (isRight m && (eqb (imageId m) (o .id) && eqb (imageVersion m .0) (o .version .0))) h in
     let l = both (isRight m) (eqb (imageId m) (o .id) && eqb (imageVersion m .0) (o .version .0)) (k .1) in
     let n = both (eqb (imageId m) (o .id)) (eqb (imageVersion m .0) (o .version .0)) (l .1) in
     record {
-      inside = inside-of (c .region .len) rs (k .0);
+      inside = inside-of (c .fixed .region .len) rs (k .0);
       crc = l .0;
       id = eqb-true (imageId m) (o .id) (n .0);
       version = ap (λ (x : ℕ). record { 0 = x }) (eqb-true (imageVersion m .0) (o .version .0) (n .1));

@@ -10,6 +10,7 @@ use borrow.Author.Tests.{eq-eqb}
 use lib.Dec.{T, T-not, not-T, ltb, leb, eqb, eqb-refl, eqb→eq, leb→le, le→leb, nltb→le, ltb→lt}
 use lib.ListN.{length, set, length-set}
 use lib.Seq.{getD-set-same, getD-set-other, map-set-same}
+use Rattle.wire.specs.Checks.{any}
 use Rattle.wire.specs.Version.{releaseOf}
 use Rattle.wire_offer.specs.declared.offer.OfferFields.{OfferFields}
 use Rattle.device_component.specs.Lists.{componentAt}
@@ -21,7 +22,7 @@ use Rattle.device_component.specs.declared.list.Found.{Found}
 use Rattle.device_component.specs.declared.list.Found.the-variants as found
 use Rattle.device_component.proofs.list.Laws.{find-at, find-same}
 use Rattle.device_component.proofs.rule.Laws.{offer-release}
-use Rattle.update_passes.specs.Sets.{Set, In, ins, none, from, some}
+use Rattle.update_passes.specs.Sets.{Set, In, ins, none, from}
 use Rattle.update_passes.specs.Passes.{Offers, needMet}
 use Rattle.update_passes.proofs.Tests.{bool-cases, or-inl, or-inr, or-cases, both, and-l, and-r, is-true, holds, fails, T-ext, and-false}
 use Rattle.update_passes.proofs.Sets.{ins-old, ins-new, in-from, from-in, some-out, some-in}
@@ -88,7 +89,7 @@ module _ (b : List ℕ) (α : Accepted b) (d : Device) where
   -- there is one, or none
   pub decide : (S : Set) (k : ℕ) → Source S k ⊎ Spared d b S k
   decide S k =
-      bool-cases (some (from 0 (countIn b)) for)
+      bool-cases (any for (from 0 (countIn b)))
       (λ t. let x = some-out (from 0 (countIn b)) for t in
       inl (record {
         j = x .j;
@@ -96,14 +97,14 @@ module _ (b : List ℕ) (α : Accepted b) (d : Device) where
         member = and-l (S (x .j)) _ (x .has);
         here = slot-is (find d (offerAt b (x .j) .id)) k (and-r (S (x .j)) _ (x .has));
       }))
-      (λ t. inr (λ i l m e. T-not (some (from 0 (countIn b)) for) t
+      (λ t. inr (λ i l m e. T-not (any for (from 0 (countIn b))) t
       (some-in (from 0 (countIn b)) for i (numbered b i l) (both (S i) (isSlot (find d (offerAt b i .id)) k) m (is-slot (find d (offerAt b i .id)) k e)))))
     where
       for : ℕ → Bool
       for j = S j && isSlot (find d (offerAt b j .id)) k
 
   -- what is found of an offer's component
-  pub at-slot : (i k : ℕ) → find d (offerAt b i .id) ≡ found.At k → (k < d .count) × (k < length (d .components)) × (component d k .id ≡ offerAt b i .id)
+  pub at-slot : (i k : ℕ) → find d (offerAt b i .id) ≡ found.At k → (k < d .count) × (k < length (d .components)) × (component d k .fixed .id ≡ offerAt b i .id)
   at-slot i k e = find-at (offerAt b i .id) (d .count) (d .components) k e
 
   -- two offers for one slot are one
@@ -113,7 +114,7 @@ module _ (b : List ℕ) (α : Accepted b) (d : Device) where
   -- the components of a device on which a set has landed
   pub record Holding (S : Set) (ps : List Component) : Type 0 where
     pub slots : length ps ≡ length (d .components)
-    pub ids : map (λ c. c .id) ps ≡ map (λ c. c .id) (d .components)
+    pub ids : map (λ c. c .fixed .id) ps ≡ map (λ c. c .fixed .id) (d .components)
     pub members : (i k : ℕ) → i < countIn b → T (S i) → find d (offerAt b i .id) ≡ found.At k → componentAt ps k ≡ withStaged (component d k) (offerAt b i .version)
     pub others : (k : ℕ) → Spared d b S k → componentAt ps k ≡ component d k
     pub d1 : breaksD1 (idleWith d ps) ≡ false
@@ -139,7 +140,7 @@ module _ (b : List ℕ) (α : Accepted b) (d : Device) where
       holding-more k out f new =
           record {
             slots = length-set ps k _ ∙ h .slots;
-            ids = map-set-same (λ (c : Component). c .id) ps k _ blankComponent refl ∙ h .ids;
+            ids = map-set-same (λ (c : Component). c .fixed .id) ps k _ blankComponent refl ∙ h .ids;
             members = λ i j m t g. by i j m t g (ℕ-discrete i e);
             others = λ j s. getD-set-other ps k j _ blankComponent (λ z. s e l (ins-new S e) (f ∙ ap found.At (sym z))) ∙ h .others j (λ i m t. s i m (ins-old S e i t));
             d1 = staged-passes d ps k (at-slot e k f .0) (h .d1) (offerAt b e .version) (rw was new);
@@ -211,9 +212,9 @@ module _ (b : List ℕ) (α : Accepted b) (d : Device) where
 
         -- L9: where there is a need, the two ways to meet it agree
         meets-slot : (f : Found) → find d (o .need) ≡ f → eqb (o .need) 0 ≡ false
-            → not (isAbsent f || below (componentAt ps (slotOf f)) (o .least)) ≡ (not (isAbsent f || below (component d (slotOf f)) (o .least)) || some os fed)
+            → not (isAbsent f || below (componentAt ps (slotOf f)) (o .least)) ≡ (not (isAbsent f || below (component d (slotOf f)) (o .least)) || any fed os)
         meets-slot found.Nothing g z =
-            sym (fails (some os fed)
+            sym (fails (any fed os)
             (λ t. let x = some-out os fed t in let y = feeding (x .j) (x .has) in let w = fed-slot (x .j) (below-count b (x .j) (x .listed)) y in
             no-slot (w .slot) (sym g ∙ ap (find d) (sym (y .for)) ∙ w .here)))
           where
@@ -224,25 +225,25 @@ module _ (b : List ℕ) (α : Accepted b) (d : Device) where
             was : Bool
             was = not (below (component d k) (o .least))
 
-            its-id : component d k .id ≡ o .need
+            its-id : component d k .fixed .id ≡ o .need
             its-id = find-at (o .need) (d .count) (d .components) k g .2
 
             -- a member that feeds is for slot k
             fed-here : (j : ℕ) → j < countIn b → (y : Feeding j) → find d (offerAt b j .id) ≡ found.At k
             fed-here j m y = ap (find d) (y .for) ∙ g
 
-            go : Source S k ⊎ Spared d b S k → not (below (componentAt ps k) (o .least)) ≡ (not (below (component d k) (o .least)) || some os fed)
+            go : Source S k ⊎ Spared d b S k → not (below (componentAt ps k) (o .least)) ≡ (not (below (component d k) (o .least)) || any fed os)
             go (inr s) =
                 rw (h .others k s)
-                (T-ext was (was || some os fed) (or-inl was (some os fed))
-                (or-cases was (some os fed) (λ t. t)
+                (T-ext was (was || any fed os) (or-inl was (any fed os))
+                (or-cases was (any fed os) (λ t. t)
                 (λ t. let x = some-out os fed t in let m = below-count b (x .j) (x .listed) in let y = feeding (x .j) (x .has) in
                 absurd (s (x .j) m (y .member) (fed-here (x .j) m y)))))
             go (inl x) =
                 rw (h .members (x .j) k (x .listed) (x .member) (x .here))
-                (T-ext (not (ltb (releaseOf (offerAt b (x .j) .version)) (o .least))) (was || some os fed)
-                (λ t. or-inr was (some os fed) (some-in os fed (x .j) (numbered b (x .j) (x .listed)) (there (nltb→le _ _ t))))
-                (or-cases was (some os fed) stays
+                (T-ext (not (ltb (releaseOf (offerAt b (x .j) .version)) (o .least))) (was || any fed os)
+                (λ t. or-inr was (any fed os) (some-in os fed (x .j) (numbered b (x .j) (x .listed)) (there (nltb→le _ _ t))))
+                (or-cases was (any fed os) stays
                 (λ t. let y = some-out os fed t in let m = below-count b (y .j) (y .listed) in let u = feeding (y .j) (y .has) in
                 let q : y .j ≡ x .j = one-offer (y .j) (x .j) k m (x .listed) (fed-here (y .j) m u) (x .here) in
                 at-least (releaseOf (offerAt b (x .j) .version)) (o .least) (subst (λ (n : ℕ). offerAt b e .least ≤ releaseOf (offerAt b n .version)) q (u .enough)))))
@@ -282,10 +283,10 @@ module _ (b : List ℕ) (α : Accepted b) (d : Device) where
           where
             go : (x : Bool) → eqb (o .need) 0 ≡ x
                 → not (not (eqb (o .need) 0) && (isAbsent (find (idleWith d ps) (o .need)) || below (componentAt ps (slotOf (find (idleWith d ps) (o .need)))) (o .least)))
-                ≡ (not (not (eqb (o .need) 0) && (isAbsent (find d (o .need)) || below (component d (slotOf (find d (o .need)))) (o .least))) || some os fed)
+                ≡ (not (not (eqb (o .need) 0) && (isAbsent (find d (o .need)) || below (component d (slotOf (find d (o .need)))) (o .least))) || any fed os)
             go true z = rw z
             go false z =
                 ap (λ (x : Bool). not (not x && (isAbsent (find (idleWith d ps) (o .need)) || below (componentAt ps (slotOf (find (idleWith d ps) (o .need)))) (o .least)))) z
                 ∙ ap (λ (f : Found). not (isAbsent f || below (componentAt ps (slotOf f)) (o .least))) (same-find (o .need))
                 ∙ meets-slot (find d (o .need)) refl z
-                ∙ ap (λ (x : Bool). not (not x && (isAbsent (find d (o .need)) || below (component d (slotOf (find d (o .need)))) (o .least))) || some os fed) (sym z)
+                ∙ ap (λ (x : Bool). not (not x && (isAbsent (find d (o .need)) || below (component d (slotOf (find d (o .need)))) (o .least))) || any fed os) (sym z)

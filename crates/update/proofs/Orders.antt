@@ -110,7 +110,7 @@ module _ (b b′ : List ℕ) (π : Reordered b b′) (d : Device) (X X′ : Set)
         long = h .long;
         images = λ i k l t f.
             h .images (π .to i) k (rw (π .count) (π .to-listed i l)) (there i l t) (finds i k l f)
-            ∙ ap (imageOf (component d k .region .len)) (same-blocks b b′ π i l);
+            ∙ ap (imageOf (component d k .fixed .region .len)) (same-blocks b b′ π i l);
         rest = λ j u. h .rest j (λ i k l t f. let m : i < countIn b = rw (π .count) at l in u (π .back i) k (π .back-listed i m) (here i m t) (finds-back i k m f));
       }
 

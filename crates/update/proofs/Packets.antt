@@ -10,23 +10,25 @@ use lib.Dec.{eqb}
 use lib.ListN.{length, getD, set, length-append, length-take, length-replicate, length-set, drop-of-length-le}
 use lib.Seq.{getD-take, getD-set-other}
 use Rattle.wire.specs.Bytes.{Packet, Bytes, bytesAt}
+use Rattle.wire.specs.Checks.{All}
 use Rattle.wire.specs.Codes.{KIND-INFORMATION, KIND-EXTENDED}
 use Rattle.wire.specs.Rows as packet
 use Rattle.wire.specs.Rows.{Told}
+use Rattle.wire.proofs.Bounds.{first-bytes}
 use Rattle.wire.proofs.words.Laws.{round, split}
 use Rattle.wire_offer.specs.Offer as offer
 use Rattle.wire_offer.proofs.offer.Laws.{read-allowed, fields-bytes}
 use Rattle.wire_content.specs.Content as content
 use Rattle.wire_content.specs.declared.content.ContentFields.{ContentFields}
 use Rattle.bundle_layout.specs.Layout.{countIn, offerIn, idIn}
-use Rattle.bundle.proofs.Accepted.{Accepted, take-bytes}
+use Rattle.bundle.proofs.Accepted.{Accepted}
 use Rattle.host_record.specs.Record.{sequenceOf}
 use Rattle.host.specs.Step.{entryAt, blocksAt, isLast, noBlock, blockAt, blockPacket, packetOf}
 use Rattle.host_record.specs.declared.record.Place.{Place}
 use Rattle.host_decide.specs.declared.Action.{Action}
 use Rattle.host_decide.specs.declared.Action.the-variants.{Nothing, Information, Notify, Offer, Block}
 use Rattle.update.specs.Trace.{opensPass, about, completes}
-use Rattle.update.specs.Ends.{Built, anInformation, anExtended, anOffer, aContent, AllBuilt}
+use Rattle.update.specs.Ends.{Built, anInformation, anExtended, anOffer, aContent}
 use Rattle.host_decide.proofs.Moves.{isTaken}
 use Rattle.host_packet.proofs.Flags.{flags-sound, flags-last}
 
@@ -88,7 +90,7 @@ module _ (b : List ℕ) (α : Accepted b) where
       let k = α .packet e l in
       record {
         size = length-set (offerIn (entryAt b e)) 3 token ∙ length-take 16 (entryAt b e) ∙ omega (arith, k .size);
-        bytes = set-bytes (offerIn (entryAt b e)) 3 token (take-bytes 16 (entryAt b e) (k .bytes)) t;
+        bytes = set-bytes (offerIn (entryAt b e)) 3 token (first-bytes 16 (entryAt b e) (k .bytes)) t;
       }
 
   -- has its id in byte 2
@@ -109,7 +111,7 @@ module _ (b : List ℕ) (α : Accepted b) where
       content-built _ (rw (flags-sound (eqb (p .block) 0) (isLast b p), le-leb 1 (length (blockAt b p .bytes)) (c .some), le-leb (length (blockAt b p .bytes)) 52 (c .few)))
 
   -- every packet is one that P2 allows
-  pub all-built : (token : ℕ) (a : Action) → token < 256 → Has b a → AllBuilt (packetOf b token a)
+  pub all-built : (token : ℕ) (a : Action) → token < 256 → Has b a → All Built (packetOf b token a)
   unfolding packetOf
   all-built token Nothing t h = tt
   all-built token (Information code) t h = (anInformation _, tt)

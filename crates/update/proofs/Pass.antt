@@ -7,7 +7,7 @@ use native.Mathlib.Omega.{arith}
 use lib.Dec.{T, eqb, eqb→eq}
 use lib.ListN.{length, set, length-append}
 use Rattle.wire.specs.Checks.{applies}
-use Rattle.wire.specs.Codes.{OFFER-SKIP, OFFER-ACCEPT, OFFER-REJECT}
+use Rattle.wire.specs.Codes.{COMPONENT-LIMIT, OFFER-SKIP, OFFER-ACCEPT, OFFER-REJECT}
 use Rattle.image.specs.Region.{within}
 use Rattle.device_component.specs.Lists.{componentAt}
 use Rattle.device_component.specs.Record.{isPending, withStaged}
@@ -53,11 +53,11 @@ use Rattle.update.proofs.Filled.{image-length, region-inside, fills-mor
 pub record Given (b : List ℕ) (t : ℕ) (d : Device) (s : List ℕ) : Type 0 where
   pub small : t < 256
   pub accepted : Accepted b
-  pub slots : length (d .components) ≡ 7
+  pub slots : length (d .components) ≡ COMPONENT-LIMIT
   pub fine : setupVerdict (d .«staging_len») (d .count) (d .components) ≡ Fine
   pub d1 : breaksD1 d ≡ false
   pub d2 : length s ≡ d .«staging_len»
-  pub len : (k : ℕ) → component d k .region .len < 256 ^ 4
+  pub len : (k : ℕ) → component d k .fixed .region .len < 256 ^ 4
   pub good : (i k : ℕ) → i < countIn b → find d (offerAt b i .id) ≡ found.At k → Good (component d k) (offerAt b i) (blocksAt b i)
 
 module _ (b : List ℕ) (t : ℕ) (d : Device) (s : List ℕ) (G : Given b t d s) where
@@ -131,7 +131,7 @@ module _ (b : List ℕ) (t : ℕ) (d : Device) (s : List ℕ) (G : Given b t d s
 
       -- what has landed after it
       pub lands-more : Landed (ins S e) (withBit m e) (set ps k (withStaged (componentAt ps k) (offerAt b e .version)))
-          (within (component d k .region .base .0) (component d k .region .len) (λ (old : List ℕ). imageOf (component d k .region .len) (blocksAt b e)) r)
+          (within (component d k .fixed .region .base .0) (component d k .fixed .region .len) (λ (old : List ℕ). imageOf (component d k .fixed .region .len) (blocksAt b e)) r)
       lands-more =
           record {
             bits = λ j. with-bit m e j ∙ ap (λ (x : Bool). eqb j e || x) (h .bits j);
@@ -141,12 +141,12 @@ module _ (b : List ℕ) (t : ℕ) (d : Device) (s : List ℕ) (G : Given b t d s
 
       module _ (p q : ℕ) (sk la : Bool) (trace : List Exchange) where
         -- the image is right
-        right : Right b α t (G .small) d ps k e l opens m q sk la (imageOf (component d k .region .len) (blocksAt b e)) (offerAt b e .version)
+        right : Right b α t (G .small) d ps k e l opens m q sk la (imageOf (component d k .fixed .region .len) (blocksAt b e)) (offerAt b e .version)
         right =
             record {
-              size = rw was (image-length (component d k .region .len) (blocksAt b e) (g .inside));
+              size = rw was (image-length (component d k .fixed .region .len) (blocksAt b e) (g .inside));
               crc = g .crc;
-              id = g .id ∙ sym (at-slot b α d e k f .2) ∙ ap (λ (c : Component). c .id) (sym was);
+              id = g .id ∙ sym (at-slot b α d e k f .2) ∙ ap (λ (c : Component). c .fixed .id) (sym was);
               version = g .version;
               new = rw was (offer-image (component d k) (offerAt b e .version) newer);
               d1 = lands-more .components .d1;
@@ -156,7 +156,7 @@ module _ (b : List ℕ) (t : ℕ) (d : Device) (s : List ℕ) (G : Given b t d s
         pub accepts : offerVerdict (idleWith d ps) (withToken (offerAt b e) t) ≡ Accept k
             → Leads b (turning b α t (G .small) d e m p q sk la ps r trace)
             (turning b α t (G .small) d (suc e) (withBit m e) (p + 1 + length (blocksAt b e)) q sk true (set ps k (withStaged (componentAt ps k) (offerAt b e .version)))
-            (within (component d k .region .base .0) (component d k .region .len) (λ (old : List ℕ). imageOf (component d k .region .len) (blocksAt b e)) r)
+            (within (component d k .fixed .region .base .0) (component d k .fixed .region .len) (λ (old : List ℕ). imageOf (component d k .fixed .region .len) (blocksAt b e)) r)
             ((trace ++ (offered e 0 OFFER-ACCEPT ∷ [])) ++ contents b α t (G .small) d ps k e l 0 (length (blocksAt b e))))
         accepts v =
             let d2 : length r ≡ d .«staging_len» = h .bytes .long ∙ G .d2 in
@@ -166,11 +166,11 @@ module _ (b : List ℕ) (t : ℕ) (d : Device) (s : List ℕ) (G : Given b t d s
             (subst
             (λ (c : Component). Leads b (blocking b α t (G .small) d ps k e l opens m q sk la 0 (p + 1) r (trace ++ (offered e 0 OFFER-ACCEPT ∷ [])))
             (turning b α t (G .small) d (suc e) (withBit m e) (p + 1 + length (blocksAt b e)) q sk true (set ps k (withStaged (componentAt ps k) (offerAt b e .version)))
-            (within (c .region .base .0) (c .region .len) (λ (old : List ℕ). imageOf (component d k .region .len) (blocksAt b e)) r)
+            (within (c .fixed .region .base .0) (c .fixed .region .len) (λ (old : List ℕ). imageOf (component d k .fixed .region .len) (blocksAt b e)) r)
             ((trace ++ (offered e 0 OFFER-ACCEPT ∷ [])) ++ contents b α t (G .small) d ps k e l 0 (length (blocksAt b e)))))
             was
-            (transmits b α t (G .small) d ps k e l opens m q sk la (imageOf (component d k .region .len) (blocksAt b e)) (offerAt b e .version) right (p + 1) (p + 1 + length (blocksAt b e)) r
-            (trace ++ (offered e 0 OFFER-ACCEPT ∷ [])) (α .records e l) (rw was (g .inside)) d2 (ap (λ (c : Component). imageOf (c .region .len) (blocksAt b e)) was) refl))
+            (transmits b α t (G .small) d ps k e l opens m q sk la (imageOf (component d k .fixed .region .len) (blocksAt b e)) (offerAt b e .version) right (p + 1) (p + 1 + length (blocksAt b e)) r
+            (trace ++ (offered e 0 OFFER-ACCEPT ∷ [])) (α .records e l) (rw was (g .inside)) d2 (ap (λ (c : Component). imageOf (c .fixed .region .len) (blocksAt b e)) was) refl))
 
   -- what it says of an offer that it is not eligible now
   not-eligible : (x y : Bool) → false ≡ (not x && y) → (x || not y) ≡ true
@@ -242,7 +242,7 @@ module _ (b : List ℕ) (t : ℕ) (d : Device) (s : List ℕ) (G : Given b t d s
             mask = withBit m e;
             packets = n + 1 + length (blocksAt b e);
             components = set ps k (withStaged (componentAt ps k) (offerAt b e .version));
-            staging = within (component d k .region .base .0) (component d k .region .len) (λ (old : List ℕ). imageOf (component d k .region .len) (blocksAt b e)) r;
+            staging = within (component d k .fixed .region .base .0) (component d k .fixed .region .len) (λ (old : List ℕ). imageOf (component d k .fixed .region .len) (blocksAt b e)) r;
             trace = (trace ++ (offered e 0 OFFER-ACCEPT ∷ [])) ++ blocks;
             leads = accepts e l (p .set) m ps r h k (z .0) f x n q (p .skipped) (p .landed) trace v;
             landed = lands-more e l (p .set) m ps r h k (z .0) f x;

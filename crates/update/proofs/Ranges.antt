@@ -1,8 +1,8 @@
--- A device that a parameter holds is a value of its type. Assumes nothing.
+-- A device or both ends that a parameter holds are values of their types. Assumes nothing.
 use Prim.Native.Nat.{ℕ, zero, suc}
-use mathlib.Core.Path.{sym, _∙_}
+use mathlib.Core.Path.{_≡_, sym, _∙_}
 use mathlib.Core.List.{List, [], _∷_, map}
-use lib.ListN.{length-map}
+use lib.ListN.{length, length-map}
 use mir.Val.{Val}
 use denote.Array.{each}
 use denote.Laws.{Is}
@@ -25,6 +25,8 @@ use Rattle.device_session.proofs.owed.Owed as O
 use Rattle.device.specs.Record.{FitsDevice}
 use Rattle.device.specs.declared.record.Device.{Device}
 use Rattle.device.proofs.record.Device as D
+use Rattle.update.specs.declared.turn.BothEnds.{BothEnds}
+use Rattle.update.proofs.turn.BothEnds as E
 use Rattle.update.proofs.Fitting.{blank-fits}
 
 -- a staged version
@@ -36,11 +38,11 @@ staged-fits (staged.Pending v) vs h = h .1 .1 .1 .1 .0 .1 .1 .0 .1
 component-fits : (c : Component) (vs : List Val) → Is (C.the-field .row) (C.the-field .into c) vs → FitsComponent c
 component-fits c vs h =
     let f = h .1 .1 in
+    let g = f .0 .1 .1 in
     record {
-      id = f .0 .1;
+      fixed = record { id = g .0 .1; region = record { base = g .1 .0 .1 .1 .0 .1 .1 .0 .1; len = g .1 .0 .1 .1 .1 .0 .1 } };
       running = f .1 .0 .1 .1 .0 .1;
-      region = record { base = f .1 .1 .0 .1 .1 .0 .1 .1 .0 .1; len = f .1 .1 .0 .1 .1 .1 .0 .1 };
-      staged = staged-fits (c .staged) _ (f .1 .1 .1 .0);
+      staged = staged-fits (c .staged) _ (f .1 .1 .0);
     }
 
 -- each component of a list
@@ -67,12 +69,16 @@ pub device-fits : (d : Device) (vs : List Val) → Is D.the-row d vs → FitsDev
 device-fits d vs h =
     let f = h .1 .1 in
     let a = f .1 .1 .1 .0 in
+    let g = f .1 .1 .1 .1 .0 .1 .1 in
     record {
       platform = f .0 .1;
       staging = f .1 .0 .1;
       count = f .1 .1 .0 .1;
       slots = sym (length-map (d .components) (C.the-field .into)) ∙ a .1 .0 .1;
       each = components-fit (d .components) (a .0) (a .1 .1);
-      stage = stage-fits (d .stage) _ (f .1 .1 .1 .1 .0);
-      owed = owed-fits (d .owed) _ (f .1 .1 .1 .1 .1 .0);
+      session = record { stage = stage-fits (d .session .stage) _ (g .0); owed = owed-fits (d .session .owed) _ (g .1 .0) };
     }
+
+-- the last reply of both ends
+pub reply-length : (e : BothEnds) (vs : List Val) → Is E.the-row e vs → length (e .replies .reply) ≡ 16
+reply-length e vs h = sym (length-map (e .replies .reply) (λ v. v)) ∙ h .1 .1 .1 .1 .0 .1 .1 .1 .0 .1 .0 .1

@@ -112,8 +112,8 @@ module _ (b : List ℕ) (α : Accepted b) where
   -- so the bound is below the limit on packets
   bound-small : boundOf b < PACKET-LIMIT
   bound-small =
-      let r : recordsIn b ≤ 458752 = omega (arith, few-records (entriesIn b), α .entries, α .few) in
-      let w : 17 * countIn b + 2 + recordsIn b ≤ 458873 = omega (arith, α .few) in
+      let r : recordsIn b ≤ OFFER-LIMIT * BUNDLE-LIMIT = omega (arith, few-records (entriesIn b), α .entries, α .few) in
+      let w : 17 * countIn b + 2 + recordsIn b ≤ 17 * OFFER-LIMIT + 2 + OFFER-LIMIT * BUNDLE-LIMIT = omega (arith, α .few) in
       omega (arith, mul-le-mul (α .few) w)
 
   -- a packet is sent: what its stage and its action ask, and the room

@@ -30,7 +30,6 @@ use Rattle.device.specs.Record.{idleWith}
 use Rattle.device.specs.Refusals.{breaksD1}
 use Rattle.device.specs.declared.record.Device.{Device}
 use Rattle.device_session.proofs.sound.Laws.{passes, staging-most}
-use Rattle.device_session.specs.declared.owed.Owed.the-variants as owed
 use Rattle.device.proofs.Calls.{Sound, Answered, answers-block}
 use Rattle.device.proofs.Blocks.{held, awaits, groundOf, Fitting, puts, block-staging, block-next, block-last}
 use Rattle.host_record.specs.Record.{sequenceOf}
@@ -73,7 +72,7 @@ drop-rest (a ∷ l) (suc k) x xs e = drop-rest l k x xs e
 module _ (b : List ℕ) (α : Accepted b) (t : ℕ) (small : t < 256) (d : Device) (ps : List Component) (slot e : ℕ) (l : e < countIn b) where
   -- the region of the slot
   abbrev r : Region
-  r = componentAt ps slot .region
+  r = componentAt ps slot .fixed .region
 
   -- block k of the body
   abbrev pub spot : ℕ → Place
@@ -100,8 +99,8 @@ module _ (b : List ℕ) (α : Accepted b) (t : ℕ) (small : t < 256) (d : Devic
 
   -- what is known of the slot: its region is one of the buffer, and D1 lets the session pass
   pub record Opens : Type 0 where
-    pub len : componentAt ps slot .region .len < 256 ^ 4
-    pub room : componentAt ps slot .region .base .0 + componentAt ps slot .region .len ≤ d .«staging_len»
+    pub len : componentAt ps slot .fixed .region .len < 256 ^ 4
+    pub room : componentAt ps slot .fixed .region .base .0 + componentAt ps slot .fixed .region .len ≤ d .«staging_len»
     pub d1 : (k : ℕ) → breaksD1 (held d ps (awaits slot t k)) ≡ false
 
   module _ (o : Opens) (m q : ℕ) (sk la : Bool) where
@@ -178,7 +177,7 @@ module _ (b : List ℕ) (α : Accepted b) (t : ℕ) (small : t < 256) (d : Devic
 
         -- the last block of a right image
         x-last : (p : ℕ) (trace : List Exchange) (img : List ℕ) (v : Version) → isLast b (spot k) ≡ true → regionBytes r s′ ≡ img → isRight img ≡ true
-            → imageId img ≡ componentAt ps slot .id → imageVersion img ≡ v → imageVersionFits (componentAt ps slot) v ≡ true
+            → imageId img ≡ componentAt ps slot .fixed .id → imageVersion img ≡ v → imageVersionFits (componentAt ps slot) v ≡ true
             → Sound (idleWith d (set ps slot (withStaged (componentAt ps slot) v))) s′
             → Goes b (blocking k p s trace)
             (turning b α t small d (suc e) (withBit m e) (p + 1) q sk true (set ps slot (withStaged (componentAt ps slot) v)) s′ (trace ++ (said (blockPacket b (spot k)) (taken k) ∷ [])))
@@ -209,9 +208,9 @@ module _ (b : List ℕ) (α : Accepted b) (t : ℕ) (small : t < 256) (d : Devic
 
     -- a right image for the slot, which leaves a device that D1 lets pass
     pub record Right (img : List ℕ) (v : Version) : Type 0 where
-      pub size : length img ≡ componentAt ps slot .region .len
+      pub size : length img ≡ componentAt ps slot .fixed .region .len
       pub crc : isRight img ≡ true
-      pub id : imageId img ≡ componentAt ps slot .id
+      pub id : imageId img ≡ componentAt ps slot .fixed .id
       pub version : imageVersion img ≡ v
       pub new : imageVersionFits (componentAt ps slot) v ≡ true
       pub d1 : breaksD1 (idleWith d (set ps slot (withStaged (componentAt ps slot) v))) ≡ false
@@ -283,8 +282,8 @@ module _ (b : List ℕ) (α : Accepted b) (t : ℕ) (small : t < 256) (d : Devic
           (transfer x′ xs (suc k) (p + 1) p′ (next k x s) (trace ++ (said (blockPacket b (spot k)) (taken k) ∷ [])) (drop-rest (blocksAt b e) k x (x′ ∷ xs) z) (inside .1) (g .0) (g .1) (omega arith))
 
       -- L5: a body, from its first block on its way: the image is in the region, and all else of the buffer is as it was
-      pub transmits : (p p′ : ℕ) (s : List ℕ) (trace : List Exchange) → 1 ≤ length (blocksAt b e) → Inside (componentAt ps slot .region .len) (blocksAt b e)
-          → length s ≡ d .«staging_len» → imageOf (componentAt ps slot .region .len) (blocksAt b e) ≡ img → p + length (blocksAt b e) ≡ p′
+      pub transmits : (p p′ : ℕ) (s : List ℕ) (trace : List Exchange) → 1 ≤ length (blocksAt b e) → Inside (componentAt ps slot .fixed .region .len) (blocksAt b e)
+          → length s ≡ d .«staging_len» → imageOf (componentAt ps slot .fixed .region .len) (blocksAt b e) ≡ img → p + length (blocksAt b e) ≡ p′
           → Leads b (blocking 0 p s trace) (done p′ s (trace ++ contents 0 (length (blocksAt b e))))
       unfolding imageOf
       transmits p p′ s trace some inside d2 w c = go (blocksAt b e) refl inside w c

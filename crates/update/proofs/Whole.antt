@@ -9,7 +9,8 @@ use native.Mathlib.Omega.{arith}
 use lib.Dec.{T, T-not, not-T, eqb, eqb→eq, eqb-refl}
 use lib.ListN.{length, getD, drop, drop-of-length-le}
 use lib.Seq.{drop-cons}
-use Rattle.update_passes.specs.Sets.{Set, from, some, weight, all}
+use Rattle.wire.specs.Checks.{any}
+use Rattle.update_passes.specs.Sets.{Set, from, weight, all}
 use Rattle.update_passes.specs.Passes as passes
 use Rattle.update_passes.specs.Passes.{Reached, Monotone, passesOf}
 use Rattle.update_passes.proofs.Tests.{or-inl, or-inr, or-cases, both, and-l, and-r}
@@ -21,7 +22,6 @@ use Rattle.bundle.proofs.Accepted.{accepted}
 use Rattle.device.specs.Record.{toIdle}
 use Rattle.device.specs.declared.record.Device.{Device}
 use Rattle.host_record.specs.Record.{hasEnded}
-use Rattle.host.specs.Step as hostStep
 use Rattle.host_packet.specs.Answer.{Step}
 use Rattle.host.specs.Step.{stepOf}
 use Rattle.host_record.specs.declared.record.HostStage.the-variants.{Ended}
@@ -56,7 +56,7 @@ given b token d staging P =
       fine = fine-setup d (P .d1);
       d1 = P .d1;
       d2 = P .d2;
-      len = λ k. P .fits .each k .region .len;
+      len = λ k. P .fits .each k .fixed .region .len;
       good = P .good;
     }
 
@@ -163,10 +163,10 @@ module _ (b : List ℕ) (token : ℕ) (d : Device) (staging reply : List ℕ) (P
     where
       closed : Closed d b (stagedIn b (c .last))
       closed i l e (inl m) =
-          from-set i l (reached .closed i (numbered b i l) e (or-inl (isMet (toIdle d) (offerAt b i)) (some os (fed (passesOf y os .set) i)) m))
+          from-set i l (reached .closed i (numbered b i l) e (or-inl (isMet (toIdle d) (offerAt b i)) (any (fed (passesOf y os .set) i) os) m))
       closed i l e (inr f) =
           from-set i l (reached .closed i (numbered b i l) e
-          (or-inr (isMet (toIdle d) (offerAt b i)) (some os (fed (passesOf y os .set) i))
+          (or-inr (isMet (toIdle d) (offerAt b i)) (any (fed (passesOf y os .set) i) os)
           (some-in os (fed (passesOf y os .set) i) (f .by) (numbered b (f .by) (f .listed))
           (both (passesOf y os .set (f .by)) _ (to-set (f .by) (f .listed) (f .member))
           (both (not (eqb (f .by) i)) _ (not-T (eqb (f .by) i) (λ z. f .other (eqb→eq (f .by) i z))) (f .meets))))))
@@ -176,7 +176,7 @@ module _ (b : List ℕ) (token : ℕ) (d : Device) (staging reply : List ℕ) (P
         where
           inside : passes.Closed y os Y
           inside j m e n =
-              or-cases (isMet (toIdle d) (offerAt b j)) (some os (fed Y j))
+              or-cases (isMet (toIdle d) (offerAt b j)) (any (fed Y j) os)
               (λ z. cl j (below-count b j m) e (inl z))
               (λ z. let x = some-out os (fed Y j) z in
               let w = and-r (Y (x .j)) (not (eqb (x .j) j) && feeds (offerAt b (x .j)) (offerAt b j)) (x .has) in

@@ -1,12 +1,12 @@
 -- Example E13 (document 01, "Bench examples"): the bundle of E12, each body records of 52 and 12 bytes, component 1 needing component 2's new
 -- version; its run in both orders.
-use Prim.Native.Nat.{ℕ, zero, suc, _+_, _*_, _/_, _%_}
+use Prim.Native.Nat.{ℕ, zero, suc, _+_, _*_, _-_, _/_, _%_}
 use mathlib.Core.Path.{_≡_}
 use mathlib.Core.Bool.{cond}
 use mathlib.Core.List.{List, [], _∷_, _++_, map}
 use lib.Dec.{eqb}
 use lib.ListN.{length, getD, take, drop, replicate}
-use Rattle.wire.specs.Codes.{KIND-INFORMATION, OFFER-SKIP, OFFER-ACCEPT, OFFER-REJECT, REJECT-SWAP-PENDING, SUCCESS}
+use Rattle.wire.specs.Codes.{COMPONENT-LIMIT, KIND-INFORMATION, OFFER-SKIP, OFFER-ACCEPT, OFFER-REJECT, REJECT-SWAP-PENDING, SUCCESS}
 use Rattle.wire.specs.Version.{versionBytes, versionOf}
 use Rattle.wire.specs.declared.version.Version.{Version}
 use Rattle.crc16.specs.Crc.{crcOf}
@@ -82,7 +82,7 @@ updated =
     idleWith (bench Idle) (
     withStaged (component (bench Idle) 0) (versionOf 1 3 0)
     ∷ withStaged (component (bench Idle) 1) (versionOf 1 2 0)
-    ∷ replicate 5 blankComponent)
+    ∷ replicate (COMPONENT-LIMIT - 2) blankComponent)
 
 -- a run on the bench: the bundle of 204 bytes is accepted, demand 3's premise holds, and the run says this and is done
 pub record Runs (b : List ℕ) (p n : ℕ) (saying : List Said) : Type 0 where

@@ -5,7 +5,7 @@ use mathlib.Core.Path.{_≡_}
 use mathlib.Core.Bool.{true, false}
 use mathlib.Core.List.{List, [], _∷_, _++_, map}
 use lib.ListN.{length, take, drop, replicate}
-use Rattle.wire.specs.Codes.{OFFER-SKIP, OFFER-ACCEPT, OFFER-REJECT, REJECT-INV-COMPONENT, REJECT-SWAP-PENDING, SUCCESS}
+use Rattle.wire.specs.Codes.{COMPONENT-LIMIT, OFFER-SKIP, OFFER-ACCEPT, OFFER-REJECT, REJECT-INV-COMPONENT, REJECT-SWAP-PENDING, SUCCESS}
 use Rattle.wire.specs.Version.{versionBytes, versionOf}
 use Rattle.device_component.specs.Record.{isPending, withStaged, blankComponent}
 use Rattle.device_component.specs.declared.record.Component.{Component}
@@ -13,7 +13,8 @@ use Rattle.device_component.specs.declared.record.Staged.the-variants as staged
 use Rattle.bundle_layout.specs.Layout.{countIn}
 use Rattle.bundle.specs.Contents.{Part, bundleBytes}
 use Rattle.device.specs.declared.record.Device.{Device}
-use Rattle.device_session.specs.declared.stage.Stage.the-variants.{Idle, Receiving}
+use Rattle.device_session.specs.Effect.{idle}
+use Rattle.device_session.specs.declared.stage.Stage.the-variants.{Receiving}
 use Rattle.device_session.specs.declared.owed.Owed.the-variants as owed
 use Rattle.host_record.specs.declared.record.HostStage.the-variants.{Ended}
 use Rattle.host_record.specs.declared.record.End.the-variants.{Done}
@@ -24,7 +25,7 @@ use Rattle.update.specs.Bench.{placed, withCrc, code, offered, block, sa
 
 -- components with regions of 16 bytes, one after the other, all at 1.0.0
 abbrev pub at100 : (id : ℕ) → Component
-at100 id = record { id = id; running = versionOf 1 0 0; region = record { base = record { 0 = 16 * (id - 1) }; len = 16 }; staged = staged.Nothing }
+at100 id = record { fixed = record { id = id; region = record { base = record { 0 = 16 * (id - 1) }; len = 16 } }; running = versionOf 1 0 0; staged = staged.Nothing }
 
 -- the image of a component at 1.1.0, in two records of 8 bytes
 unfoldable pub image16 : (id : ℕ) → List ℕ
@@ -51,10 +52,9 @@ abbrev pub seven : Device
 seven = record {
   platform = 0x0042;
   «staging_len» = 112;
-  count = 7;
+  count = COMPONENT-LIMIT;
   components = at100 1 ∷ at100 2 ∷ at100 3 ∷ at100 4 ∷ at100 5 ∷ at100 6 ∷ at100 7 ∷ [];
-  stage = Idle;
-  owed = owed.Nothing;
+  session = idle;
 }
 
 abbrev pub chain : List ℕ
@@ -78,9 +78,8 @@ mixed = record {
   platform = 0x0042;
   «staging_len» = 64;
   count = 4;
-  components = at100 1 ∷ withStaged (at100 2) (versionOf 1 1 0) ∷ at100 3 ∷ at100 4 ∷ replicate 3 blankComponent;
-  stage = Receiving (record { slot = 0; token = 3; next = 5 });
-  owed = owed.Token 9;
+  components = at100 1 ∷ withStaged (at100 2) (versionOf 1 1 0) ∷ at100 3 ∷ at100 4 ∷ replicate (COMPONENT-LIMIT - 4) blankComponent;
+  session = record { stage = Receiving (record { slot = 0; token = 3; next = 5 }); owed = owed.Token 9 };
 }
 
 abbrev pub tangle : List ℕ
@@ -88,7 +87,7 @@ tangle = bundleBytes (needing 1 3 ∷ needing 3 1 ∷ alone 9 ∷ alone 2 ∷ al
 
 -- only component 4 lands
 abbrev pub MixedDevice : Type 0
-MixedDevice = map (λ c. isPending (c .staged)) (comes tangle mixed .device .components) ≡ false ∷ true ∷ false ∷ true ∷ replicate 3 false
+MixedDevice = map (λ c. isPending (c .staged)) (comes tangle mixed .device .components) ≡ false ∷ true ∷ false ∷ true ∷ replicate (COMPONENT-LIMIT - 4) false
 
 abbrev pub MixedStaging : Type 0
 MixedStaging = comes tangle mixed .staging ≡ replicate 48 0 ++ image16 4

@@ -7,7 +7,7 @@ use mathlib.Core.Bool.{Bool, true, not, _&&_}
 use mathlib.Core.List.{List, [], _∷_}
 use lib.Dec.{T, leb, eqb}
 use lib.ListN.{length, getD}
-use Rattle.wire.specs.Checks.{applies}
+use Rattle.wire.specs.Checks.{All, applies}
 use Rattle.wire.specs.Version.{releaseOf}
 use Rattle.wire_offer.specs.Offer.{fieldsIn}
 use Rattle.wire_offer.specs.declared.offer.OfferFields.{OfferFields}
@@ -22,6 +22,7 @@ use Rattle.device.specs.Record.{find, component, toIdle, idleWith}
 use Rattle.device.specs.Offer.{rejections, needUnmet}
 use Rattle.device.specs.declared.record.Device.{Device}
 use Rattle.host.specs.Step.{entryAt, blocksAt}
+use Rattle.update_passes.specs.Sets.{Set}
 
 -- the offer of an entry
 abbrev pub offerAt : (b : List ℕ) → ℕ → OfferFields
@@ -38,15 +39,14 @@ imageOf len rs = writes (blank len) rs
 
 -- the records lie inside a region
 abbrev pub Inside : (len : ℕ) → List Block → Type 0
-Inside len [] = Unit {0}
-Inside len (r ∷ rs) = (r .address .0 + length (r .bytes) ≤ len) × Inside len rs
+Inside len rs = All (λ (r : Block). r .address .0 + length (r .bytes) ≤ len) rs
 
 -- a good body: its records lie inside the component's region and give an image with a right CRC, that component's id and the offered version
 pub record Good (c : Component) (o : OfferFields) (rs : List Block) : Type 0 where
-  pub inside : Inside (c .region .len) rs
-  pub crc : isRight (imageOf (c .region .len) rs) ≡ true
-  pub id : imageId (imageOf (c .region .len) rs) ≡ o .id
-  pub version : imageVersion (imageOf (c .region .len) rs) ≡ o .version
+  pub inside : Inside (c .fixed .region .len) rs
+  pub crc : isRight (imageOf (c .fixed .region .len) rs) ≡ true
+  pub id : imageId (imageOf (c .fixed .region .len) rs) ≡ o .id
+  pub version : imageVersion (imageOf (c .fixed .region .len) rs) ≡ o .version
 
 -- an offer passes checks 2 to 7
 abbrev pub isEligible : Device → OfferFields → Bool
@@ -59,10 +59,6 @@ isMet d o = not (needUnmet d o)
 -- the offered version of one offer meets the need of another
 abbrev pub feeds : (o′ o : OfferFields) → Bool
 feeds o′ o = not (eqb (o .need) 0) && (eqb (o′ .id) (o .need) && leb (o .least) (releaseOf (o′ .version)))
-
--- a set of entries, by their numbers
-abbrev pub Set : Type 0
-Set = ℕ → Bool
 
 -- another member of the set meets the need of entry i
 pub record Fed (b : List ℕ) (X : Set) (i : ℕ) : Type 0 where
@@ -100,11 +96,11 @@ pub record Leaves (d : Device) (b : List ℕ) (X : Set) (d′ : Device) : Type 0
 -- place j lies outside the regions of the members
 abbrev pub Untouched : Device → (b : List ℕ) → Set → (j : ℕ) → Type 0
 Untouched d b X j = (i k : ℕ) → i < countIn b → T (X i) → find d (offerAt b i .id) ≡ At k
-    → (j < component d k .region .base .0) ⊎ (component d k .region .base .0 + component d k .region .len ≤ j)
+    → (j < component d k .fixed .region .base .0) ⊎ (component d k .fixed .region .base .0 + component d k .fixed .region .len ≤ j)
 
 -- the staging buffer that a set leaves: each member's region is its image, and every other byte is as it was
 pub record Fills (d : Device) (b : List ℕ) (X : Set) (s s′ : List ℕ) : Type 0 where
   pub long : length s′ ≡ length s
   pub images : (i k : ℕ) → i < countIn b → T (X i) → find d (offerAt b i .id) ≡ At k
-      → regionBytes (component d k .region) s′ ≡ imageOf (component d k .region .len) (blocksAt b i)
+      → regionBytes (component d k .fixed .region) s′ ≡ imageOf (component d k .fixed .region .len) (blocksAt b i)
   pub rest : (j : ℕ) → Untouched d b X j → getD s′ j 0 ≡ getD s j 0

@@ -25,7 +25,8 @@ use Rattle.update.specs.Run.{System, answerTo, run, start, recordsIn, la
 use Rattle.update.specs.Answer as answer
 use Rattle.update.specs.Answer.{Ran, ended}
 use Rattle.update.specs.Ends.{Counted, completedOf}
-use Rattle.update.specs.Claim.{offerAt, Set, Good, Smallest, Leaves, Fills}
+use Rattle.update_passes.specs.Sets.{Set}
+use Rattle.update.specs.Claim.{offerAt, Good, Smallest, Leaves, Fills}
 
 -- every body for a component that the device has is good
 abbrev pub GoodBodies : (b : List ℕ) → Device → Type 0

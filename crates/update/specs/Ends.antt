@@ -6,6 +6,7 @@ use mathlib.Core.List.{List, [], _∷_, _++_}
 use lib.Count.{ones}
 use lib.ListN.{length}
 use Rattle.wire.specs.Bytes.{Bytes}
+use Rattle.wire.specs.Checks.{All}
 use Rattle.wire.specs.Rows as packet
 use Rattle.wire_offer.specs.Offer as offer
 use Rattle.wire_offer.specs.Signal.{informationBytes, extendedBytes}
@@ -46,11 +47,6 @@ pub data Built : List ℕ → Type 0 where
   anOffer : (o : OfferFields) → offer.buildOf o .row ≡ packet.served → Built (offer.buildOf o .value)
   aContent : (c : ContentFields) → content.buildOf c .row ≡ packet.served → Built (content.buildOf c .value)
 
--- every packet of a list
-abbrev pub AllBuilt : List (List ℕ) → Type 0
-AllBuilt [] = Unit {0}
-AllBuilt (p ∷ ps) = Built p × AllBuilt ps
-
 -- how many of the first n entries the list shows completed
 unfoldable pub completedOf : (b : List ℕ) → List Exchange → (n : ℕ) → ℕ
 completedOf b trace zero = 0
@@ -74,7 +70,7 @@ pub record Ends (b : List ℕ) (token : ℕ) (replies : ℕ → List ℕ) : Type
   -- an ended record is reached within the bound
   pub ended : hasEnded (talk b token replies (boundOf b) .host .stage) ≡ true
   -- every packet is one that P2 allows
-  pub built : (k : ℕ) → AllBuilt (stepOf b (talk b token replies k .host) (replies k) .sent)
+  pub built : (k : ℕ) → All Built (stepOf b (talk b token replies k .host) (replies k) .sent)
 
 abbrev pub HostEnds : Type 0
 HostEnds = (b : List ℕ) (token : ℕ) (replies : ℕ → List ℕ) → Bytes b → bundle.bundleRow b ≡ bundle.served → token < 256 → Ends b token replies

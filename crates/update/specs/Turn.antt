@@ -3,17 +3,18 @@ use Prim.Native.Nat.{ℕ}
 use mathlib.Core.Path.{_≡_}
 use mathlib.Core.Bool.{cond}
 use mathlib.Core.List.{List, []}
-use Rattle.bundle.specs.Contents.{Contents}
+use Rattle.bundle_layout.specs.Rows as bundle
 use Rattle.host_packet.specs.Made.{InnerStep}
 use Rattle.host.specs.Inner.{innerOf}
 use Rattle.host_record.specs.declared.record.Host.{Host}
+use Rattle.host_record.specs.declared.fits.Body.{Body}
 use Rattle.update.specs.declared.turn.BothEnds.{BothEnds}
 use Rattle.update.specs.Trace.{Exchange}
 use Rattle.update.specs.Run.{System, deliver}
 
 -- the last reply, and no bytes where none was sent
 abbrev pub replyOf : BothEnds → List ℕ
-replyOf e = cond (e .due) (e .reply) []
+replyOf e = cond (e .replies .due) (e .replies .reply) []
 
 -- both ends, with the staging buffer and the list of what was sent
 abbrev pub systemOf : BothEnds → (staging : List ℕ) → List Exchange → System
@@ -23,9 +24,9 @@ systemOf e staging trace = record { host = e .host; device = e .device; staging 
 abbrev pub Comes : System → BothEnds → (staging : List ℕ) → Type 0
 Comes s e staging = (trace : List Exchange) × (s ≡ systemOf e staging trace)
 
--- the host's step, at its cursor
-abbrev pub stepFrom : (b : List ℕ) → Contents → BothEnds → InnerStep
-stepFrom b c e = innerOf b c (e .cursor) (e .host) (replyOf e)
+-- the host's step at its cursor, over an accepted bundle of so many offers, with the body in hand
+abbrev pub stepFrom : (b : List ℕ) → (count : ℕ) → (hand : Body) → BothEnds → InnerStep
+stepFrom b count hand e = innerOf b bundle.served count hand (e .cursor) (e .host) (replyOf e)
 
 -- what a step of the host leaves: it takes effect, and the cursor is kept
 abbrev pub Delivered : List (List ℕ) → Host → (cursor : ℕ) → BothEnds → (staging : List ℕ) → BothEnds → (staging : List ℕ) → Type 0
@@ -33,6 +34,6 @@ Delivered sent host cursor e staging e′ staging′ =
     (e′ .cursor ≡ cursor) × ((trace : List Exchange) → Comes (deliver sent host (systemOf e staging trace)) e′ staging′)
 
 -- one turn: the host's step, and what it sends is answered
-abbrev pub Turned : (b : List ℕ) → Contents → BothEnds → (staging : List ℕ) → BothEnds → (staging : List ℕ) → Type 0
-Turned b c e staging e′ staging′ =
-    Delivered (stepFrom b c e .step .sent) (stepFrom b c e .step .host) (stepFrom b c e .cursor) e staging e′ staging′
+abbrev pub Turned : (b : List ℕ) → (count : ℕ) → (hand : Body) → BothEnds → (staging : List ℕ) → BothEnds → (staging : List ℕ) → Type 0
+Turned b count hand e staging e′ staging′ =
+    Delivered (stepFrom b count hand e .step .sent) (stepFrom b count hand e .step .host) (stepFrom b count hand e .cursor) e staging e′ staging′

@@ -1,13 +1,10 @@
 // Both ends: the run of a fresh host against a device, and what it answers.
 ghost use mathlib.Core.Path.{_≡_};
-ghost use mathlib.Core.List.{List};
-ghost use Prim.Native.Nat.{ℕ};
 ghost use Rattle.update.specs.Answer.{rowOf, refusedBy, runOf, told};
 ghost use Rattle.update.specs.Demand.{DemandOf};
 use crate::turn::run_to_end;
 use bundle::check;
 use bundle_layout::BundleVerdict;
-use bundle_layout::row_number;
 use device::record::Device;
 use host_record::record::Host;
 use host_record::report::Report;
@@ -33,7 +30,7 @@ pub struct RunAnswer {
 
 // A refused run sends nothing and changes nothing.
 fn refused(refusal: RunRefusal, token: u8, device: Device) -> RunAnswer
-    ensures { λ r. ⌜ ((staging : List ℕ) → told r staging ≡ refusedBy (rowOf refusal) token device staging) ⌝ }
+    ensures { λ r. ⌜ told r ≡ refusedBy (rowOf refusal) token device ⌝ }
 {
     let host = Host::fresh(token);
     let report = host.report();
@@ -51,24 +48,23 @@ pub fn run(bundle: &[u8], token: u8, device: Device, staging: &mut [u8]) -> RunA
 {
     let checked = check(bundle);
     let verdict = checked.verdict;
-    if row_number(verdict) == 0 {
-        if device.breaks_d1() {
-            return refused(RunRefusal::D1, token, device);
-        }
-        if staging.len() != (device.staging_len as usize) {
-            return refused(RunRefusal::D2, token, device);
-        }
-        let e = run_to_end(checked, bundle, token, device, staging);
-        let host = e.host;
-        let last = e.device;
-        let report = host.report();
-        RunAnswer {
-            refusal: RunRefusal::Served,
-            report,
-            device: last,
-        }
-    } else {
+    if verdict.is_refused() {
         let place = checked.place;
-        refused(RunRefusal::Bundle { verdict, place }, token, device)
+        return refused(RunRefusal::Bundle { verdict, place }, token, device);
+    }
+    if device.breaks_d1() {
+        return refused(RunRefusal::D1, token, device);
+    }
+    if staging.len() != (device.staging_len as usize) {
+        return refused(RunRefusal::D2, token, device);
+    }
+    let e = run_to_end(checked, bundle, token, device, staging);
+    let host = e.host;
+    let last = e.device;
+    let report = host.report();
+    RunAnswer {
+        refusal: RunRefusal::Served,
+        report,
+        device: last,
     }
 }

@@ -1,19 +1,26 @@
 // A fresh host and a device in turn, over the contents of a bundle that was checked once, so that the work is linear in the packets.
 ghost use mathlib.Core.Path.{_≡_};
+ghost use mathlib.Core.Bool.{cond};
 ghost use mathlib.Core.List.{[]};
+ghost use lib.ListN.{length};
 ghost use Rattle.bundle_layout.specs.Rows as rows;
 ghost use Rattle.bundle.specs.Contents.{toldChecked, checkOf};
 ghost use Rattle.host_record.specs.Record.{hasEnded};
+ghost use Rattle.host_packet.specs.Packet.{PACKET-SIZE};
 ghost use Rattle.host_packet.specs.Answer.{sentBy};
-ghost use Rattle.host_packet.specs.Made.{toldInner};
 ghost use Rattle.update.specs.Run.{lastOf};
-ghost use Rattle.update.specs.Turn.{stepFrom, Comes, Delivered, Turned};
+ghost use Rattle.update.specs.Turn.{Comes, Delivered, Turned};
+use bundle_layout::BundleVerdict;
 use bundle_layout::Checked;
 use device::answer::Answer;
 use device::record::Device;
+use device_session::effect::Replies;
 use host::inner::inner_step;
-use host_packet::answer::InnerAnswer;
 use host_packet::answer::Sent;
+use host_packet::packet::PACKET_SIZE;
+use host_record::fits::Body;
+use host_record::fits::body_at;
+use host_record::fits::in_hand;
 use host_record::record::Host;
 use host_record::record::HostStage;
 
@@ -21,9 +28,8 @@ use host_record::record::HostStage;
 pub struct BothEnds {
     pub host: Host,
     pub device: Device,
-    // A reply was sent last, and these are its bytes.
-    pub due: bool,
-    pub reply: [u8; 16],
+    // What the device sent last.
+    pub replies: Replies,
     // The place of the record after the one that the host has in hand.
     pub cursor: usize,
 }
@@ -44,54 +50,47 @@ fn has_ended(stage: HostStage) -> bool
     }
 }
 
-// The host's step on the last reply.
-fn step_from(checked: Checked, bundle: &[u8], e: BothEnds) -> InnerAnswer
-    ensures { λ r. ⌜ toldInner r ≡ stepFrom (now (bundle .entry)) (toldChecked checked) e ⌝ }
+// How many bytes of the last reply the host hears: all where one was due, otherwise none.
+fn heard(due: bool) -> usize
+    ensures { λ r. ⌜ r ≡ cond due 16 0 ⌝ }
 {
-    let host = e.host;
-    let reply = e.reply;
-    if e.due {
-        inner_step(checked, e.cursor, host, bundle, &reply)
-    } else {
-        inner_step(checked, e.cursor, host, bundle, &reply[..0])
-    }
+    if due { 16 } else { 0 }
 }
 
 // What a packet leaves, once it is answered.
-fn after(host: Host, cursor: usize, a: Answer) -> BothEnds
-    ensures { λ r. ⌜ r ≡ record { host = host; device = a .device; due = a .due; reply = a .reply; cursor = cursor } ⌝ }
+fn after(host: Host, next: usize, a: Answer) -> BothEnds
+    ensures { λ r. ⌜ r ≡ record { host = host; device = a .device; replies = a .replies; cursor = next } ⌝ }
 {
     let device = a.device;
-    let reply = a.reply;
+    let replies = a.replies;
     BothEnds {
         host,
         device,
-        due: a.due,
-        reply,
-        cursor,
+        replies,
+        cursor: next,
     }
 }
 
 // What the host sent is answered, and its next record and cursor are kept.
 fn deliver(
     sent: Sent,
-    packet: [u8; 60],
+    packet: &[u8],
     host: Host,
     cursor: usize,
     e: BothEnds,
     staging: &mut [u8],
 ) -> BothEnds
-    ensures { λ r. ⌜ Delivered (sentBy sent packet) host cursor e (now (staging .entry)) r (now (staging .exit)) ⌝ }
+    requires { ⌜ length (now packet) ≡ PACKET-SIZE ⌝ }
+    ensures { λ r. ⌜ Delivered (sentBy sent (now (packet .entry))) host cursor e (now (staging .entry)) r (now (staging .exit)) ⌝ }
 {
     let device = e.device;
     match sent {
         Sent::Nothing => {
-            let reply = e.reply;
+            let replies = e.replies;
             BothEnds {
                 host,
                 device,
-                due: e.due,
-                reply,
+                replies,
                 cursor,
             }
         }
@@ -100,22 +99,35 @@ fn deliver(
             after(host, cursor, a)
         }
         Sent::Content => {
-            let a = device.content(staging, &packet);
+            let a = device.content(staging, packet);
             after(host, cursor, a)
         }
     }
 }
 
-// One turn: the host's step, and what it sends is answered.
-fn turn(checked: Checked, bundle: &[u8], e: BothEnds, staging: &mut [u8]) -> BothEnds
-    ensures { λ r. ⌜ Turned (now (bundle .entry)) (toldChecked checked) e (now (staging .entry)) r (now (staging .exit)) ⌝ }
+// One turn: the host's step on the last reply, over an accepted bundle of `count` offers, and what it sends is answered.
+fn turn(count: u8, hand: Body, bundle: &[u8], e: BothEnds, staging: &mut [u8]) -> BothEnds
+    ensures { λ r. ⌜ Turned (now (bundle .entry)) count hand e (now (staging .entry)) r (now (staging .exit)) ⌝ }
 {
-    let a = step_from(checked, bundle, e);
-    let step = a.step;
-    let sent = step.sent;
-    let packet = step.packet;
-    let host = step.host;
-    deliver(sent, packet, host, a.cursor, e, staging)
+    let host = e.host;
+    let replies = e.replies;
+    let reply = replies.reply;
+    let n = heard(replies.due);
+    let mut packet = [0u8; PACKET_SIZE];
+    let s = inner_step(
+        &mut packet,
+        BundleVerdict::Fine,
+        0,
+        count,
+        hand,
+        e.cursor,
+        host,
+        bundle,
+        &reply[..n],
+    );
+    let sent = s.sent;
+    let next = s.host;
+    deliver(sent, &packet, next, s.cursor, e, staging)
 }
 
 // Over an accepted bundle: turn by turn, until the host has ended.
@@ -130,19 +142,21 @@ pub(crate) fn run_to_end(
     ensures { λ r. ⌜ Comes (lastOf (now (bundle .entry)) token device (now (staging .entry)) []) r (now (staging .exit)) ⌝ }
 {
     let host = Host::fresh(token);
+    let replies = Replies::none();
+    let count = checked.count;
+    let table = checked.table;
     let mut e = BothEnds {
         host,
         device,
-        due: false,
-        reply: [0u8; 16],
+        replies,
         cursor: 0,
     };
-    let mut ended = false;
-    while !ended {
-        e = turn(checked, bundle, e, staging);
+    let mut stage = HostStage::Fresh;
+    while !has_ended(stage) {
+        let hand = body_at(table, in_hand(stage));
+        e = turn(count, hand, bundle, e, staging);
         let next = e.host;
-        let stage = next.stage;
-        ended = has_ended(stage);
+        stage = next.stage;
     }
     e
 }

@@ -6,7 +6,8 @@ use mathlib.Core.Bool.{Bool, true, false, not, _&&_}
 use mathlib.Core.List.{List, [], _∷_}
 use lib.Dec.{T, eqb}
 use lib.ListN.{length}
-use Rattle.update_passes.specs.Sets.{Set, Sub, some, weight, one}
+use Rattle.wire.specs.Checks.{any}
+use Rattle.update_passes.specs.Sets.{Set, Sub, weight, one}
 use Rattle.update_passes.specs.Passes.{Offers, Passes, opened, unpassed, onePass, onward, again, repeat, passesOf, Closed, Monotone, PassesReach, NeedMonotone}
 use Rattle.update_passes.proofs.Tests.{cond-cases, or-inl, or-inr, or-cases, and-r}
 use Rattle.update_passes.proofs.Sets.{weight-all, weight-full}
@@ -71,10 +72,11 @@ passes-reach y os mono =
     few = omega (arith, repeat-passes y os (length os) unpassed)
 
 -- a test that holds of more members
-some-mono : (os : List ℕ) (p q : ℕ → Bool) → ((j : ℕ) → T (p j) → T (q j)) → T (some os p) → T (some os q)
+some-mono : (os : List ℕ) (p q : ℕ → Bool) → ((j : ℕ) → T (p j) → T (q j)) → T (any p os) → T (any q os)
+unfolding any
 some-mono [] p q h t = t
 some-mono (j ∷ js) p q h t =
-    or-cases (p j) (some js p) (λ z. or-inl (q j) (some js q) (h j z)) (λ z. or-inr (q j) (some js q) (some-mono js p q h z)) t
+    or-cases (p j) (any p js) (λ z. or-inl (q j) (any q js) (h j z)) (λ z. or-inr (q j) (any q js) (some-mono js p q h z)) t
 
 -- a test that holds in more cases
 and-mono : (a b c : Bool) → (T a → T b) → T (a && c) → T (b && c)
@@ -84,8 +86,8 @@ and-mono true false c h t = h tt
 -- a need that a set meets, a larger set meets
 pub need-monotone : NeedMonotone
 need-monotone start gives os eligible records A B sub i t =
-    or-cases (start i) (some os (λ j. A j && (not (eqb j i) && gives j i)))
-    (or-inl (start i) (some os (λ j. B j && (not (eqb j i) && gives j i))))
-    (λ z. or-inr (start i) (some os (λ j. B j && (not (eqb j i) && gives j i)))
+    or-cases (start i) (any (λ j. A j && (not (eqb j i) && gives j i)) os)
+    (or-inl (start i) (any (λ j. B j && (not (eqb j i) && gives j i)) os))
+    (λ z. or-inr (start i) (any (λ j. B j && (not (eqb j i) && gives j i)) os)
     (some-mono os (λ j. A j && (not (eqb j i) && gives j i)) (λ j. B j && (not (eqb j i) && gives j i))
     (λ j. and-mono (A j) (B j) (not (eqb j i) && gives j i) (sub j)) z)) t

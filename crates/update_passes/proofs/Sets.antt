@@ -8,7 +8,8 @@ use mathlib.Core.Bool.{Bool, true, false, not, cond}
 use mathlib.Core.List.{List, [], _∷_}
 use lib.Dec.{T, eqb, eqb→eq, eqb-refl}
 use lib.ListN.{length}
-use Rattle.update_passes.specs.Sets.{Set, Sub, In, all, ins, from, some, weight, one}
+use Rattle.wire.specs.Checks.{any}
+use Rattle.update_passes.specs.Sets.{Set, Sub, In, all, ins, from, weight, one}
 use Rattle.update_passes.proofs.Tests.{or-inl, or-inr, or-cases, bool-cases, is-true, is-false}
 
 -- one member more: the old ones, the new one, and where it stays inside
@@ -51,16 +52,18 @@ pub record Some (os : List ℕ) (p : ℕ → Bool) : Type 0 where
   pub has : T (p j)
 
 -- a test that holds of some member names it
-pub some-out : (os : List ℕ) (p : ℕ → Bool) → T (some os p) → Some os p
+pub some-out : (os : List ℕ) (p : ℕ → Bool) → T (any p os) → Some os p
+unfolding any
 some-out [] p t = absurd t
 some-out (j ∷ js) p t =
-    or-cases (p j) (some js p) (λ z. record { j = j; listed = inl refl; has = z })
+    or-cases (p j) (any p js) (λ z. record { j = j; listed = inl refl; has = z })
     (λ z. let s = some-out js p z in record { j = s .j; listed = inr (s .listed); has = s .has }) t
 
 -- a test that holds of a member holds of some
-pub some-in : (os : List ℕ) (p : ℕ → Bool) (j : ℕ) → In j os → T (p j) → T (some os p)
-some-in (k ∷ ks) p j (inl q) t = or-inl (p k) (some ks p) (subst (λ (n : ℕ). T (p n)) q t)
-some-in (k ∷ ks) p j (inr m) t = or-inr (p k) (some ks p) (some-in ks p j m t)
+pub some-in : (os : List ℕ) (p : ℕ → Bool) (j : ℕ) → In j os → T (p j) → T (any p os)
+unfolding any
+some-in (k ∷ ks) p j (inl q) t = or-inl (p k) (any p ks) (subst (λ (n : ℕ). T (p n)) q t)
+some-in (k ∷ ks) p j (inr m) t = or-inr (p k) (any p ks) (some-in ks p j m t)
 
 -- weights grow with the set
 cond-mono : (a b : Bool) (n : ℕ) → (T a → T b) → cond a n zero ≤ cond b n zero

@@ -5,7 +5,8 @@ use mathlib.Core.Bool.{Bool, true, false, not, cond, _&&_, _||_}
 use mathlib.Core.List.{List, [], _∷_}
 use lib.Dec.{T, eqb}
 use lib.ListN.{length}
-use Rattle.update_passes.specs.Sets.{Set, Sub, In, none, all, ins, some, weight}
+use Rattle.wire.specs.Checks.{any}
+use Rattle.update_passes.specs.Sets.{Set, Sub, In, none, all, ins, weight}
 
 -- what is known of the offers: which pass the checks that no landing changes but their own; whose need is met once a set has landed; the records of each
 pub record Offers : Type 0 where
@@ -98,7 +99,7 @@ PassesReach = (y : Offers) (os : List ℕ) → Monotone y → Reached y os
 
 -- the need of an offer: met at the start, or given by another member
 abbrev pub needMet : (start : ℕ → Bool) → (gives : ℕ → ℕ → Bool) → List ℕ → Set → ℕ → Bool
-needMet start gives os S i = start i || some os (λ j. S j && (not (eqb j i) && gives j i))
+needMet start gives os S i = start i || any (λ j. S j && (not (eqb j i) && gives j i)) os
 
 -- so the need is monotone
 abbrev pub NeedMonotone : Type 0

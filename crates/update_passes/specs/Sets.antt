@@ -36,11 +36,6 @@ abbrev pub from : (k m : ℕ) → List ℕ
 from k zero = []
 from k (suc m) = k ∷ from (suc k) m
 
--- p holds of some member of a list
-abbrev pub some : List ℕ → (ℕ → Bool) → Bool
-some [] p = false
-some (j ∷ js) p = p j || some js p
-
 -- the weights of those members of a list that are in a set
 abbrev pub weight : (ℕ → ℕ) → Set → List ℕ → ℕ
 weight f S [] = zero

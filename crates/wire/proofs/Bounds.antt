@@ -3,7 +3,7 @@ use mathlib.Core.Path.{_≡_, refl}
 use mathlib.Core.List.{List, [], _∷_, _++_}
 use Prim.Native.Nat.{ℕ, zero, suc, _+_, _*_, _^_, _<_}
 use native.Mathlib.Omega.{arith}
-use lib.ListN.{getD, drop}
+use lib.ListN.{getD, take, drop}
 use lib.Seq.{getD-drop}
 use Rattle.wire.specs.Bytes.{Bytes, number, bytesOf, bytesAt}
 use Rattle.wire.specs.Version.{FitsVersion, versionAt, versionBytes}
@@ -36,7 +36,14 @@ version-bytes v h (suc (suc zero)) = omega arith
 version-bytes v h (suc (suc (suc zero))) = omega arith
 version-bytes v h (suc (suc (suc (suc i)))) = omega arith
 
--- what follows a place
+-- the first n bytes
+pub first-bytes : (n : ℕ) (l : List ℕ) → Bytes l → Bytes (take n l)
+first-bytes zero l h i = omega arith
+first-bytes (suc n) [] h i = h i
+first-bytes (suc n) (x ∷ l) h zero = h zero
+first-bytes (suc n) (x ∷ l) h (suc i) = first-bytes n l (λ j. h (suc j)) i
+
+-- what follows them
 pub rest-bytes : (n : ℕ) (l : List ℕ) → Bytes l → Bytes (drop n l)
 rest-bytes n l h i = rw getD-drop (h (n + i))
 

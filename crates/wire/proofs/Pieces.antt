@@ -10,17 +10,27 @@ use lib.Seq.{take-all, take-at, take-suc-set, length-take-le, drop-drop}
 use Rattle.wire.specs.Bytes.{copyOf}
 use Rattle.wire.proofs.words.Copies.{copy-same}
 
--- a copy of n bytes into the part from `at` on: the bytes stay as many, and what is written up to the part's end
-pub put-more : (out s last : List ℕ) (at n k : ℕ) → k ≡ n → length s ≡ n → at + n ≤ length out → last ≡ copyOf (take k (drop at out)) s
-    → (length (take at out ++ (last ++ drop k (drop at out))) ≡ length out) × (take (at + n) (take at out ++ (last ++ drop k (drop at out))) ≡ take at out ++ s)
-put-more out s last at n k p e h f =
+-- a copy of n bytes into the part from `at` on leaves them there
+pub copied : (out s last : List ℕ) (at n k : ℕ) → k ≡ n → length s ≡ n → at + n ≤ length out → last ≡ copyOf (take k (drop at out)) s
+    → take at out ++ (last ++ drop k (drop at out)) ≡ take at out ++ (s ++ drop (at + n) out)
+copied out s last at n k p e h f =
     let m : length (take k (drop at out)) ≡ length s = simp (length-take, length-drop) (omega arith) in
-    let q : last ≡ s = f ∙ copy-same (take k (drop at out)) s m in
+    ap₂ (λ (u v : List ℕ). take at out ++ (u ++ v)) (f ∙ copy-same (take k (drop at out)) s m) (drop-drop k at out ∙ ap (λ (i : ℕ). drop (at + i) out) p)
+
+-- the bytes stay as many, and what stands up to the end of what is stored
+pub stored : (out s : List ℕ) (at n : ℕ) → length s ≡ n → at + n ≤ length out
+    → (length (take at out ++ (s ++ drop (at + n) out)) ≡ length out) × (take (at + n) (take at out ++ (s ++ drop (at + n) out)) ≡ take at out ++ s)
+stored out s at n e h =
     let l : length (take at out) ≡ at = length-take-le at out (omega arith) in
     let o : length (take at out ++ s) ≡ at + n = length-append (take at out) s ∙ ap₂ (λ (x y : ℕ). x + y) l e in (
-      rw q (simp (length-append, length-take, length-drop) (omega arith)),
-      rw (q, ← append-assoc (take at out) s (drop k (drop at out))) (take-at (take at out ++ s) (drop k (drop at out)) (at + n) o),
+      simp (length-append, length-take, length-drop) (omega arith),
+      rw (← append-assoc (take at out) s (drop (at + n) out)) (take-at (take at out ++ s) (drop (at + n) out) (at + n) o),
     )
+
+-- so it is for a copy
+pub put-more : (out s last : List ℕ) (at n k : ℕ) → k ≡ n → length s ≡ n → at + n ≤ length out → last ≡ copyOf (take k (drop at out)) s
+    → (length (take at out ++ (last ++ drop k (drop at out))) ≡ length out) × (take (at + n) (take at out ++ (last ++ drop k (drop at out))) ≡ take at out ++ s)
+put-more out s last at n k p e h f = rw (copied out s last at n k p e h f) (stored out s at n e h)
 
 -- the pieces of a list one after the other: one more piece
 module _ {A : Type 0} (piece : A → List ℕ) (pieces : List A → List ℕ) (none : pieces [] ≡ []) (some : (x : A) (l : List A) → pieces (x ∷ l) ≡ piece x ++ pieces l) where
@@ -32,21 +42,31 @@ module _ {A : Type 0} (piece : A → List ℕ) (pieces : List A → List ℕ) (n
   pub piece-more : (i : ℕ) (l : List A) (d : A) → i < length l → pieces (take (i + 1) l) ≡ pieces (take i l) ++ piece (getD l i d)
   piece-more i l d h = rw add-one (piece-suc i l d h)
 
+  -- pieces of one size
+  pub pieces-sized : (n : ℕ) → ((x : A) → length (piece x) ≡ n) → (l : List A) → length (pieces l) ≡ length l * n
+  pieces-sized n h [] = let e : 0 ≡ 0 * n = omega arith in ap length none ∙ e
+  pieces-sized n h (x ∷ l) =
+      ap length (some x l) ∙ length-append (piece x) (pieces l) ∙ ap₂ (λ (a b : ℕ). a + b) (h x) (pieces-sized n h l) ∙ add-comm n (length l * n) ∙ sym (suc-mul (length l) n)
+
+  -- where the pieces before member i are written, and then its own
+  pub piece-next : (out z front : List ℕ) (l : List A) (d : A) (i at next : ℕ) → i < length l → take at out ≡ front ++ pieces (take i l)
+      → take next z ≡ take at out ++ piece (getD l i d) → take next z ≡ front ++ pieces (take (i + 1) l)
+  piece-next out z front l d i at next h before e =
+      e ∙ ap (λ (q : List ℕ). q ++ piece (getD l i d)) before ∙ append-assoc front (pieces (take i l)) (piece (getD l i d)) ∙ ap (λ (q : List ℕ). front ++ q) (sym (piece-more i l d h))
+
   -- the piece of member i is copied after those of the members before it
   pub piece-written : (out front s last : List ℕ) (l : List A) (d : A) (i at n next k : ℕ) → i < length l → k ≡ n → next ≡ at + n → length s ≡ n → next ≤ length out
       → s ≡ piece (getD l i d) → last ≡ copyOf (take k (drop at out)) s → take at out ≡ front ++ pieces (take i l)
       → (length (take at out ++ (last ++ drop k (drop at out))) ≡ length out)
       × (take next (take at out ++ (last ++ drop k (drop at out))) ≡ front ++ pieces (take (i + 1) l))
   piece-written out front s last l d i at n next k h p q e r f g before =
-      let put = put-more out s last at n k p e (omega arith) g in (
-        put .0,
-        rw (q, piece-more i l d h) (put .1 ∙ ap₂ (λ (u v : List ℕ). u ++ v) before f ∙ append-assoc front (pieces (take i l)) (piece (getD l i d))),
-      )
+      let put = put-more out s last at n k p e (omega arith) g in
+      (put .0, piece-next out _ front l d i at next h before (rw q (put .1 ∙ ap (λ (u : List ℕ). take at out ++ u) f)))
 
 -- a list of n that is read from bytes, each from `size` of them: one more
 module _ {A : Type 0} (size : ℕ) (one : List ℕ → A) (read : ℕ → List ℕ → List A) (none : (q : List ℕ) → read 0 q ≡ [])
     (some : (n : ℕ) (q : List ℕ) → read (suc n) q ≡ one q ∷ read n (drop size q)) where
-  read-suc : (i : ℕ) (q : List ℕ) → read (suc i) q ≡ read i q ++ (one (drop (i * size) q) ∷ [])
+  pub read-suc : (i : ℕ) (q : List ℕ) → read (suc i) q ≡ read i q ++ (one (drop (i * size) q) ∷ [])
   read-suc zero q = let e : 0 * size ≡ 0 = omega arith in rw (some, none, none, e)
   read-suc (suc i) q =
       some (suc i) q ∙ ap (λ (l : List A). one q ∷ l) (read-suc i (drop size q) ∙ ap (λ (l : List ℕ). read i (drop size q) ++ (one l ∷ [])) (drop-drop (i * size) size q ∙ ap (λ (n : ℕ). drop n q) (add-comm size (i * size) ∙ sym (suc-mul i size))))

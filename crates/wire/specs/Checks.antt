@@ -1,4 +1,4 @@
--- Checks in a list: the first that applies answers. Some, some two, and the first of a list.
+-- Checks in a list: the first that applies answers. Some, every, some two, and the first of a list.
 use Prim.Native.Nat.{ℕ, zero, suc}
 use mathlib.Core.Bool.{Bool, false, cond, _||_}
 use mathlib.Core.List.{List, [], _∷_}
@@ -18,6 +18,11 @@ module _ {A : Type 0} where
   unfoldable pub any : (A → Bool) → List A → Bool
   any p [] = false
   any p (x ∷ xs) = p x || any p xs
+
+  -- every member has p
+  abbrev pub All : (A → Type 0) → List A → Type 0
+  All p [] = Unit {0}
+  All p (x ∷ xs) = p x × All p xs
 
   -- q holds of some member and a later one
   unfoldable pub pairs : (A → A → Bool) → List A → Bool

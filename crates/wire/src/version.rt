@@ -1,6 +1,7 @@
 // A version: variant in bits 0-7, minor in bits 8-23, major in bits 24-31 (document 01, "Packets").
+use crate::words::byte_at;
 ghost use mathlib.Core.Path.{_≡_};
-ghost use Rattle.wire.specs.Version.{versionOf, readVersion, majorOf, minorOf, variantOf, versionBytes, releaseOf};
+ghost use Rattle.wire.specs.Version.{versionOf, readVersion, versionAt, majorOf, minorOf, variantOf, versionBytes, releaseOf};
 
 pub struct Version(u32);
 
@@ -30,6 +31,19 @@ impl Version {
             major,
             (minor_low as u16) + 256 * (minor_high as u16),
             variant,
+        )
+    }
+
+    // The version in the four bytes from a place on; past the end a byte is 0.
+    pub fn read_at(p: &[u8], i: u16) -> Self
+        ensures { λ r. ⌜ r ≡ versionAt i (now (p .entry)) ⌝ }
+    {
+        let at = i as usize;
+        Version::read(
+            byte_at(p, at),
+            byte_at(p, at + 1),
+            byte_at(p, at + 2),
+            byte_at(p, at + 3),
         )
     }
 
@@ -72,6 +86,6 @@ impl Version {
     pub fn release(self) -> u32
         ensures { λ r. ⌜ r ≡ releaseOf self ⌝ }
     {
-        self.0 / Self::MINOR
+        self.number() / Self::MINOR
     }
 }

@@ -1,7 +1,9 @@
-// Numbers in bytes, the least significant byte first, a copy of bytes and a comparison (document 01: numbers are little-endian unless said).
+// Numbers in bytes, the least significant byte first, a copy of bytes, a fill and a comparison; the lesser of two numbers (document 01:
+// numbers are little-endian unless said).
 ghost use mathlib.Core.Path.{_≡_};
 ghost use mathlib.Core.List.{[], _∷_};
-ghost use lib.ListN.{getD};
+ghost use Prim.Native.Nat.{min};
+ghost use lib.ListN.{length, getD, replicate};
 ghost use Rattle.wire.specs.Bytes.{number, bytesOf, bytesAt, copyOf, same as sameBytes};
 
 pub fn word16(a: u8, b: u8) -> u16
@@ -68,12 +70,12 @@ pub fn bytes32(v: u32) -> [u8; 4]
 {
     let second = v / 256;
     let third = second / 256;
-    let fourth = third / 256;
+    let last = third / 256;
     [
         (v % 256) as u8,
         (second % 256) as u8,
         (third % 256) as u8,
-        (fourth % 256) as u8,
+        (last % 256) as u8,
     ]
 }
 
@@ -112,6 +114,17 @@ pub fn copy(target: &mut [u8], source: &[u8])
     }
 }
 
+// Every byte becomes the value.
+pub fn fill(s: &mut [u8], value: u8)
+    ensures { λ _. ⌜ now (s .exit) ≡ replicate (length (now (s .entry))) value ⌝ }
+{
+    let mut i = 0;
+    while i < s.len() {
+        s[i] = value;
+        i += 1;
+    }
+}
+
 // Both are equally long, and equal byte by byte.
 pub fn same(a: &[u8], b: &[u8]) -> bool
     ensures { λ r. ⌜ r ≡ sameBytes (now (a .entry)) (now (b .entry)) ⌝ }
@@ -127,4 +140,11 @@ pub fn same(a: &[u8], b: &[u8]) -> bool
         i += 1;
     }
     true
+}
+
+// The lesser of the two.
+pub fn least(a: usize, b: usize) -> usize
+    ensures { λ r. ⌜ r ≡ min a b ⌝ }
+{
+    if a <= b { a } else { b }
 }

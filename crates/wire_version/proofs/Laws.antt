@@ -7,22 +7,23 @@ use native.Mathlib.Omega.{arith}
 use borrow.Author.Tests.{leb-true, eqb-true}
 use lib.Dec.{leb, eqb}
 use lib.ListN.{length, getD, take, drop, replicate, length-append, length-replicate}
-use lib.Seq.{take-at, getD-drop, length-take-le}
+use lib.Seq.{take-at, length-take-le}
 use Rattle.wire.specs.Bytes.{Bytes, Packet, bytesAt}
-use Rattle.wire.specs.Codes.{PROTOCOL}
+use Rattle.wire.specs.Codes.{PROTOCOL, COMPONENT-LIMIT}
 use Rattle.wire.specs.Rows.{served}
+use Rattle.wire.proofs.Bounds.{rest-bytes}
 use Rattle.wire.proofs.Tests.{both, served-true}
 use Rattle.wire.proofs.version.Laws.{parts, version-back}
 use Rattle.wire.proofs.words.Laws.{round, back}
 use Rattle.wire_version.specs.declared.Running.{Running}
 use Rattle.wire_version.specs.declared.VersionReply.{VersionReply}
-use Rattle.wire_version.specs.Reply.{none, FitsEntry, FitsReply, allowed, entryBytes, entryIn, flat, entries, cleanEntries, replyBytes, tableIn, fieldsIn, norm, cleanReply, buildOf, readOf}
+use Rattle.wire_version.specs.Reply.{REPLY-SIZE, none, FitsEntry, FitsReply, allowed, entryBytes, entryIn, flat, entries, cleanEntries, replyBytes, tableIn, fieldsIn, norm, cleanReply, buildOf, readOf}
 use Rattle.wire_version.specs.RoundTrip.{VersionReplyR1, VersionReplyR2, VersionReplyR3}
 use Rattle.wire_version.proofs.Entries.{sofar, length-sofar, length-entries}
 
 -- what is known of a count and a protocol that are not refused
-pub known : (count protocol : ℕ) → allowed count protocol ≡ true → (count ≤ 7) × (protocol ≡ PROTOCOL)
-known count protocol h = let k = both (leb count 7) (eqb protocol PROTOCOL) h in (leb-true count 7 (k .0), eqb-true protocol PROTOCOL (k .1))
+pub known : (count protocol : ℕ) → allowed count protocol ≡ true → (count ≤ COMPONENT-LIMIT) × (protocol ≡ PROTOCOL)
+known count protocol h = let k = both (leb count COMPONENT-LIMIT) (eqb protocol PROTOCOL) h in (leb-true count COMPONENT-LIMIT (k .0), eqb-true protocol PROTOCOL (k .1))
 
 -- one component reads back
 entry-back : (e : Running) (z : List ℕ) → FitsEntry e → entryIn (entryBytes e ++ z) ≡ e
@@ -42,7 +43,7 @@ entries-flat (e ∷ es) z h = ap₂ (λ (x : Running) (xs : List Running). x ∷
 flat-entries : (n : ℕ) (q : List ℕ) → Bytes q → flat (entries n q) ≡ cleanEntries n q
 unfolding entries flat cleanEntries
 flat-entries zero q h = refl
-flat-entries (suc n) q h = ap₂ (λ (x y : List ℕ). x ++ y) (bytes-back q h) (flat-entries n (drop 8 q) (λ i. rw getD-drop (h (8 + i))))
+flat-entries (suc n) q h = ap₂ (λ (x y : List ℕ). x ++ y) (bytes-back q h) (flat-entries n (drop 8 q) (rest-bytes 8 q h))
 
 -- reserved bytes change nothing that is read
 entries-clean : (n : ℕ) (q z : List ℕ) → entries n (cleanEntries n q ++ z) ≡ entries n q
@@ -65,7 +66,7 @@ fits-take (suc n) (e ∷ es) h (suc i) = fits-take n es (λ j. h (suc j)) i
 
 -- a reply that is built, and its packet
 module _ (r : VersionReply) (f : FitsReply r) (h : allowed (r .count) (r .protocol) ≡ true) where
-  packet-length : length (replyBytes (r .count) (r .protocol) (r .components)) ≡ 60
+  packet-length : length (replyBytes (r .count) (r .protocol) (r .components)) ≡ REPLY-SIZE
   unfolding replyBytes sofar
   packet-length = length-sofar (r .count) (r .protocol) (r .components) (r .count) (f .size) (known (r .count) (r .protocol) h .0)
 
@@ -88,8 +89,8 @@ module _ (r : VersionReply) (f : FitsReply r) (h : allowed (r .count) (r .protoc
   packet-fields = simp (packet-table, protocol-kept)
 
 -- a packet that is read, and the one with its reserved bits zero
-module _ (p : List ℕ) (k : Packet 60 p) (h : allowed (getD p 0 0) (getD p 3 0 % 16) ≡ true) where
-  clean-length : length (cleanReply p) ≡ 60
+module _ (p : List ℕ) (k : Packet REPLY-SIZE p) (h : allowed (getD p 0 0) (getD p 3 0 % 16) ≡ true) where
+  clean-length : length (cleanReply p) ≡ REPLY-SIZE
   unfolding cleanReply
   clean-length =
       let l = known (getD p 0 0) (getD p 3 0 % 16) h in
@@ -99,8 +100,8 @@ module _ (p : List ℕ) (k : Packet 60 p) (h : allowed (getD p 0 0) (getD p 3 0 
   unfolding replyBytes tableIn cleanReply
   fields-packet =
       simp (
-        take-at (entries (getD p 0 0) (drop 4 p)) (replicate (7 - getD p 0 0) none) (getD p 0 0) (length-entries (getD p 0 0) (drop 4 p)),
-        flat-entries (getD p 0 0) (drop 4 p) (λ i. rw getD-drop (k .bytes (4 + i))),
+        take-at (entries (getD p 0 0) (drop 4 p)) (replicate (COMPONENT-LIMIT - getD p 0 0) none) (getD p 0 0) (length-entries (getD p 0 0) (drop 4 p)),
+        flat-entries (getD p 0 0) (drop 4 p) (rest-bytes 4 p (k .bytes)),
       )
 
   protocol-clean : getD p 3 0 % 16 % 16 ≡ getD p 3 0 % 16
@@ -120,7 +121,7 @@ unfolding buildOf
 built r h = simp h
 
 -- the answer of a read that is not refused
-read : (q : List ℕ) → length q ≡ 60 → allowed (getD q 0 0) (getD q 3 0 % 16) ≡ true → readOf q ≡ record { row = served; value = fieldsIn q }
+read : (q : List ℕ) → length q ≡ REPLY-SIZE → allowed (getD q 0 0) (getD q 3 0 % 16) ≡ true → readOf q ≡ record { row = served; value = fieldsIn q }
 unfolding readOf
 read q l h = simp (l, h)
 
@@ -130,7 +131,7 @@ unfolding buildOf
 build-served r = served-true (allowed (r .count) (r .protocol)) _ _ _
 
 -- a read that is served is not refused
-read-served : (p : List ℕ) → Packet 60 p → readOf p .row ≡ served → allowed (getD p 0 0) (getD p 3 0 % 16) ≡ true
+read-served : (p : List ℕ) → Packet REPLY-SIZE p → readOf p .row ≡ served → allowed (getD p 0 0) (getD p 3 0 % 16) ≡ true
 unfolding readOf
 read-served p k = simp (k .size) (served-true (allowed (getD p 0 0) (getD p 3 0 % 16)) _ _ _)
 

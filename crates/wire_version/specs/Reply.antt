@@ -1,18 +1,22 @@
--- The version reply (document 01, "Packets"; CFU 5.1): its fields, its 60 bytes, and when building or reading it is refused.
-use Prim.Native.Nat.{ℕ, zero, suc, _*_, _-_, _%_, _^_, _<_}
+-- The version reply (document 01, "Packets"; CFU 5.1): its fields, its bytes, and when building or reading it is refused.
+use Prim.Native.Nat.{ℕ, zero, suc, _+_, _*_, _-_, _%_, _^_, _<_}
 use mathlib.Core.Path.{_≡_}
 use mathlib.Core.Bool.{Bool, cond, _&&_}
 use mathlib.Core.List.{List, [], _∷_, _++_}
 use lib.Dec.{eqb, leb}
 use lib.ListN.{length, getD, take, drop, replicate}
 use Rattle.wire.specs.Bytes.{number, bytesOf, bytesAt}
-use Rattle.wire.specs.Codes.{PROTOCOL}
+use Rattle.wire.specs.Codes.{PROTOCOL, COMPONENT-LIMIT}
 use Rattle.wire.specs.Version.{FitsVersion, versionAt, versionBytes}
 use Rattle.wire.specs.Rows.{Row, served, P, rowOf, Told}
 use Rattle.wire_version.specs.declared.Running.{Running}
 use Rattle.wire_version.specs.declared.VersionReply.{VersionReply}
 use Rattle.wire_version.specs.declared.BuiltVersionReply.{BuiltVersionReply}
 use Rattle.wire_version.specs.declared.ReadVersionReply.{ReadVersionReply}
+
+-- a head of four bytes, and eight for each component: 60
+abbrev pub REPLY-SIZE : ℕ
+REPLY-SIZE = 4 + 8 * COMPONENT-LIMIT
 
 -- no component
 abbrev pub none : Running
@@ -27,12 +31,12 @@ pub record FitsEntry (e : Running) : Type 0 where
 pub record FitsReply (r : VersionReply) : Type 0 where
   pub count : r .count < 256
   pub protocol : r .protocol < 256
-  pub size : length (r .components) ≡ 7
+  pub size : length (r .components) ≡ COMPONENT-LIMIT
   pub each : (i : ℕ) → FitsEntry (getD (r .components) i none)
 
--- not P2, either way: a count up to 7 and protocol 2
+-- not P2, either way: a count up to the limit, and protocol 2
 abbrev pub allowed : (count protocol : ℕ) → Bool
-allowed count protocol = leb count 7 && eqb protocol PROTOCOL
+allowed count protocol = leb count COMPONENT-LIMIT && eqb protocol PROTOCOL
 
 -- the eight bytes of a component in wire order; byte 4 is reserved
 abbrev pub entryBytes : Running → List ℕ
@@ -52,36 +56,36 @@ unfoldable pub entries : ℕ → List ℕ → List Running
 entries zero q = []
 entries (suc n) q = entryIn q ∷ entries n (drop 8 q)
 
--- the 60 bytes: the head, the components up to the count, zeros
+-- the bytes: the head, the components up to the count, zeros
 unfoldable pub replyBytes : (count protocol : ℕ) → List Running → List ℕ
-replyBytes count protocol es = count ∷ 0 ∷ 0 ∷ protocol ∷ flat (take count es) ++ replicate (56 - 8 * count) 0
+replyBytes count protocol es = count ∷ 0 ∷ 0 ∷ protocol ∷ flat (take count es) ++ replicate (8 * COMPONENT-LIMIT - 8 * count) 0
 
 -- what building tells
 unfoldable pub buildOf : VersionReply → Told (List ℕ)
 buildOf r =
     cond (allowed (r .count) (r .protocol)) (record { row = served; value = replyBytes (r .count) (r .protocol) (r .components) })
-    (record { row = P 2; value = replicate 60 0 })
+    (record { row = P 2; value = replicate REPLY-SIZE 0 })
 
 -- what a built reply tells
 abbrev pub toldBuilt : BuiltVersionReply → Told (List ℕ)
 toldBuilt r = record { row = rowOf (r .verdict); value = r .packet }
 
--- the components of 60 bytes up to the count, then empty ones
+-- the components in a reply's bytes up to the count, then empty ones
 unfoldable pub tableIn : List ℕ → ℕ → List Running
-tableIn p count = entries count (drop 4 p) ++ replicate (7 - count) none
+tableIn p count = entries count (drop 4 p) ++ replicate (COMPONENT-LIMIT - count) none
 
--- the fields of 60 bytes, reserved bits left out
+-- the fields in a reply's bytes, reserved bits left out
 unfoldable pub fieldsIn : List ℕ → VersionReply
 fieldsIn p = record { count = getD p 0 0; protocol = getD p 3 0 % 16; components = tableIn p (getD p 0 0) }
 
 -- what a refused reading tells: all fields zero
 abbrev pub refusedOf : Row → Told VersionReply
-refusedOf row = record { row = row; value = record { count = 0; protocol = 0; components = replicate 7 none } }
+refusedOf row = record { row = row; value = record { count = 0; protocol = 0; components = replicate COMPONENT-LIMIT none } }
 
 -- what reading tells: P1, P2, or the fields
 unfoldable pub readOf : List ℕ → Told VersionReply
 readOf p =
-    cond (eqb (length p) 60)
+    cond (eqb (length p) REPLY-SIZE)
     (cond (allowed (getD p 0 0) (getD p 3 0 % 16)) (record { row = served; value = fieldsIn p }) (refusedOf (P 2)))
     (refusedOf (P 1))
 
@@ -91,7 +95,7 @@ toldRead r = record { row = rowOf (r .verdict); value = r .reply }
 
 -- the fields with components at and past the count empty
 abbrev pub norm : VersionReply → VersionReply
-norm r = record { count = r .count; protocol = r .protocol; components = take (r .count) (r .components) ++ replicate (7 - r .count) none }
+norm r = record { count = r .count; protocol = r .protocol; components = take (r .count) (r .components) ++ replicate (COMPONENT-LIMIT - r .count) none }
 
 -- the first n components of q, byte 4 of each as zero
 unfoldable pub cleanEntries : ℕ → List ℕ → List ℕ
@@ -101,4 +105,4 @@ cleanEntries (suc n) q = bytesAt 4 0 q ++ 0 ∷ bytesAt 3 5 q ++ cleanEntries n 
 -- the packet with reserved bits, and all bytes past the listed components, as zero
 unfoldable pub cleanReply : List ℕ → List ℕ
 cleanReply p =
-    getD p 0 0 ∷ 0 ∷ 0 ∷ getD p 3 0 % 16 ∷ cleanEntries (getD p 0 0) (drop 4 p) ++ replicate (56 - 8 * getD p 0 0) 0
+    getD p 0 0 ∷ 0 ∷ 0 ∷ getD p 3 0 % 16 ∷ cleanEntries (getD p 0 0) (drop 4 p) ++ replicate (8 * COMPONENT-LIMIT - 8 * getD p 0 0) 0

@@ -6,13 +6,13 @@ use mathlib.Core.List.{List}
 use Rattle.wire.specs.Bytes.{Packet}
 use Rattle.wire.specs.Rows.{served}
 use Rattle.wire_version.specs.declared.VersionReply.{VersionReply}
-use Rattle.wire_version.specs.Reply.{FitsReply, buildOf, readOf, norm, cleanReply}
+use Rattle.wire_version.specs.Reply.{REPLY-SIZE, FitsReply, buildOf, readOf, norm, cleanReply}
 
 abbrev pub VersionReplyR1 : Type 0
 VersionReplyR1 = (r : VersionReply) → FitsReply r → buildOf r .row ≡ served → readOf (buildOf r .value) ≡ record { row = served; value = norm r }
 
 abbrev pub VersionReplyR2 : Type 0
-VersionReplyR2 = (p : List ℕ) → Packet 60 p → readOf p .row ≡ served → buildOf (readOf p .value) ≡ record { row = served; value = cleanReply p }
+VersionReplyR2 = (p : List ℕ) → Packet REPLY-SIZE p → readOf p .row ≡ served → buildOf (readOf p .value) ≡ record { row = served; value = cleanReply p }
 
 abbrev pub VersionReplyR3 : Type 0
-VersionReplyR3 = (p : List ℕ) → Packet 60 p → readOf p .row ≡ served → readOf (cleanReply p) ≡ readOf p
+VersionReplyR3 = (p : List ℕ) → Packet REPLY-SIZE p → readOf p .row ≡ served → readOf (cleanReply p) ≡ readOf p

@@ -1,13 +1,18 @@
-// The version reply (CFU 5.1), 60 bytes: the running version of up to seven components.
+// The version reply (CFU 5.1): the running version of every component.
 ghost use mathlib.Core.Path.{_≡_};
 ghost use Prim.Native.Nat.{_≤_};
 ghost use lib.ListN.{length};
+ghost use Rattle.wire.specs.Codes.{COMPONENT-LIMIT};
 ghost use Rattle.wire.specs.Rows.{rowOf};
-ghost use Rattle.wire_version.specs.Reply.{allowed, entryBytes, entryIn, replyBytes, tableIn, toldBuilt, buildOf, toldRead, readOf, refusedOf};
+ghost use Rattle.wire_version.specs.Reply.{REPLY-SIZE, none, allowed, entryBytes, entryIn, replyBytes, tableIn, toldBuilt, buildOf, toldRead, readOf, refusedOf};
 use wire::codes;
+use wire::codes::COMPONENT_LIMIT;
 use wire::verdict::Verdict;
 use wire::version::Version;
 use wire::words;
+
+// A head of four bytes, and eight for each component: 60.
+pub const REPLY_SIZE: usize = 4 + 8 * COMPONENT_LIMIT;
 
 // A component in the reply, eight bytes.
 pub struct Running {
@@ -25,12 +30,12 @@ pub struct VersionReply {
     // Byte 3, bits 0-3.
     pub protocol: u8,
     // Eight bytes each, from byte 4.
-    pub components: [Running; 7],
+    pub components: [Running; COMPONENT_LIMIT],
 }
 
 pub struct BuiltVersionReply {
     pub verdict: Verdict,
-    pub packet: [u8; 60],
+    pub packet: [u8; REPLY_SIZE],
 }
 
 pub struct ReadVersionReply {
@@ -38,11 +43,22 @@ pub struct ReadVersionReply {
     pub reply: VersionReply,
 }
 
-// Not P2, either way: a count up to 7 and protocol 2.
+// Stands where there is no component.
+pub fn no_component() -> Running
+    ensures { λ r. ⌜ r ≡ none ⌝ }
+{
+    Running {
+        version: Version::new(0, 0, 0),
+        id: 0,
+        platform: 0,
+    }
+}
+
+// Not P2, either way: a count up to the limit, and protocol 2.
 fn is_allowed(count: u8, protocol: u8) -> bool
     ensures { λ r. ⌜ r ≡ allowed count protocol ⌝ }
 {
-    (count <= 7) & (protocol == codes::PROTOCOL)
+    (count <= COMPONENT_LIMIT as u8) & (protocol == codes::PROTOCOL)
 }
 
 fn entry_bytes(e: Running) -> [u8; 8]
@@ -65,13 +81,13 @@ fn entry_in(s: &[u8]) -> Running
     }
 }
 
-// The 60 bytes, where the count is at most 7.
-fn packet(count: u8, protocol: u8, components: [Running; 7]) -> [u8; 60]
-    requires { ⌜ count ≤ 7 ⌝ }
+// The bytes, where the count is at most the limit.
+fn packet(count: u8, protocol: u8, components: [Running; COMPONENT_LIMIT]) -> [u8; REPLY_SIZE]
+    requires { ⌜ count ≤ COMPONENT-LIMIT ⌝ }
     ensures { λ r. ⌜ r ≡ replyBytes count protocol components ⌝ }
 {
     let n = count as usize;
-    let mut p = [0u8; 60];
+    let mut p = [0u8; REPLY_SIZE];
     p[0] = count;
     p[3] = protocol;
     let mut i = 0;
@@ -98,23 +114,19 @@ pub fn build_version_reply(r: VersionReply) -> BuiltVersionReply
     } else {
         BuiltVersionReply {
             verdict: Verdict::P2,
-            packet: [0u8; 60],
+            packet: [0u8; REPLY_SIZE],
         }
     }
 }
 
-// The components of 60 bytes up to the count, which is at most 7, then empty ones.
-fn table(p: &[u8], count: u8) -> [Running; 7]
-    requires { ⌜ (length (now p) ≡ 60) × (count ≤ 7) ⌝ }
+// The components in a reply's bytes up to the count, which is at most the limit, then empty ones.
+fn table(p: &[u8], count: u8) -> [Running; COMPONENT_LIMIT]
+    requires { ⌜ (length (now p) ≡ REPLY-SIZE) × (count ≤ COMPONENT-LIMIT) ⌝ }
     ensures { λ r. ⌜ r ≡ tableIn (now (p .entry)) count ⌝ }
 {
     let n = count as usize;
-    let none = Running {
-        version: Version::new(0, 0, 0),
-        id: 0,
-        platform: 0,
-    };
-    let mut es = [none; 7];
+    let none = no_component();
+    let mut es = [none; COMPONENT_LIMIT];
     let mut i = 0;
     while i < n {
         let at = 4 + 8 * i;
@@ -127,12 +139,8 @@ fn table(p: &[u8], count: u8) -> [Running; 7]
 fn refused(verdict: Verdict) -> ReadVersionReply
     ensures { λ r. ⌜ toldRead r ≡ refusedOf (rowOf verdict) ⌝ }
 {
-    let none = Running {
-        version: Version::new(0, 0, 0),
-        id: 0,
-        platform: 0,
-    };
-    let es = [none; 7];
+    let none = no_component();
+    let es = [none; COMPONENT_LIMIT];
     ReadVersionReply {
         verdict: verdict,
         reply: VersionReply {
@@ -146,7 +154,7 @@ fn refused(verdict: Verdict) -> ReadVersionReply
 pub fn read_version_reply(p: &[u8]) -> ReadVersionReply
     ensures { λ r. ⌜ toldRead r ≡ readOf (now (p .entry)) ⌝ }
 {
-    if p.len() == 60 {
+    if p.len() == REPLY_SIZE {
         let count = p[0];
         let protocol = p[3] % 16;
         if is_allowed(count, protocol) {

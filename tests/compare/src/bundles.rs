@@ -2,7 +2,6 @@
 
 use crate::case::{hex, Case, Outcome};
 use crate::devices::{guarded, same, version};
-use crate::header::*;
 use crate::layout::*;
 use crate::lent::Lent;
 use crate::random::Random;
@@ -12,38 +11,12 @@ use crate::ALL;
 /// An offer with the records of its body.
 #[derive(Clone, Debug, PartialEq, Eq)]
 pub struct Entry {
-    pub offer: [u8; 16],
+    pub offer: [u8; SHORT_SIZE],
     pub records: Vec<(u32, Vec<u8>)>,
 }
 
-fn body(records: &[(u32, Vec<u8>)]) -> Vec<u8> {
-    let mut out = Vec::new();
-    for (address, data) in records {
-        out.extend(address.to_le_bytes());
-        out.push(data.len() as u8);
-        out.extend(data);
-    }
-    out
-}
-
-/// The bundle of these offers and bodies.
-pub fn bundle_of(entries: &[(Vec<u8>, Vec<u8>)]) -> Vec<u8> {
-    let mut out = vec![entries.len() as u8, 1, 0, 0, 0, 0, 0, 0];
-    let mut at = 8 + 24 * entries.len();
-    for (offer, body) in entries {
-        out.extend(offer);
-        out.extend((at as u32).to_le_bytes());
-        out.extend((body.len() as u32).to_le_bytes());
-        at += body.len();
-    }
-    for (_, body) in entries {
-        out.extend(body);
-    }
-    out
-}
-
 pub fn bundle(entries: &[Entry]) -> Vec<u8> {
-    let laid: Vec<_> = entries.iter().map(|entry| (entry.offer.to_vec(), body(&entry.records))).collect();
+    let laid: Vec<_> = entries.iter().map(|entry| (entry.offer, body_bytes(&entry.records))).collect();
     bundle_of(&laid)
 }
 
@@ -51,30 +24,19 @@ pub fn bundle(entries: &[Entry]) -> Vec<u8> {
 pub fn entries_in(bundle: &[u8]) -> Vec<Entry> {
     let mut out = Vec::new();
     for place in 0..bundle[0] as usize {
-        let own = &bundle[8 + 24 * place..][..24];
-        let (offset, length) = (four(&own[16..]) as usize, four(&own[20..]) as usize);
+        let own = &bundle[entry_start(place)..][..ENTRY_SIZE];
+        let (offset, length) = (four(&own[entry_at::OFFSET..]) as usize, four(&own[entry_at::LENGTH..]) as usize);
         let mut rest = &bundle[offset..offset + length];
         let mut records = Vec::new();
-        while let [_, _, _, _, size, ..] = rest {
-            let (record, after) = rest.split_at(5 + *size as usize);
-            records.push((four(record), record[5..].to_vec()));
+        while !rest.is_empty() {
+            let (record, after) = rest.split_at(record_at::DATA + rest[record_at::LENGTH] as usize);
+            records.push((four(record), record[record_at::DATA..].to_vec()));
             rest = after;
         }
-        let mut offer = [0; 16];
-        offer.copy_from_slice(&own[..16]);
+        let mut offer = [0; SHORT_SIZE];
+        offer.copy_from_slice(&own[..SHORT_SIZE]);
         out.push(Entry { offer, records });
     }
-    out
-}
-
-/// An offer that row B5 allows.
-pub fn offer(id: u8, version: u32, need: [u8; 4], platform: u16) -> [u8; 16] {
-    let mut out = [0; 16];
-    out[2] = id;
-    out[4..8].copy_from_slice(&version.to_le_bytes());
-    out[8..12].copy_from_slice(&need);
-    out[12] = 2;
-    out[14..16].copy_from_slice(&platform.to_le_bytes());
     out
 }
 
@@ -82,7 +44,7 @@ pub fn offer(id: u8, version: u32, need: [u8; 4], platform: u16) -> [u8; 16] {
 pub fn any_entries(r: &mut Random, most_records: usize) -> Vec<Entry> {
     let mut ids: Vec<u8> = (1..=9).chain([0xDF]).collect();
     r.shuffle(&mut ids);
-    let count = r.between(1, 7);
+    let count = r.between(1, OFFER_LIMIT);
     ids.iter()
         .take(count)
         .map(|id| {
@@ -93,7 +55,7 @@ pub fn any_entries(r: &mut Random, most_records: usize) -> Vec<Entry> {
                     (r.pick(&[0, 1, 52, u32::MAX]), r.bytes(length))
                 })
                 .collect();
-            Entry { offer: offer(*id, version(r), need, 0x0042), records }
+            Entry { offer: offer_packet(*id, version(r), need, 0x0042), records }
         })
         .collect()
 }
@@ -101,28 +63,29 @@ pub fn any_entries(r: &mut Random, most_records: usize) -> Vec<Entry> {
 /// A bundle of so many bytes, with records of one size in one body.
 fn long_bundle(r: &mut Random, length: usize) -> Vec<u8> {
     let mut records = Vec::new();
-    let mut left = length - 32;
+    let mut left = length - entry_start(1);
     while left > 0 {
         // The last two share what is left, so that none is too short.
         let size = if left > 120 {
-            52
-        } else if left > 57 {
-            left / 2 - 5
+            DATA_SIZE
+        } else if left > record_at::DATA + DATA_SIZE {
+            left / 2 - record_at::DATA
         } else {
-            left - 5
+            left - record_at::DATA
         };
         records.push((0, r.bytes(size)));
-        left -= 5 + size;
+        left -= record_at::DATA + size;
     }
-    bundle(&[Entry { offer: offer(1, 1, [0; 4], 0x42), records }])
+    bundle(&[Entry { offer: offer_packet(1, 1, [0; 4], 0x42), records }])
 }
 
 /// One damage; several may follow one another.
 fn damage(r: &mut Random, bytes: &mut Vec<u8>) {
-    let count = bytes.first().copied().unwrap_or(0).min(7) as usize;
+    let count = (bytes.first().copied().unwrap_or(0) as usize).min(OFFER_LIMIT);
     let entry = r.below(count.max(1));
-    let own = 8 + 24 * entry;
-    let has_table = bytes.len() >= 8 + 24 * count && count > 0;
+    let own = entry_start(entry);
+    let (offset, length) = (own + entry_at::OFFSET, own + entry_at::LENGTH);
+    let has_table = bytes.len() >= entry_start(count) && count > 0;
     match r.below(17) {
         0 => {
             if !bytes.is_empty() {
@@ -134,62 +97,66 @@ fn damage(r: &mut Random, bytes: &mut Vec<u8>) {
             let keep = r.below(bytes.len() + 1);
             bytes.truncate(keep);
         }
-        2 => bytes.truncate(r.below(9)),
+        2 => bytes.truncate(r.below(BUNDLE_HEAD + 1)),
         3 => {
             let more = r.pick(&[1, 2, 5, 6, 57, 58]);
             bytes.extend(r.bytes(more));
         }
-        4 if bytes.len() >= 8 => bytes[r.between(1, 7)] = r.pick(&[0, 1, 2, 255]),
-        5 if bytes.len() >= 8 => bytes[0] = r.pick(&[0, 1, 2, 6, 7, 8, 255]),
-        6 if has_table => bytes[own + r.pick(&[0, 1, 3, 12, 13])] = r.pick(&[0, 1, 2, 3, 0x12, 255]),
-        7 if has_table => bytes[own + 2] = r.pick(&[0, 1, 0xDF, 0xE0, 0xFE, 0xFF]),
-        8 if has_table => bytes[own + 2] = bytes[8 + 24 * r.below(count) + 2],
-        9 if has_table => add(bytes, own + 16, r.pick(&[1, -1, 24, -24, i32::MIN])),
-        10 if has_table => add(bytes, own + 20, r.pick(&[1, -1, 5, -5, i32::MIN])),
+        4 if bytes.len() >= BUNDLE_HEAD => bytes[r.between(1, BUNDLE_HEAD - 1)] = r.pick(&[0, 1, 2, 255]),
+        5 if bytes.len() >= BUNDLE_HEAD => bytes[0] = r.pick(&[0, 1, 2, 6, 7, 8, 255]),
+        6 if has_table => {
+            bytes[own + r.pick(&[offer_at::SEGMENT, offer_at::FLAGS, offer_at::TOKEN, offer_at::PROTOCOL, offer_at::RESERVED])] =
+                r.pick(&[0, 1, 2, 3, 0x12, 255])
+        }
+        7 if has_table => bytes[own + offer_at::ID] = r.pick(&[0, 1, 0xDF, 0xE0, 0xFE, 0xFF]),
+        8 if has_table => bytes[own + offer_at::ID] = bytes[entry_start(r.below(count)) + offer_at::ID],
+        9 if has_table => add(bytes, offset, r.pick(&[1, -1, 24, -24, i32::MIN])),
+        10 if has_table => add(bytes, length, r.pick(&[1, -1, 5, -5, i32::MIN])),
         11 if has_table => {
             // Two bodies share another border.
-            let next = 8 + 24 * ((entry + 1) % count);
+            let next = entry_start((entry + 1) % count);
             let by = r.pick(&[1, -1, 5, 57]);
-            add(bytes, own + 20, by);
+            add(bytes, length, by);
             if next > own {
-                add(bytes, next + 16, by);
-                add(bytes, next + 20, -by);
+                add(bytes, next + entry_at::OFFSET, by);
+                add(bytes, next + entry_at::LENGTH, -by);
             }
         }
         12..=14 if has_table => {
             // A record's length, found by a walk over the body.
-            let (start, length) = (four(&bytes[own + 16..]) as usize, four(&bytes[own + 20..]) as usize);
+            let (start, size) = (four(&bytes[offset..]) as usize, four(&bytes[length..]) as usize);
             let mut at = start;
             for _ in 0..r.below(3) {
-                if at + 5 < bytes.len() {
-                    let next = at + 5 + bytes[at + 4] as usize;
-                    if next + 5 <= start.saturating_add(length) {
+                if at + record_at::DATA < bytes.len() {
+                    let next = at + record_at::DATA + bytes[at + record_at::LENGTH] as usize;
+                    if next + record_at::DATA <= start.saturating_add(size) {
                         at = next;
                     }
                 }
             }
-            if at + 4 < bytes.len() {
-                let was = bytes[at + 4];
-                bytes[at + 4] = r.pick(&[0, 53, 255, was.wrapping_add(1), was.wrapping_sub(1), 52]);
+            let place = at + record_at::LENGTH;
+            if place < bytes.len() {
+                let was = bytes[place];
+                bytes[place] = r.pick(&[0, 53, 255, was.wrapping_add(1), was.wrapping_sub(1), 52]);
             }
         }
         15 if has_table => {
             // An empty body, with the others where they belong.
-            let length = four(&bytes[own + 20..]);
-            let (start, end) = (four(&bytes[own + 16..]) as usize, four(&bytes[own + 16..]).wrapping_add(length) as usize);
-            if 8 + 24 * count <= start && start <= end && end <= bytes.len() {
+            let size = four(&bytes[length..]);
+            let (start, end) = (four(&bytes[offset..]) as usize, four(&bytes[offset..]).wrapping_add(size) as usize);
+            if entry_start(count) <= start && start <= end && end <= bytes.len() {
                 bytes.drain(start..end);
-                add(bytes, own + 20, -(length as i32));
+                add(bytes, length, -(size as i32));
                 for later in entry + 1..count {
-                    add(bytes, 8 + 24 * later + 16, -(length as i32));
+                    add(bytes, entry_start(later) + entry_at::OFFSET, -(size as i32));
                 }
             }
         }
         _ => {
-            let length = r.below(200);
-            *bytes = r.bytes(length);
-            if length >= 8 && r.percent(80) {
-                bytes[..8].copy_from_slice(&[r.between(1, 7) as u8, 1, 0, 0, 0, 0, 0, 0]);
+            let size = r.below(200);
+            *bytes = r.bytes(size);
+            if size >= BUNDLE_HEAD && r.percent(80) {
+                bytes[..BUNDLE_HEAD].copy_from_slice(&[r.between(1, OFFER_LIMIT) as u8, 1, 0, 0, 0, 0, 0, 0]);
             }
         }
     }
@@ -214,7 +181,7 @@ pub fn any_bundle(r: &mut Random) -> Vec<u8> {
 pub fn make_check(r: &mut Random) -> Case {
     let bytes = match r.below(1000) {
         0..=2 => {
-            let length = r.pick(&[65_535, 65_536, 65_536, 65_537]);
+            let length = r.pick(&[BUNDLE_LIMIT - 1, BUNDLE_LIMIT, BUNDLE_LIMIT, BUNDLE_LIMIT + 1]);
             long_bundle(r, length)
         }
         _ => any_bundle(r),

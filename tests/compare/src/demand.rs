@@ -5,16 +5,6 @@ use crate::bundles::Entry;
 use crate::layout::*;
 use crate::random::Random;
 
-/// CRC-16/XMODEM by polynomial division, bit after bit.
-pub fn crc(bytes: &[u8]) -> u16 {
-    let mut rest: u32 = 0;
-    for bit in bytes.iter().flat_map(|byte| (0..8).rev().map(move |place| byte >> place & 1)) {
-        let out = (rest >> 15 & 1) ^ bit as u32;
-        rest = (rest << 1 & 0xFFFF) ^ (out * 0x1021);
-    }
-    rest as u16
-}
-
 /// An image with a right CRC; its free bytes are random, some runs of them 0xFF.
 pub fn image(r: &mut Random, length: usize, version: u32, id: u8) -> Vec<u8> {
     let mut out = r.bytes(length);
@@ -23,10 +13,7 @@ pub fn image(r: &mut Random, length: usize, version: u32, id: u8) -> Vec<u8> {
         let end = (start + r.below(length)).min(length);
         out[start..end].fill(0xFF);
     }
-    out[0..4].copy_from_slice(&version.to_le_bytes());
-    out[4] = id;
-    let check = crc(&out[..length - 2]);
-    out[length - 2..].copy_from_slice(&check.to_be_bytes());
+    make_image(&mut out, version, id);
     out
 }
 
@@ -45,25 +32,25 @@ fn part_of(device: &DeviceRecord, id: u8) -> Option<&Part> {
 }
 
 fn version_of(entry: &Entry) -> u32 {
-    four(&entry.offer[4..])
+    four(&entry.offer[offer_at::VERSION..])
 }
 
 /// The body is good for the component: inside its region, and an image with a right CRC, that id and the offered version.
 pub fn is_good(part: &Part, entry: &Entry) -> bool {
     let Some(image) = written(part.length as usize, &entry.records) else { return false };
-    let (body, held) = image.split_at(image.len() - 2);
-    crc(body).to_be_bytes() == held && image[4] == part.id && four(&image) == version_of(entry)
+    let (body, held) = image.split_at(image.len() - CRC_SIZE);
+    crc(body).to_be_bytes() == held && image[image_at::ID] == part.id && four(&image[image_at::VERSION..]) == version_of(entry)
 }
 
 /// Offer checks 2 to 7 pass against the device after code 0.
 pub fn is_eligible(device: &DeviceRecord, entry: &Entry) -> bool {
     let offer = &entry.offer;
-    match part_of(device, offer[2]) {
+    match part_of(device, offer[offer_at::ID]) {
         None => false,
         Some(part) => {
-            offer[12] & 0x0F == 2
-                && two(&offer[14..]) == device.platform
-                && offer[0] == 0
+            offer[offer_at::PROTOCOL] & 0x0F == PROTOCOL
+                && two(&offer[offer_at::PLATFORM..]) == device.platform
+                && offer[offer_at::SEGMENT] == 0
                 && part.staged.is_none()
                 && version_of(entry) > part.running
         }
@@ -77,7 +64,7 @@ fn is_met(device: &DeviceRecord, entry: &Entry) -> bool {
 }
 
 fn need_of(entry: &Entry) -> (u8, u32) {
-    (entry.offer[8], number(&entry.offer[9..12]) as u32)
+    (entry.offer[offer_at::NEED], number(&entry.offer[offer_at::LEAST..][..3]) as u32)
 }
 
 /// The set (bit i for entry i) holds every offer that passes checks 2 to 7 and whose need is none, met, or met by another member's offered version.
@@ -87,7 +74,7 @@ pub fn is_closed(device: &DeviceRecord, entries: &[Entry], set: usize) -> bool {
         let entry = &entries[place];
         let (need, least) = need_of(entry);
         let fed = (0..entries.len())
-            .any(|other| other != place && holds(other) && entries[other].offer[2] == need && version_of(&entries[other]) / 256 >= least);
+            .any(|other| other != place && holds(other) && entries[other].offer[offer_at::ID] == need && version_of(&entries[other]) / 256 >= least);
         !(is_eligible(device, entry) && (is_met(device, entry) || fed))
     })
 }
@@ -112,7 +99,7 @@ pub struct Shown<'a> {
 
 /// The premise: the body of every offer that passes checks 2 to 7 is good.
 pub fn premise(device: &DeviceRecord, entries: &[Entry]) -> bool {
-    entries.iter().all(|entry| match part_of(device, entry.offer[2]) {
+    entries.iter().all(|entry| match part_of(device, entry.offer[offer_at::ID]) {
         Some(part) if is_eligible(device, entry) => is_good(part, entry),
         _ => true,
     })
@@ -128,7 +115,9 @@ pub fn check(shown: &Shown) -> Result<usize, String> {
     if host.stage != (Stage::Ended { end: 0, status: 0 }) {
         return wrong("the host is not done");
     }
-    let passes = packets.iter().filter(|packet| packet.len() == 16 && packet[2] == 0xFF && packet[0] == 1).count();
+    let opens =
+        |packet: &&Vec<u8>| packet.len() == SHORT_SIZE && packet[signal_at::KIND] == INFORMATION && packet[signal_at::CODE] == INFO_START_OFFER_LIST;
+    let passes = packets.iter().filter(opens).count();
     if passes > n || packets.len() > 1 + n * (n + 2) + records {
         return wrong("more passes or packets than allowed");
     }
@@ -139,10 +128,11 @@ pub fn check(shown: &Shown) -> Result<usize, String> {
     let mut staged = 0;
     let mut offered = 0;
     for (packet, reply) in packets.iter().zip(*replies) {
-        if packet.len() == 16 && packet[2] < 0xFE {
-            offered = entries.iter().position(|entry| entry.offer[2] == packet[2]).unwrap_or(0);
+        if packet.len() == SHORT_SIZE && packet[offer_at::ID] < EXTENDED {
+            offered = entries.iter().position(|entry| entry.offer[offer_at::ID] == packet[offer_at::ID]).unwrap_or(0);
         }
-        if packet.len() == 60 && packet[0] & 0x40 != 0 && reply.get(4) == Some(&0) {
+        let last = packet.len() == LONG_SIZE && packet[content_at::FLAGS] & FLAG_LAST_BLOCK != 0;
+        if last && reply.get(content_reply_at::STATUS) == Some(&SUCCESS) {
             staged |= 1 << offered;
         }
     }
@@ -163,7 +153,7 @@ pub fn check(shown: &Shown) -> Result<usize, String> {
     let mut device = DeviceRecord { session: Session::Idle, owed: None, ..**before };
     let mut staging = shown.staging_before.to_vec();
     for (place, entry) in entries.iter().enumerate().filter(|(place, _)| staged >> place & 1 == 1) {
-        let slot = before.listed().iter().position(|part| part.id == entry.offer[2]);
+        let slot = before.listed().iter().position(|part| part.id == entry.offer[offer_at::ID]);
         let (Some(slot), true) = (slot, place < n) else { return wrong("an absent component was staged") };
         let part = &mut device.parts[slot];
         part.staged = Some(version_of(entry));

@@ -3,7 +3,6 @@
 use crate::calls::Calls;
 use crate::case::{difference, hex, Case, Outcome};
 use crate::demand;
-use crate::header::*;
 use crate::layout::*;
 use crate::lent::Lent;
 use crate::other;
@@ -30,7 +29,7 @@ fn version_from(r: &mut Random, least: u32) -> u32 {
 
 /// A record that row D1 does not refuse.
 pub fn valid_device(r: &mut Random) -> DeviceRecord {
-    let count = r.between(1, 7);
+    let count = r.between(1, COMPONENT_LIMIT);
     let mut record = DeviceRecord { platform: 0x0042, count: count as u8, ..Default::default() };
     if r.percent(10) {
         record.platform = r.next() as u16;
@@ -72,15 +71,15 @@ fn place_regions(r: &mut Random, record: &mut DeviceRecord) {
     for (place, slot) in order.into_iter().enumerate() {
         let length = match r.below(10) {
             _ if long && place == 0 => r.between(1000, 60_000),
-            0 | 1 => 8,
-            2..=6 => r.between(8, 52),
-            _ => r.between(8, 140),
+            0 | 1 => REGION_LEAST,
+            2..=6 => r.between(REGION_LEAST, DATA_SIZE),
+            _ => r.between(REGION_LEAST, 140),
         } as u32;
         record.parts[slot].base = at;
         record.parts[slot].length = length;
         at += length + gap(r);
     }
-    record.staging = if long && r.percent(50) { 65_536.max(at) } else { at };
+    record.staging = if long && r.percent(50) { (STAGING_LIMIT as u32).max(at) } else { at };
 }
 
 fn gap(r: &mut Random) -> u32 {
@@ -109,8 +108,34 @@ fn open_session(r: &mut Random, record: &mut DeviceRecord) {
     }
 }
 
+/// What is passed over in the records that packets meet.
+pub const PASSED: [&str; 4] = [PASSED_IDLE, PASSED_OFFERED, PASSED_OWED, PASSED_STAGED];
+
+/// Bytes of a record, sometimes with any values where they are passed over.
+pub fn any_record(r: &mut Random, bytes: &[u8], passed: Vec<Passed>) -> Vec<u8> {
+    let mut out = bytes.to_vec();
+    if r.percent(40) {
+        for (_, place) in passed {
+            if r.percent(80) {
+                let values = r.bytes(place.len());
+                put(&mut out, place.start, &values);
+            }
+        }
+    }
+    out
+}
+
+/// Counts what a served call passed over that is not zero.
+pub fn count_passed(tally: &mut Tally, given: &[u8], passed: &[Passed]) {
+    for (name, place) in passed {
+        if given[place.clone()].iter().any(|byte| *byte != 0) {
+            tally.one(name);
+        }
+    }
+}
+
 /// What a record is made to break: the clauses of row D1, and the forms of bytes that are no record.
-pub const BROKEN: [&str; 23] = [
+pub const BROKEN: [&str; 19] = [
     "D1: staging over the limit",
     "D1: count 0",
     "D1: count over 7",
@@ -126,12 +151,8 @@ pub const BROKEN: [&str; 23] = [
     "D1: owes while idle",
     "D1: staged below running",
     "D1: no stage",
-    "D1: idle with a slot, token or sequence",
-    "D1: offered with a sequence",
     "D1: owed neither 0 nor 1",
-    "D1: a token where nothing is owed",
     "D1: staged neither 0 nor 1",
-    "D1: a staged version where nothing is staged",
     "D1: random bytes",
     "D1: all zeros",
 ];
@@ -146,16 +167,16 @@ pub fn broken_device(r: &mut Random, aim: &'static str) -> Vec<u8> {
     let count = record.count as usize;
     let slot = r.below(count);
     let next_slot = (slot + 1) % count;
-    let any = r.below(7);
+    let any = r.below(COMPONENT_LIMIT);
     let session = Session::Offered { slot: slot as u8, token: 3 };
     match aim {
-        "D1: staging over the limit" => record.staging = r.pick(&[65_537, 65_538, 1 << 24, u32::MAX]),
+        "D1: staging over the limit" => record.staging = r.pick(&[STAGING_LIMIT as u32 + 1, STAGING_LIMIT as u32 + 2, 1 << 24, u32::MAX]),
         "D1: count 0" => record.count = 0,
-        "D1: count over 7" => record.count = r.pick(&[8, 9, 128, 255]),
+        "D1: count over 7" => record.count = r.pick(&[COMPONENT_LIMIT as u8 + 1, COMPONENT_LIMIT as u8 + 2, 128, 255]),
         "D1: id 0" => record.parts[slot].id = 0,
         "D1: id over 0xDF" => record.parts[slot].id = r.pick(&[0xE0, 0xFD, 0xFE, 0xFF]),
         "D1: id repeated" => record.parts[slot].id = record.parts[next_slot].id,
-        "D1: region under 8" => record.parts[slot].length = r.below(8) as u32,
+        "D1: region under 8" => record.parts[slot].length = r.below(REGION_LEAST) as u32,
         "D1: region past the buffer" => {
             let part = &mut record.parts[slot];
             part.length = record.staging - part.base + r.pick(&[1, 2, 1000]);
@@ -167,10 +188,12 @@ pub fn broken_device(r: &mut Random, aim: &'static str) -> Vec<u8> {
         "D1: regions overlap" => {
             let other = record.parts[next_slot];
             record.parts[slot].base = other.base + other.length - 1;
-            record.parts[slot].length = 8;
+            record.parts[slot].length = REGION_LEAST as u32;
             record.staging = record.staging.max(other.base + other.length + 8);
         }
-        "D1: opens on an unlisted component" => record.session = Session::Offered { slot: r.pick(&[count as u8, 7, 8, 255]), token: 1 },
+        "D1: opens on an unlisted component" => {
+            record.session = Session::Offered { slot: r.pick(&[count as u8, COMPONENT_LIMIT as u8, COMPONENT_LIMIT as u8 + 1, 255]), token: 1 }
+        }
         "D1: opens on a pending component" => {
             record.parts[slot].staged = Some(record.parts[slot].running);
             record.session = session;
@@ -187,32 +210,12 @@ pub fn broken_device(r: &mut Random, aim: &'static str) -> Vec<u8> {
         }
         _ => {}
     }
-    let mut bytes = record.bytes().to_vec();
-    let own = 14 + 18 * any;
+    let mut bytes = any_record(r, &record.bytes(), record.passed_over());
+    let own = component_start(any);
     match aim {
-        "D1: no stage" => bytes[7] = r.pick(&[3, 4, 255]),
-        "D1: idle with a slot, token or sequence" => {
-            record.session = Session::Idle;
-            record.owed = None;
-            bytes = record.bytes().to_vec();
-            bytes[r.between(8, 11)] = r.between(1, 255) as u8;
-        }
-        "D1: offered with a sequence" => {
-            record.parts[slot].staged = None;
-            record.session = session;
-            bytes = record.bytes().to_vec();
-            bytes[r.between(10, 11)] = r.between(1, 255) as u8;
-        }
-        "D1: owed neither 0 nor 1" => bytes[12] = r.between(2, 255) as u8,
-        "D1: a token where nothing is owed" => {
-            bytes[12] = 0;
-            bytes[13] = r.between(1, 255) as u8;
-        }
-        "D1: staged neither 0 nor 1" => bytes[own + 13] = r.between(2, 255) as u8,
-        "D1: a staged version where nothing is staged" => {
-            bytes[own + 13] = 0;
-            bytes[own + r.between(14, 17)] = r.between(1, 255) as u8;
-        }
+        "D1: no stage" => bytes[device_at::STAGE] = r.pick(&[3, 4, 255]),
+        "D1: owed neither 0 nor 1" => bytes[device_at::OWED] = r.pick(&[2, 3, 255]),
+        "D1: staged neither 0 nor 1" => bytes[own + component_at::STAGED] = r.pick(&[2, 3, 255]),
         "D1: random bytes" => bytes = r.bytes(DEVICE_SIZE),
         "D1: all zeros" => bytes.fill(0),
         _ => {}
@@ -247,12 +250,12 @@ pub fn make_setup(r: &mut Random) -> Case {
     let slot = r.below(count);
     let next_slot = (slot + 1) % count.max(1);
     match aim {
-        "S1: staging over the limit" => staging = r.pick(&[65_537, 65_600]),
+        "S1: staging over the limit" => staging = r.pick(&[STAGING_LIMIT + 1, STAGING_LIMIT + 64]),
         "S2: count 0" => record.count = 0,
-        "S2: count over 7" => record.count = r.pick(&[8, 9, 255]),
+        "S2: count over 7" => record.count = r.pick(&[COMPONENT_LIMIT as u8 + 1, COMPONENT_LIMIT as u8 + 2, 255]),
         "S3: id outside" => record.parts[slot].id = r.pick(&[0, 0xE0, 0xFF]),
         "S3: id repeated" => record.parts[slot].id = record.parts[next_slot].id,
-        "S4: region under 8" => record.parts[slot].length = r.below(8) as u32,
+        "S4: region under 8" => record.parts[slot].length = r.below(REGION_LEAST) as u32,
         "S4: region past the buffer" => staging = staging.saturating_sub(r.between(10, 60)),
         "S4: region whose end wraps" => {
             record.parts[slot].base = u32::MAX - 3;
@@ -261,19 +264,18 @@ pub fn make_setup(r: &mut Random) -> Case {
         "S4: regions overlap" => {
             let other = record.parts[next_slot];
             record.parts[slot].base = other.base + other.length - 1;
-            record.parts[slot].length = 8;
+            record.parts[slot].length = REGION_LEAST as u32;
             staging = staging.max((other.base + other.length + 8) as usize);
         }
         _ => {}
     }
-    let list = record.parts.map(|part| ListedPart { id: part.id, running: part.running, base: part.base, length: part.length });
-    let mut list = list_bytes(&list).to_vec();
+    let mut list = list_bytes(&record.list()).to_vec();
     let mut device = r.bytes(DEVICE_SIZE);
     if aim.is_empty() {
         match r.below(20) {
             0 => list = r.bytes(LIST_SIZE),
-            1 => list = r.bytes(r.clone().pick(&[0, 13, 90, 92, 104])),
-            2 => device = r.bytes(r.clone().pick(&[0, 1, 139, 141, 280])),
+            1 => list = r.bytes(r.clone().pick(&[0, LISTED_SIZE, LIST_SIZE - 1, LIST_SIZE + 1, LIST_SIZE + LISTED_SIZE])),
+            2 => device = r.bytes(r.clone().pick(&[0, 1, DEVICE_SIZE - 1, DEVICE_SIZE + 1, 2 * DEVICE_SIZE])),
             _ => {}
         }
     }
@@ -346,13 +348,13 @@ const VERSIONS_SHORT: u8 = b'v';
 pub fn make_script(r: &mut Random) -> Case {
     let mut aim = "";
     let record = valid_device(r);
-    let mut device = record.bytes().to_vec();
+    let mut device = any_record(r, &record.bytes(), record.passed_over());
     let mut staging = r.bytes(record.staging as usize);
     match r.below(20) {
         0..=2 => {
             aim = r.pick(&BROKEN);
             device = broken_device(r, aim);
-            let length = DeviceRecord::read(&device).map_or(64, |record| record.staging.min(65_537));
+            let length = DeviceRecord::read(&device).map_or(64, |record| record.staging.min(STAGING_LIMIT as u32 + 1));
             staging = r.bytes(length as usize);
         }
         3 => {
@@ -362,7 +364,7 @@ pub fn make_script(r: &mut Random) -> Case {
         }
         4 if r.percent(30) => {
             aim = "C1: another record length";
-            device = r.bytes(r.clone().pick(&[0, 1, 139, 141]));
+            device = r.bytes(r.clone().pick(&[0, 1, DEVICE_SIZE - 1, DEVICE_SIZE + 1]));
         }
         _ => {}
     }
@@ -384,7 +386,7 @@ fn script(r: &mut Random, record: &DeviceRecord, staging: &[u8], aim: &str) -> V
             3 => vec![vec![r.pick(&[OFFER_SHORT, CONTENT_SHORT, VERSIONS_SHORT])]],
             4..=9 => session(r, &now),
             10 | 11 => {
-                let length = r.pick(&[0, 1, 8, 15, 16, 17, 59, 60, 61, 120]);
+                let length = r.pick(&[0, 1, 8, SHORT_SIZE - 1, SHORT_SIZE, SHORT_SIZE + 1, LONG_SIZE - 1, LONG_SIZE, LONG_SIZE + 1, 120]);
                 let channel = r.pick(&[OFFER, CONTENT]);
                 vec![[vec![channel], r.bytes(length)].concat()]
             }
@@ -420,19 +422,19 @@ fn packet(r: &mut Random, record: &DeviceRecord) -> Vec<u8> {
 /// A packet of the offer channel.
 pub fn offer_channel(r: &mut Random, record: &DeviceRecord) -> Vec<u8> {
     match r.below(20) {
-        0..=2 => signal(r, 0xFF, &[0, 1, 2, 3, 255]),
-        3..=5 => signal(r, 0xFE, &[1, 1, 1, 0, 2, 255]),
-        6 => r.bytes(16),
+        0..=2 => signal(r, INFORMATION, &[0, 1, 2, 3, 255]),
+        3..=5 => signal(r, EXTENDED, &[1, 1, 1, 0, 2, 255]),
+        6 => r.bytes(SHORT_SIZE),
         _ => offer(r, record),
     }
 }
 
 /// Information or extended.
 fn signal(r: &mut Random, kind: u8, codes: &[u8]) -> Vec<u8> {
-    let mut packet = if r.percent(20) { r.bytes(16) } else { vec![0; 16] };
-    packet[0] = r.pick(codes);
-    packet[2] = kind;
-    packet[3] = r.byte();
+    let mut packet = if r.percent(20) { r.bytes(SHORT_SIZE) } else { vec![0; SHORT_SIZE] };
+    packet[signal_at::CODE] = r.pick(codes);
+    packet[signal_at::KIND] = kind;
+    packet[signal_at::TOKEN] = r.byte();
     packet
 }
 
@@ -449,28 +451,24 @@ fn offer(r: &mut Random, record: &DeviceRecord) -> Vec<u8> {
         4..=8 => chosen.running.wrapping_add(1),
         _ => chosen.running.wrapping_add(256),
     };
-    let mut packet = vec![0; 16];
-    packet[2] = id;
-    packet[3] = r.byte();
-    packet[4..8].copy_from_slice(&version.to_le_bytes());
-    packet[8..12].copy_from_slice(&need(r, listed));
-    packet[12] = 2;
-    packet[14..16].copy_from_slice(&record.platform.to_le_bytes());
+    let token = r.byte();
+    let mut packet = offer_packet(id, version, need(r, listed), record.platform);
+    packet[offer_at::TOKEN] = token;
     // One field at its border, sometimes.
     match r.below(30) {
-        0 => packet[0] = r.pick(&[1, 255]),
-        1 => packet[1] = r.byte(),
-        2 => packet[12] = r.pick(&[0, 1, 3, 15, 0x10, 0x21, 0xF2]),
-        3 => packet[13] = r.byte(),
-        4 => packet[14] ^= 1,
-        5 => packet[15] ^= 0x80,
-        6 => packet[12] = 0x12,
+        0 => packet[offer_at::SEGMENT] = r.pick(&[1, 255]),
+        1 => packet[offer_at::FLAGS] = r.byte(),
+        2 => packet[offer_at::PROTOCOL] = r.pick(&[0, 1, 3, 15, 0x10, 0x21, 0xF2]),
+        3 => packet[offer_at::RESERVED] = r.byte(),
+        4 => packet[offer_at::PLATFORM] ^= 1,
+        5 => packet[offer_at::PLATFORM + 1] ^= 0x80,
+        6 => packet[offer_at::PROTOCOL] = 0x12,
         _ => {}
     }
-    packet
+    packet.to_vec()
 }
 
-/// Bytes 8 to 11 of an offer: none, met, unmet by one, absent.
+/// The need of an offer: none, met, unmet by one, absent.
 fn need(r: &mut Random, listed: &[Part]) -> [u8; 4] {
     if listed.is_empty() || r.percent(55) {
         return if r.percent(80) { [0; 4] } else { [0, r.byte(), r.byte(), r.byte()] };
@@ -485,40 +483,39 @@ fn need(r: &mut Random, listed: &[Part]) -> [u8; 4] {
         _ => release,
     } & 0x00FF_FFFF;
     let id = if r.percent(92) { needed.id } else { r.pick(&[0xFE, 0xFF, 0xE0, 11]) };
-    let bytes = least.to_le_bytes();
-    [id, bytes[0], bytes[1], bytes[2]]
+    need_bytes(id, least)
 }
 
 /// A content packet that mostly fits the session.
 fn content(r: &mut Random, record: &DeviceRecord) -> Vec<u8> {
     let slot = record.session.slot().unwrap_or(0) as usize;
-    let part = record.parts[slot.min(6)];
+    let part = record.parts[slot.min(COMPONENT_LIMIT - 1)];
     let (mut flags, mut sequence) = match record.session {
         Session::Receiving { next, .. } => (0, next),
-        _ => (0x80, r.pick(&[0, 1, 0xFFFF, 0x1234])),
+        _ => (FLAG_FIRST_BLOCK, r.pick(&[0, 1, 0xFFFF, 0x1234])),
     };
     if r.percent(15) {
-        flags |= 0x40;
+        flags |= FLAG_LAST_BLOCK;
     }
-    let length = r.between(1, 52).min(part.length.max(1) as usize) as u32;
+    let length = r.between(1, DATA_SIZE).min(part.length.max(1) as usize) as u32;
     let mut length = length as u8;
     let room = part.length.saturating_sub(length as u32);
     let mut address = if r.percent(30) { room } else { r.below(room as usize + 1) as u32 };
     match r.below(25) {
-        0 => length = r.pick(&[0, 53, 255]),
-        1 => flags ^= 0x80,
+        0 => length = r.pick(&[0, DATA_SIZE as u8 + 1, 255]),
+        1 => flags ^= FLAG_FIRST_BLOCK,
         2 => flags |= r.pick(&[1, 2, 0x20, 0x3F]),
         3 => sequence = sequence.wrapping_add(r.pick(&[1, 0xFFFF, 256])),
         4 => address = room + 1,
         5 => address = r.pick(&[u32::MAX, u32::MAX - 51, 0x8000_0000, part.length]),
-        6 => return r.bytes(60),
+        6 => return r.bytes(LONG_SIZE),
         _ => {}
     }
-    let mut packet = r.bytes(60);
-    packet[0] = flags;
-    packet[1] = length;
-    packet[2..4].copy_from_slice(&sequence.to_le_bytes());
-    packet[4..8].copy_from_slice(&address.to_le_bytes());
+    let mut packet = r.bytes(LONG_SIZE);
+    packet[content_at::FLAGS] = flags;
+    packet[content_at::LENGTH] = length;
+    put(&mut packet, content_at::SEQUENCE, &sequence.to_le_bytes());
+    put(&mut packet, content_at::ADDRESS, &address.to_le_bytes());
     packet
 }
 
@@ -545,30 +542,24 @@ fn session(r: &mut Random, record: &DeviceRecord) -> Vec<Vec<u8>> {
         _ => {}
     }
     let token = r.byte();
+    let item = |channel: u8, packet: &[u8]| [&[channel], packet].concat();
     let mut items = Vec::new();
     if record.session != Session::Idle {
-        items.push(vec![OFFER, 0, 0, 0xFF, token, 0, 0, 0, 0, 0, 0, 0, 0, 0, 0, 0, 0]);
+        items.push(item(OFFER, &signal_packet(INFORMATION, INFO_START_ENTIRE_TRANSACTION, token)));
     }
-    let mut offer = vec![OFFER, 0, 0, part.id, token];
-    offer.extend(version.to_le_bytes());
-    offer.extend([0, 0, 0, 0, 2, 0]);
-    offer.extend(record.platform.to_le_bytes());
-    items.push(offer);
+    let mut offer = offer_packet(part.id, version, [0; 4], record.platform);
+    offer[offer_at::TOKEN] = token;
+    items.push(item(OFFER, &offer));
     if r.percent(40) {
-        items.push(vec![OFFER, 1, 0, 0xFE, r.byte(), 0, 0, 0, 0, 0, 0, 0, 0, 0, 0, 0, 0]);
+        items.push(item(OFFER, &signal_packet(EXTENDED, NOTIFY_ON_READY, r.byte())));
     }
     let mut sequence = r.pick(&[0u16, 0xFFFF, 0xFFFE, 7]);
     let mut at = 0;
     while at < image.len() {
-        let length = r.between(1, 52).max(image.len() / 30).min(52).min(image.len() - at);
-        let mut packet = vec![0; 61];
-        packet[0] = CONTENT;
-        packet[1] = if at == 0 { 0x80 } else { 0 } + if at + length == image.len() { 0x40 } else { 0 };
-        packet[2] = length as u8;
-        packet[3..5].copy_from_slice(&sequence.to_le_bytes());
-        packet[5..9].copy_from_slice(&(at as u32).to_le_bytes());
-        packet[9..9 + length].copy_from_slice(&image[at..at + length]);
-        items.push(packet);
+        let length = r.between(1, DATA_SIZE).max(image.len() / 30).min(DATA_SIZE).min(image.len() - at);
+        let first = if at == 0 { FLAG_FIRST_BLOCK } else { 0 };
+        let last = if at + length == image.len() { FLAG_LAST_BLOCK } else { 0 };
+        items.push(item(CONTENT, &content_packet(first | last, sequence, at as u32, &image[at..at + length])));
         sequence = sequence.wrapping_add(1);
         at += length;
     }
@@ -629,8 +620,40 @@ pub fn run_script(case: &Case, tally: &mut Tally) -> Outcome {
         if place == 0 && case.aim.starts_with(&tally::row(answers[0].0)[5..]) {
             tally.one(case.aim);
         }
+        let given = case.bytes_at("device");
+        if let (0, SERVED, Some(record)) = (place, answers[0].0, DeviceRecord::read(given)) {
+            let passed = record.passed_over();
+            count_passed(tally, given, &passed);
+            count_left(tally, *what, given, first.device.bytes(), &passed);
+        }
     }
     Ok(())
+}
+
+/// What the first call of a script does with bytes that are passed over and are not zero.
+pub const LEFT: [&str; 5] = [
+    "passed over and left by an offer",
+    "passed over and written by an offer",
+    "passed over and left by content",
+    "passed over and written by content",
+    "passed over and written by a reset",
+];
+
+fn count_left(tally: &mut Tally, what: u8, given: &[u8], left: &[u8], passed: &[Passed]) {
+    for (_, place) in passed {
+        let (before, after) = (&given[place.clone()], &left[place.clone()]);
+        if before.iter().all(|byte| *byte == 0) {
+            continue;
+        }
+        match (what, before == after) {
+            (OFFER, true) => tally.one(LEFT[0]),
+            (OFFER, false) => tally.one(LEFT[1]),
+            (CONTENT, true) => tally.one(LEFT[2]),
+            (CONTENT, false) => tally.one(LEFT[3]),
+            (RESET, false) => tally.one(LEFT[4]),
+            _ => {}
+        }
+    }
 }
 
 fn one_call(side: &mut Side, what: u8, report: &[u8]) -> (u32, u32) {
@@ -671,7 +694,7 @@ fn count_call(tally: &mut Tally, what: u8, (number, count): (u32, u32), out: &[u
         (OFFER, 0) => tally.one("replies: none due"),
         (OFFER, _) => tally.one(tally::offer_status(out)),
         (CONTENT, n) => {
-            tally.one(tally::content_status(out[4]));
+            tally.one(tally::content_status(out));
             if n == 2 {
                 tally.one("replies: READY follows");
             }

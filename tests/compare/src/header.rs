@@ -1,44 +1,4 @@
-//! include/cfu.h in Rust: its sizes, its numbers, the structs that cross by value, and the functions of the library.
-
-pub const DEVICE_SIZE: usize = 140;
-pub const LIST_SIZE: usize = 91;
-pub const HOST_SIZE: usize = 24;
-pub const CONTENTS_SIZE: usize = 103;
-pub const REPLIES_SIZE: usize = 32;
-pub const SHORT_SIZE: usize = 16;
-pub const LONG_SIZE: usize = 60;
-pub const DATA_SIZE: usize = 52;
-pub const COMPONENTS_SIZE: usize = 49;
-
-pub const SERVED: u32 = 0;
-pub const C1: u32 = 0x4301;
-pub const C2: u32 = 0x4302;
-pub const C3: u32 = 0x4303;
-pub const S1: u32 = 0x5301;
-pub const S2: u32 = 0x5302;
-pub const S3: u32 = 0x5303;
-pub const S4: u32 = 0x5304;
-pub const D1: u32 = 0x4401;
-pub const D2: u32 = 0x4402;
-pub const D3: u32 = 0x4403;
-pub const P1: u32 = 0x5001;
-pub const P2: u32 = 0x5002;
-pub const N1: u32 = 0x4E01;
-pub const B1: u32 = 0x4201;
-pub const B2: u32 = 0x4202;
-pub const B3: u32 = 0x4203;
-pub const B4: u32 = 0x4204;
-pub const B5: u32 = 0x4205;
-pub const B6: u32 = 0x4206;
-pub const B7: u32 = 0x4207;
-pub const B8: u32 = 0x4208;
-
-pub const RUNNING: u32 = 0;
-pub const DONE: u32 = 1;
-pub const H1: u32 = 0x4801;
-pub const H2: u32 = 0x4802;
-pub const H3: u32 = 0x4803;
-pub const H4: u32 = 0x4804;
+//! include/cfu.h in Rust: the structs that cross by value, and the functions of the library. Its numbers stand in layout.rs.
 
 #[repr(C)]
 #[derive(Clone, Copy, Debug, Default, PartialEq, Eq)]
@@ -46,6 +6,14 @@ pub struct Version {
     pub major: u8,
     pub minor: u16,
     pub variant: u8,
+}
+
+impl Version {
+    /// The three parts of a version's number.
+    pub fn of(number: u32) -> Version {
+        let [variant, low, high, major] = number.to_le_bytes();
+        Version { major, minor: u16::from_le_bytes([low, high]), variant }
+    }
 }
 
 #[repr(C)]

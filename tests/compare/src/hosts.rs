@@ -6,7 +6,7 @@ use second::host::{Host as SecondHost, Packet, Stage as SecondStage};
 use crate::bundles::{any_bundle, any_entries, bundle};
 use crate::calls::Calls;
 use crate::case::{difference, hex, Case, Outcome};
-use crate::devices::guarded;
+use crate::devices::{any_record, count_passed, guarded};
 use crate::header::*;
 use crate::layout::*;
 use crate::lent::Lent;
@@ -16,7 +16,7 @@ use crate::tally::{self, Tally};
 use crate::{library, made, ALL};
 
 /// What a record is made to break: the clauses of row N1, and the forms of bytes that are no record.
-pub const BROKEN: [&str; 16] = [
+pub const BROKEN: [&str; 13] = [
     "N1: offering past the entries",
     "N1: waiting past the entries",
     "N1: sending past the entries",
@@ -26,14 +26,18 @@ pub const BROKEN: [&str; 16] = [
     "N1: 2^31 packets",
     "N1: mask bit past the offers",
     "N1: no stage",
-    "N1: words where the stage has none",
     "N1: no end",
-    "N1: H1 with a status over 255",
-    "N1: a status where the end has none",
     "N1: SKIP flag neither 0 nor 1",
     "N1: image flag neither 0 nor 1",
     "N1: random bytes",
 ];
+
+/// What is passed over in the records that steps meet.
+pub const PASSED: [&str; 3] = [PASSED_STAGE, PASSED_END, PASSED_STATUS];
+
+fn any_host(r: &mut Random, host: &HostRecord) -> Vec<u8> {
+    any_record(r, &host.bytes(), host.passed_over())
+}
 
 /// A record that fits a bundle with bodies of so many records.
 fn fitting(r: &mut Random, records: &[usize]) -> HostRecord {
@@ -84,18 +88,16 @@ fn broken(r: &mut Random, records: &[usize], aim: &'static str) -> Vec<u8> {
         "N1: mask bit past the offers" => host.mask |= 1 << r.between(records.len(), 31),
         _ => {}
     }
-    let mut bytes = host.bytes().to_vec();
+    let mut bytes = any_host(r, &host);
     match aim {
-        "N1: no stage" => bytes[1] = r.pick(&[8, 9, 255]),
-        "N1: words where the stage has none" => {
-            bytes[1] = r.pick(&[0, 1, 2, 6]);
-            bytes[r.between(2, 9)] = r.between(1, 255) as u8;
+        "N1: no stage" => bytes[host_at::STAGE] = r.pick(&[8, 9, 255]),
+        "N1: no end" => {
+            bytes[host_at::STAGE] = 7;
+            let end = r.pick(&[5, 6, 255, 256, u32::MAX]);
+            put(&mut bytes, host_at::FIRST, &end.to_le_bytes());
         }
-        "N1: no end" => bytes[1..10].copy_from_slice(&[7, r.pick(&[5, 6, 255]), 0, 0, 0, 0, 0, 0, 0]),
-        "N1: H1 with a status over 255" => bytes[1..10].copy_from_slice(&[7, 1, 0, 0, 0, r.byte(), 1, 0, 0]),
-        "N1: a status where the end has none" => bytes[1..10].copy_from_slice(&[7, r.pick(&[0, 2, 3, 4]), 0, 0, 0, r.between(1, 255) as u8, 0, 0, 0]),
-        "N1: SKIP flag neither 0 nor 1" => bytes[22] = r.between(2, 255) as u8,
-        "N1: image flag neither 0 nor 1" => bytes[23] = r.between(2, 255) as u8,
+        "N1: SKIP flag neither 0 nor 1" => bytes[host_at::SKIPPED] = r.pick(&[2, 3, 255]),
+        "N1: image flag neither 0 nor 1" => bytes[host_at::LANDED] = r.pick(&[2, 3, 255]),
         "N1: random bytes" => bytes = r.bytes(HOST_SIZE),
         _ => {}
     }
@@ -104,40 +106,43 @@ fn broken(r: &mut Random, records: &[usize], aim: &'static str) -> Vec<u8> {
 
 /// A reply to the packet that the host sent last, by its stage: mostly one that goes on.
 pub fn reply_for(r: &mut Random, token: u8, stage: SecondStage, busy: bool) -> Vec<u8> {
-    let mut reply = vec![0; 16];
+    let mut reply = vec![0; SHORT_SIZE];
     match stage {
         SecondStage::Sending { record, .. } => {
-            reply[..2].copy_from_slice(&(record as u16).to_le_bytes());
+            put(&mut reply, content_reply_at::SEQUENCE, &(record as u16).to_le_bytes());
             if r.percent(4) {
-                reply[4] = r.pick(&[0x05, 0x04, 0x07, 0x09, 0x0A, 0x0B, 0xFF, 1]);
+                let errors = [ERROR_CRC, ERROR_VERIFY, ERROR_VERSION, ERROR_INVALID_ADDR, ERROR_NO_OFFER, ERROR_INVALID, 0xFF, 1];
+                reply[content_reply_at::STATUS] = r.pick(&errors);
             }
             if r.percent(2) {
-                reply[r.below(2)] ^= 1 << r.below(8);
+                reply[content_reply_at::SEQUENCE + r.below(2)] ^= 1 << r.below(8);
             }
         }
         _ => {
-            reply[3] = token;
-            reply[12] = match stage {
-                SecondStage::Offering { .. } if busy => 3,
-                SecondStage::Offering { .. } => r.pick(&[0, 0, 1, 1, 1, 2, 2, 3]),
-                SecondStage::Waiting { .. } => 4,
-                _ => 1,
+            reply[offer_reply_at::TOKEN] = token;
+            reply[offer_reply_at::STATUS] = match stage {
+                SecondStage::Offering { .. } if busy => OFFER_BUSY,
+                SecondStage::Offering { .. } => {
+                    r.pick(&[OFFER_SKIP, OFFER_SKIP, OFFER_ACCEPT, OFFER_ACCEPT, OFFER_ACCEPT, OFFER_REJECT, OFFER_REJECT, OFFER_BUSY])
+                }
+                SecondStage::Waiting { .. } => OFFER_READY,
+                _ => OFFER_ACCEPT,
             };
             if r.percent(3) {
-                reply[12] = r.pick(&[0, 1, 2, 3, 4, 5, 0xFF, r.clone().byte()]);
+                reply[offer_reply_at::STATUS] = r.pick(&[0, 1, 2, 3, 4, 5, OFFER_UNSUPPORTED, r.clone().byte()]);
             }
             if r.percent(2) {
-                reply[3] ^= 1 << r.below(8);
+                reply[offer_reply_at::TOKEN] ^= 1 << r.below(8);
             }
-            reply[8] = r.pick(&[0, 0, 1, 0xE0]);
+            reply[offer_reply_at::REASON] = r.pick(&[0, 0, REJECT_INV_COMPONENT, REJECT_WRONG_PROTOCOL]);
         }
     }
     match r.below(60) {
-        0 => reply.truncate(r.below(16)),
+        0 => reply.truncate(r.below(SHORT_SIZE)),
         1 => reply.extend(r.bytes(r.clone().pick(&[1, 16, 44]))),
-        2 => reply = r.bytes(16),
+        2 => reply = r.bytes(SHORT_SIZE),
         // Bytes that no reader looks at.
-        3 => reply[13..].copy_from_slice(&[1, 2, 3]),
+        3 => put(&mut reply, offer_reply_at::STATUS + 1, &[1, 2, 3]),
         _ => {}
     }
     reply
@@ -154,13 +159,19 @@ pub fn make_host(r: &mut Random) -> Case {
     let records: Vec<usize> = accepted.map_or(vec![1], |read| read.entries.iter().map(|entry| entry.records.len()).collect());
     let mut aim = "";
     let host = match r.below(10) {
-        0..=4 => HostRecord::fresh(r.byte()).bytes().to_vec(),
-        5..=7 => fitting(r, &records).bytes().to_vec(),
+        0..=4 => {
+            let fresh = HostRecord::fresh(r.byte());
+            any_host(r, &fresh)
+        }
+        5..=7 => {
+            let host = fitting(r, &records);
+            any_host(r, &host)
+        }
         8 => {
             aim = r.pick(&BROKEN);
             broken(r, &records, aim)
         }
-        _ if r.percent(10) => r.bytes(r.clone().pick(&[0, 23, 25])),
+        _ if r.percent(10) => r.bytes(r.clone().pick(&[0, HOST_SIZE - 1, HOST_SIZE + 1])),
         _ => fitting(r, &records).bytes().to_vec(),
     };
     // The second implementation follows along, so that the replies fit the record that they meet.
@@ -255,6 +266,10 @@ pub fn run_host(case: &Case, tally: &mut Tally) -> Outcome {
         if place == 0 && case.aim.starts_with(&tally::row(told.number)[5..]) {
             tally.one(case.aim);
         }
+        let given = case.bytes_at("host");
+        if let (0, SERVED, Some(record)) = (place, told.number, HostRecord::read(given)) {
+            count_passed(tally, given, &record.passed_over());
+        }
     }
     if bundle.bytes() != case.bytes_at("bundle") {
         return Err("the bundle was written to".to_string());
@@ -283,9 +298,10 @@ pub fn make_contents(r: &mut Random) -> Case {
     let mut contents = vec![0; CONTENTS_SIZE];
     made::Made.check(&bytes, &mut contents);
     for _ in 0..r.between(1, 3) {
-        let place = 3 + 4 * r.below(7 * 3 + 2);
+        // One of the numbers between the count and the cursor.
+        let place = contents_at::BODIES + 4 * r.below((contents_at::CURSOR - contents_at::BODIES) / 4);
         match r.below(7) {
-            0 => contents[2] = r.pick(&[0, 1, 7, 8, 31, 32, 255]),
+            0 => contents[contents_at::COUNT] = r.pick(&[0, 1, 7, 8, 31, 32, 255]),
             1 => contents = r.bytes(CONTENTS_SIZE),
             2 => {
                 // A cursor that is anything, for the block that the record may have in hand.
@@ -294,11 +310,11 @@ pub fn make_contents(r: &mut Random) -> Case {
                 let kept = Contents::read(&contents).unwrap_or_default();
                 contents = Contents { entry, block, cursor, ..kept }.bytes().to_vec();
             }
-            3 => contents[r.below(2)] = r.pick(&[0, 1, 7, 8, 9, 255]),
+            3 => contents[r.pick(&[contents_at::ROW, contents_at::PLACE])] = r.pick(&[0, 1, 7, 8, 9, 255]),
             _ => {
                 let was = four(&contents[place..]);
                 let next = r.pick(&[0, 1, u32::MAX, was.wrapping_add(1), was.wrapping_sub(1), was / 2, bytes.len() as u32]);
-                contents[place..place + 4].copy_from_slice(&next.to_le_bytes());
+                put(&mut contents, place, &next.to_le_bytes());
             }
         }
     }
@@ -312,7 +328,7 @@ pub fn make_contents(r: &mut Random) -> Case {
     }
     let size = if r.percent(2) { r.pick(&[0, CONTENTS_SIZE - 1, CONTENTS_SIZE + 1]) } else { CONTENTS_SIZE };
     contents.resize(size, 0);
-    Case::aimed("").bytes("host", host.bytes()).bytes("bundle", bytes).bytes("contents", contents).list("replies", replies)
+    Case::aimed("").bytes("host", any_host(r, &host)).bytes("bundle", bytes).bytes("contents", contents).list("replies", replies)
 }
 
 pub fn run_contents(case: &Case, tally: &mut Tally) -> Outcome {

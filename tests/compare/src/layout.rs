@@ -1,18 +1,318 @@
-//! The records of include/cfu.h as fields and as bytes, from the layouts that the header documents.
+//! The formats for the tests in Rust, each stated once: the numbers of include/cfu.h, the places of the fields in packets, image, bundle and records, and the
+//! records as fields.
+//!
+//! build.rs holds the numbers against the header. The file needs no other: tools/rust_crate copies it into the crate that it makes, for the tests there.
 
-use crate::header::*;
+use std::ops::Range;
+
+// ---------------------------------------------------------------- the header's numbers
+
+pub const DEVICE_SIZE: usize = 140;
+pub const LIST_SIZE: usize = 91;
+pub const HOST_SIZE: usize = 24;
+pub const CONTENTS_SIZE: usize = 103;
+pub const REPLIES_SIZE: usize = 32;
+pub const SHORT_SIZE: usize = 16;
+pub const LONG_SIZE: usize = 60;
+pub const DATA_SIZE: usize = 52;
+pub const COMPONENTS_SIZE: usize = 49;
+
+pub const STAGING_LIMIT: usize = 65536;
+pub const BUNDLE_LIMIT: usize = 65536;
+pub const COMPONENT_LIMIT: usize = 7;
+pub const OFFER_LIMIT: usize = 7;
+pub const REGION_LEAST: usize = 8;
+
+pub const SERVED: u32 = 0;
+pub const C1: u32 = 0x4301;
+pub const C2: u32 = 0x4302;
+pub const C3: u32 = 0x4303;
+pub const S1: u32 = 0x5301;
+pub const S2: u32 = 0x5302;
+pub const S3: u32 = 0x5303;
+pub const S4: u32 = 0x5304;
+pub const D1: u32 = 0x4401;
+pub const D2: u32 = 0x4402;
+pub const D3: u32 = 0x4403;
+pub const P1: u32 = 0x5001;
+pub const P2: u32 = 0x5002;
+pub const N1: u32 = 0x4E01;
+pub const B1: u32 = 0x4201;
+pub const B2: u32 = 0x4202;
+pub const B3: u32 = 0x4203;
+pub const B4: u32 = 0x4204;
+pub const B5: u32 = 0x4205;
+pub const B6: u32 = 0x4206;
+pub const B7: u32 = 0x4207;
+pub const B8: u32 = 0x4208;
+
+pub const RUNNING: u32 = 0;
+pub const DONE: u32 = 1;
+pub const H1: u32 = 0x4801;
+pub const H2: u32 = 0x4802;
+pub const H3: u32 = 0x4803;
+pub const H4: u32 = 0x4804;
+
+pub const PROTOCOL: u8 = 2;
+pub const KIND_NONE: u32 = 0;
+pub const KIND_OFFER: u32 = 1;
+pub const KIND_INFORMATION: u32 = 2;
+pub const KIND_EXTENDED: u32 = 3;
+pub const INFO_START_ENTIRE_TRANSACTION: u8 = 0;
+pub const INFO_START_OFFER_LIST: u8 = 1;
+pub const INFO_END_OFFER_LIST: u8 = 2;
+pub const NOTIFY_ON_READY: u8 = 1;
+pub const OFFER_SKIP: u8 = 0;
+pub const OFFER_ACCEPT: u8 = 1;
+pub const OFFER_REJECT: u8 = 2;
+pub const OFFER_BUSY: u8 = 3;
+pub const OFFER_READY: u8 = 4;
+pub const OFFER_UNSUPPORTED: u8 = 0xFF;
+pub const REJECT_OLD_FW: u8 = 0;
+pub const REJECT_INV_COMPONENT: u8 = 1;
+pub const REJECT_SWAP_PENDING: u8 = 2;
+pub const REJECT_WRONG_PROTOCOL: u8 = 0xE0;
+pub const REJECT_WRONG_SEGMENT: u8 = 0xE1;
+pub const FLAG_FIRST_BLOCK: u8 = 0x80;
+pub const FLAG_LAST_BLOCK: u8 = 0x40;
+pub const SUCCESS: u8 = 0;
+pub const ERROR_VERIFY: u8 = 0x04;
+pub const ERROR_CRC: u8 = 0x05;
+pub const ERROR_VERSION: u8 = 0x07;
+pub const ERROR_INVALID_ADDR: u8 = 0x09;
+pub const ERROR_NO_OFFER: u8 = 0x0A;
+pub const ERROR_INVALID: u8 = 0x0B;
+
+// ---------------------------------------------------------------- numbers in bytes
 
 /// A little-endian number of up to eight bytes.
 pub fn number(bytes: &[u8]) -> u64 {
     bytes.iter().rev().fold(0, |value, byte| value * 256 + *byte as u64)
 }
 
+#[inline]
 pub fn four(bytes: &[u8]) -> u32 {
-    number(&bytes[..4]) as u32
+    u32::from_le_bytes([bytes[0], bytes[1], bytes[2], bytes[3]])
 }
 
+#[inline]
 pub fn two(bytes: &[u8]) -> u16 {
-    number(&bytes[..2]) as u16
+    u16::from_le_bytes([bytes[0], bytes[1]])
+}
+
+/// Writes bytes at a place.
+pub fn put(out: &mut [u8], at: usize, bytes: &[u8]) {
+    out[at..at + bytes.len()].copy_from_slice(bytes);
+}
+
+// ---------------------------------------------------------------- packets
+
+pub mod offer_at {
+    pub const SEGMENT: usize = 0;
+    /// CFU's I is bit 6, V is bit 7.
+    pub const FLAGS: usize = 1;
+    pub const ID: usize = 2;
+    pub const TOKEN: usize = 3;
+    pub const VERSION: usize = 4;
+    pub const NEED: usize = 8;
+    pub const LEAST: usize = 9;
+    pub const PROTOCOL: usize = 12;
+    pub const RESERVED: usize = 13;
+    pub const PLATFORM: usize = 14;
+}
+
+/// Information and extended. Byte 2 tells the kind of every packet of the offer channel.
+pub mod signal_at {
+    pub const CODE: usize = 0;
+    pub const KIND: usize = 2;
+    pub const TOKEN: usize = 3;
+}
+
+pub const INFORMATION: u8 = 0xFF;
+pub const EXTENDED: u8 = 0xFE;
+
+pub mod offer_reply_at {
+    pub const TOKEN: usize = 3;
+    pub const REASON: usize = 8;
+    pub const STATUS: usize = 12;
+}
+
+pub mod content_at {
+    pub const FLAGS: usize = 0;
+    pub const LENGTH: usize = 1;
+    pub const SEQUENCE: usize = 2;
+    pub const ADDRESS: usize = 4;
+    pub const DATA: usize = 8;
+}
+
+pub mod content_reply_at {
+    pub const SEQUENCE: usize = 0;
+    pub const STATUS: usize = 4;
+}
+
+pub mod version_reply_at {
+    pub const COUNT: usize = 0;
+    pub const PROTOCOL: usize = 3;
+    /// For each component its running version (4), a zero, its id, the platform (2).
+    pub const COMPONENTS: usize = 4;
+    pub const COMPONENT_SIZE: usize = 8;
+}
+
+const _: () = assert!(content_at::DATA + DATA_SIZE == LONG_SIZE);
+const _: () = assert!(version_reply_at::COMPONENTS + COMPONENT_LIMIT * version_reply_at::COMPONENT_SIZE == LONG_SIZE);
+
+/// An offer that row B5 allows, without a token.
+pub fn offer_packet(id: u8, version: u32, need: [u8; 4], platform: u16) -> [u8; SHORT_SIZE] {
+    let mut out = [0; SHORT_SIZE];
+    out[offer_at::ID] = id;
+    put(&mut out, offer_at::VERSION, &version.to_le_bytes());
+    put(&mut out, offer_at::NEED, &need);
+    out[offer_at::PROTOCOL] = PROTOCOL;
+    put(&mut out, offer_at::PLATFORM, &platform.to_le_bytes());
+    out
+}
+
+/// A needed component and its least version, a version's number without its variant: 24 bits.
+pub fn need_bytes(id: u8, least: u32) -> [u8; 4] {
+    let bytes = least.to_le_bytes();
+    [id, bytes[0], bytes[1], bytes[2]]
+}
+
+/// Information or extended.
+pub fn signal_packet(kind: u8, code: u8, token: u8) -> [u8; SHORT_SIZE] {
+    let mut out = [0; SHORT_SIZE];
+    out[signal_at::CODE] = code;
+    out[signal_at::KIND] = kind;
+    out[signal_at::TOKEN] = token;
+    out
+}
+
+pub fn content_packet(flags: u8, sequence: u16, address: u32, data: &[u8]) -> [u8; LONG_SIZE] {
+    let mut out = [0; LONG_SIZE];
+    out[content_at::FLAGS] = flags;
+    out[content_at::LENGTH] = data.len() as u8;
+    put(&mut out, content_at::SEQUENCE, &sequence.to_le_bytes());
+    put(&mut out, content_at::ADDRESS, &address.to_le_bytes());
+    put(&mut out, content_at::DATA, data);
+    out
+}
+
+// ---------------------------------------------------------------- image
+
+pub mod image_at {
+    pub const VERSION: usize = 0;
+    pub const ID: usize = 4;
+}
+
+/// The CRC ends the image.
+pub const CRC_SIZE: usize = 2;
+
+/// CRC-16/XMODEM by polynomial division, bit after bit.
+pub fn crc(bytes: &[u8]) -> u16 {
+    let mut rest: u32 = 0;
+    for bit in bytes.iter().flat_map(|byte| (0..8).rev().map(move |place| byte >> place & 1)) {
+        let out = (rest >> 15 & 1) ^ bit as u32;
+        rest = (rest << 1 & 0xFFFF) ^ (out * 0x1021);
+    }
+    rest as u16
+}
+
+/// Makes bytes an image: its version, its component and its CRC, high byte first, are written over them.
+pub fn make_image(bytes: &mut [u8], version: u32, id: u8) {
+    put(bytes, image_at::VERSION, &version.to_le_bytes());
+    bytes[image_at::ID] = id;
+    let end = bytes.len() - CRC_SIZE;
+    let check = crc(&bytes[..end]);
+    put(bytes, end, &check.to_be_bytes());
+}
+
+// ---------------------------------------------------------------- bundle
+
+/// Byte 0 is the count of offers, byte 1 is 1, the others are zero.
+pub const BUNDLE_HEAD: usize = 8;
+pub const ENTRY_SIZE: usize = 24;
+
+/// An entry of the table: the offer, then its body's place and length.
+pub mod entry_at {
+    pub const OFFSET: usize = 16;
+    pub const LENGTH: usize = 20;
+}
+
+/// A record of a body.
+pub mod record_at {
+    pub const ADDRESS: usize = 0;
+    pub const LENGTH: usize = 4;
+    pub const DATA: usize = 5;
+}
+
+const _: () = assert!(entry_at::OFFSET == SHORT_SIZE && entry_at::LENGTH + 4 == ENTRY_SIZE);
+
+/// Where an entry stands, counted from 0; the bodies follow the last.
+pub fn entry_start(place: usize) -> usize {
+    BUNDLE_HEAD + ENTRY_SIZE * place
+}
+
+pub fn record_bytes(address: u32, data: &[u8]) -> Vec<u8> {
+    [&address.to_le_bytes()[..], &[data.len() as u8], data].concat()
+}
+
+pub fn body_bytes(records: &[(u32, Vec<u8>)]) -> Vec<u8> {
+    records.iter().flat_map(|(address, data)| record_bytes(*address, data)).collect()
+}
+
+/// The bundle of these offers and bodies.
+pub fn bundle_of(entries: &[([u8; SHORT_SIZE], Vec<u8>)]) -> Vec<u8> {
+    let mut out = vec![entries.len() as u8, 1, 0, 0, 0, 0, 0, 0];
+    let mut at = entry_start(entries.len());
+    for (offer, body) in entries {
+        out.extend(offer);
+        out.extend((at as u32).to_le_bytes());
+        out.extend((body.len() as u32).to_le_bytes());
+        at += body.len();
+    }
+    for (_, body) in entries {
+        out.extend(body);
+    }
+    out
+}
+
+// ---------------------------------------------------------------- the device's record
+
+pub mod device_at {
+    pub const PLATFORM: usize = 0;
+    pub const STAGING: usize = 2;
+    pub const COUNT: usize = 6;
+    pub const STAGE: usize = 7;
+    pub const SLOT: usize = 8;
+    pub const TOKEN: usize = 9;
+    pub const NEXT: usize = 10;
+    pub const OWED: usize = 12;
+    pub const OWED_TOKEN: usize = 13;
+    pub const COMPONENTS: usize = 14;
+}
+
+/// A component in the record; one in set-up's list is its first LISTED_SIZE bytes.
+pub mod component_at {
+    pub const ID: usize = 0;
+    pub const RUNNING: usize = 1;
+    pub const BASE: usize = 5;
+    pub const LENGTH: usize = 9;
+    pub const STAGED: usize = 13;
+    pub const STAGED_VERSION: usize = 14;
+}
+
+pub const LISTED_SIZE: usize = 13;
+pub const COMPONENT_SIZE: usize = 18;
+
+/// The stage with what it has, and what is owed.
+pub const SESSION_SIZE: usize = device_at::COMPONENTS - device_at::STAGE;
+
+const _: () = assert!(COMPONENT_LIMIT * LISTED_SIZE == LIST_SIZE);
+const _: () = assert!(component_start(COMPONENT_LIMIT) == DEVICE_SIZE);
+
+/// Where a component stands in the record, counted from 0.
+pub const fn component_start(slot: usize) -> usize {
+    device_at::COMPONENTS + COMPONENT_SIZE * slot
 }
 
 /// A component in a device's record.
@@ -42,6 +342,7 @@ pub enum Session {
 }
 
 impl Session {
+    /// The slot that the session is open on.
     pub fn slot(self) -> Option<u8> {
         match self {
             Session::Idle => None,
@@ -58,79 +359,115 @@ pub struct DeviceRecord {
     pub count: u8,
     pub session: Session,
     pub owed: Option<u8>,
-    pub parts: [Part; 7],
+    pub parts: [Part; COMPONENT_LIMIT],
 }
 
 impl DeviceRecord {
+    /// The whole record, zero where its stage, owed or staged has nothing: what set-up and reset leave.
     pub fn bytes(&self) -> [u8; DEVICE_SIZE] {
         let mut out = [0; DEVICE_SIZE];
-        out[0..2].copy_from_slice(&self.platform.to_le_bytes());
-        out[2..6].copy_from_slice(&self.staging.to_le_bytes());
-        out[6] = self.count;
-        match self.session {
-            Session::Idle => {}
-            Session::Offered { slot, token } => {
-                out[7..10].copy_from_slice(&[1, slot, token]);
-            }
-            Session::Receiving { slot, token, next } => {
-                out[7..10].copy_from_slice(&[2, slot, token]);
-                out[10..12].copy_from_slice(&next.to_le_bytes());
-            }
+        put(&mut out, device_at::PLATFORM, &self.platform.to_le_bytes());
+        put(&mut out, device_at::STAGING, &self.staging.to_le_bytes());
+        out[device_at::COUNT] = self.count;
+        put(&mut out, device_at::STAGE, &self.session_bytes());
+        for (slot, part) in self.parts.iter().enumerate() {
+            put(&mut out, component_start(slot), &part.bytes());
         }
-        if let Some(token) = self.owed {
-            out[12..14].copy_from_slice(&[1, token]);
+        out
+    }
+
+    fn session_bytes(&self) -> [u8; SESSION_SIZE] {
+        let (stage, slot, token, next) = match self.session {
+            Session::Idle => (0, 0, 0, 0),
+            Session::Offered { slot, token } => (1, slot, token, 0),
+            Session::Receiving { slot, token, next } => (2, slot, token, next),
+        };
+        let [low, high] = u16::to_le_bytes(next);
+        [stage, slot, token, low, high, self.owed.is_some() as u8, self.owed.unwrap_or(0)]
+    }
+
+    /// What a served packet of the offer channel leaves of the bytes before, where this is the record that it leads to: its session is written anew.
+    pub fn leave_offered(&self, bytes: &mut [u8]) {
+        put(bytes, device_at::STAGE, &self.session_bytes());
+    }
+
+    /// What a served content packet leaves: its session, and the component in the slot of the session before, which is 0 where that was idle.
+    pub fn leave_received(&self, bytes: &mut [u8]) {
+        let slot = if bytes[device_at::STAGE] == 0 { 0 } else { bytes[device_at::SLOT] as usize };
+        put(bytes, device_at::STAGE, &self.session_bytes());
+        put(bytes, component_start(slot), &self.parts[slot].bytes());
+    }
+
+    /// The record in these bytes: none in bytes of another length, or with a stage, owed or staged that no record has. What these rule out is passed over.
+    pub fn read(bytes: &[u8]) -> Option<DeviceRecord> {
+        if bytes.len() != DEVICE_SIZE {
+            return None;
+        }
+        let (slot, token) = (bytes[device_at::SLOT], bytes[device_at::TOKEN]);
+        let session = match bytes[device_at::STAGE] {
+            0 => Session::Idle,
+            1 => Session::Offered { slot, token },
+            2 => Session::Receiving { slot, token, next: two(&bytes[device_at::NEXT..]) },
+            _ => return None,
+        };
+        let owed = match bytes[device_at::OWED] {
+            0 => None,
+            1 => Some(bytes[device_at::OWED_TOKEN]),
+            _ => return None,
+        };
+        let mut parts = [Part::default(); COMPONENT_LIMIT];
+        for (slot, part) in parts.iter_mut().enumerate() {
+            *part = Part::read(&bytes[component_start(slot)..])?;
+        }
+        Some(DeviceRecord {
+            platform: two(&bytes[device_at::PLATFORM..]),
+            staging: four(&bytes[device_at::STAGING..]),
+            count: bytes[device_at::COUNT],
+            session,
+            owed,
+            parts,
+        })
+    }
+
+    /// The bytes that are passed over in this record.
+    pub fn passed_over(&self) -> Vec<Passed> {
+        let mut out = Vec::new();
+        match self.session {
+            Session::Idle => out.push((PASSED_IDLE, device_at::SLOT..device_at::OWED)),
+            Session::Offered { .. } => out.push((PASSED_OFFERED, device_at::NEXT..device_at::OWED)),
+            Session::Receiving { .. } => {}
+        }
+        if self.owed.is_none() {
+            out.push((PASSED_OWED, device_at::OWED_TOKEN..device_at::COMPONENTS));
         }
         for (slot, part) in self.parts.iter().enumerate() {
-            let own = &mut out[14 + 18 * slot..][..18];
-            own[0] = part.id;
-            own[1..5].copy_from_slice(&part.running.to_le_bytes());
-            own[5..9].copy_from_slice(&part.base.to_le_bytes());
-            own[9..13].copy_from_slice(&part.length.to_le_bytes());
-            if let Some(version) = part.staged {
-                own[13] = 1;
-                own[14..18].copy_from_slice(&version.to_le_bytes());
+            if part.staged.is_none() {
+                let end = component_start(slot + 1);
+                out.push((PASSED_STAGED, component_start(slot) + component_at::STAGED_VERSION..end));
             }
         }
         out
     }
 
-    /// The record whose bytes these are, if they are one's.
-    pub fn read(bytes: &[u8]) -> Option<DeviceRecord> {
-        if bytes.len() != DEVICE_SIZE {
-            return None;
-        }
-        let session = match bytes[7] {
-            1 => Session::Offered { slot: bytes[8], token: bytes[9] },
-            2 => Session::Receiving { slot: bytes[8], token: bytes[9], next: two(&bytes[10..]) },
-            _ => Session::Idle,
-        };
-        let mut parts = [Part::default(); 7];
-        for (slot, part) in parts.iter_mut().enumerate() {
-            let own = &bytes[14 + 18 * slot..][..18];
-            *part = Part {
-                id: own[0],
-                running: four(&own[1..]),
-                base: four(&own[5..]),
-                length: four(&own[9..]),
-                staged: (own[13] == 1).then(|| four(&own[14..])),
-            };
-        }
-        let record = DeviceRecord {
-            platform: two(bytes),
-            staging: four(&bytes[2..]),
-            count: bytes[6],
-            session,
-            owed: (bytes[12] == 1).then_some(bytes[13]),
-            parts,
-        };
-        (record.bytes() == bytes).then_some(record)
-    }
-
     /// The listed components.
     pub fn listed(&self) -> &[Part] {
-        &self.parts[..(self.count as usize).min(7)]
+        &self.parts[..(self.count as usize).min(COMPONENT_LIMIT)]
+    }
+
+    /// The list that set-up makes its components from.
+    pub fn list(&self) -> [ListedPart; COMPONENT_LIMIT] {
+        self.parts.each_ref().map(Part::listed)
     }
 }
+
+/// Bytes that are passed over in a record, and what they are.
+pub type Passed = (&'static str, Range<usize>);
+
+/// What is passed over in a device's record.
+pub const PASSED_IDLE: &str = "passed over: slot, token and sequence while idle";
+pub const PASSED_OFFERED: &str = "passed over: the sequence while offered";
+pub const PASSED_OWED: &str = "passed over: a token where nothing is owed";
+pub const PASSED_STAGED: &str = "passed over: a staged version where nothing is staged";
 
 /// A component in the list that set-up takes.
 #[derive(Clone, Copy, Debug, Default, PartialEq, Eq)]
@@ -141,26 +478,85 @@ pub struct ListedPart {
     pub length: u32,
 }
 
-pub fn read_list(bytes: &[u8]) -> [ListedPart; 7] {
-    let mut list = [ListedPart::default(); 7];
-    for (slot, listed) in list.iter_mut().enumerate() {
-        let own = &bytes[13 * slot..][..13];
-        *listed = ListedPart { id: own[0], running: four(&own[1..]), base: four(&own[5..]), length: four(&own[9..]) };
+impl Part {
+    /// As set-up is told of it.
+    pub fn listed(&self) -> ListedPart {
+        ListedPart { id: self.id, running: self.running, base: self.base, length: self.length }
     }
-    list
+
+    fn bytes(&self) -> [u8; COMPONENT_SIZE] {
+        let mut out = [0; COMPONENT_SIZE];
+        put(&mut out, 0, &self.listed().bytes());
+        if let Some(version) = self.staged {
+            out[component_at::STAGED] = 1;
+            put(&mut out, component_at::STAGED_VERSION, &version.to_le_bytes());
+        }
+        out
+    }
+
+    fn read(bytes: &[u8]) -> Option<Part> {
+        let staged = match bytes[component_at::STAGED] {
+            0 => None,
+            1 => Some(four(&bytes[component_at::STAGED_VERSION..])),
+            _ => return None,
+        };
+        Some(Part { staged, ..ListedPart::read(bytes).part() })
+    }
 }
 
-pub fn list_bytes(list: &[ListedPart; 7]) -> [u8; LIST_SIZE] {
+impl ListedPart {
+    /// As set-up makes it: nothing is staged.
+    pub fn part(&self) -> Part {
+        Part { id: self.id, running: self.running, base: self.base, length: self.length, staged: None }
+    }
+
+    fn bytes(&self) -> [u8; LISTED_SIZE] {
+        let mut out = [0; LISTED_SIZE];
+        out[component_at::ID] = self.id;
+        put(&mut out, component_at::RUNNING, &self.running.to_le_bytes());
+        put(&mut out, component_at::BASE, &self.base.to_le_bytes());
+        put(&mut out, component_at::LENGTH, &self.length.to_le_bytes());
+        out
+    }
+
+    fn read(bytes: &[u8]) -> ListedPart {
+        ListedPart {
+            id: bytes[component_at::ID],
+            running: four(&bytes[component_at::RUNNING..]),
+            base: four(&bytes[component_at::BASE..]),
+            length: four(&bytes[component_at::LENGTH..]),
+        }
+    }
+}
+
+pub fn read_list(bytes: &[u8]) -> [ListedPart; COMPONENT_LIMIT] {
+    std::array::from_fn(|slot| ListedPart::read(&bytes[LISTED_SIZE * slot..]))
+}
+
+pub fn list_bytes(list: &[ListedPart; COMPONENT_LIMIT]) -> [u8; LIST_SIZE] {
     let mut out = [0; LIST_SIZE];
     for (slot, listed) in list.iter().enumerate() {
-        let own = &mut out[13 * slot..][..13];
-        own[0] = listed.id;
-        own[1..5].copy_from_slice(&listed.running.to_le_bytes());
-        own[5..9].copy_from_slice(&listed.base.to_le_bytes());
-        own[9..13].copy_from_slice(&listed.length.to_le_bytes());
+        put(&mut out, LISTED_SIZE * slot, &listed.bytes());
     }
     out
 }
+
+// ---------------------------------------------------------------- the host's record
+
+pub mod host_at {
+    pub const TOKEN: usize = 0;
+    pub const STAGE: usize = 1;
+    /// Two numbers (4 each) that the stage has.
+    pub const FIRST: usize = 2;
+    pub const SECOND: usize = 6;
+    pub const MASK: usize = 10;
+    pub const PACKETS: usize = 14;
+    pub const PASSES: usize = 18;
+    pub const SKIPPED: usize = 22;
+    pub const LANDED: usize = 23;
+}
+
+const _: () = assert!(host_at::LANDED + 1 == HOST_SIZE);
 
 /// What a host awaits, or how it ended: 0 done, 1 to 4 for H1 to H4.
 #[derive(Clone, Copy, Debug, Default, PartialEq, Eq)]
@@ -210,6 +606,7 @@ impl HostRecord {
         HostRecord { packets: u32::MAX, ..Default::default() }
     }
 
+    /// The whole record, zero where its stage has nothing: what every served call leaves.
     pub fn bytes(&self) -> [u8; HOST_SIZE] {
         let (code, first, second) = match self.stage {
             Stage::Fresh => (0, 0, 0),
@@ -222,25 +619,26 @@ impl HostRecord {
             Stage::Ended { end, status } => (7, end, status as u32),
         };
         let mut out = [0; HOST_SIZE];
-        out[0] = self.token;
-        out[1] = code;
-        out[2..6].copy_from_slice(&u32::to_le_bytes(first));
-        out[6..10].copy_from_slice(&u32::to_le_bytes(second));
-        out[10..14].copy_from_slice(&self.mask.to_le_bytes());
-        out[14..18].copy_from_slice(&self.packets.to_le_bytes());
-        out[18..22].copy_from_slice(&self.passes.to_le_bytes());
-        out[22] = self.skipped as u8;
-        out[23] = self.landed as u8;
+        out[host_at::TOKEN] = self.token;
+        out[host_at::STAGE] = code;
+        put(&mut out, host_at::FIRST, &u32::to_le_bytes(first));
+        put(&mut out, host_at::SECOND, &u32::to_le_bytes(second));
+        put(&mut out, host_at::MASK, &self.mask.to_le_bytes());
+        put(&mut out, host_at::PACKETS, &self.packets.to_le_bytes());
+        put(&mut out, host_at::PASSES, &self.passes.to_le_bytes());
+        out[host_at::SKIPPED] = self.skipped as u8;
+        out[host_at::LANDED] = self.landed as u8;
         out
     }
 
-    /// The record whose bytes these are, if they are one's.
+    /// The record in these bytes: none in bytes of another length, or with a stage, an end or one of the two flags that no record has. What the stage has
+    /// nothing for is passed over.
     pub fn read(bytes: &[u8]) -> Option<HostRecord> {
-        if bytes.len() != HOST_SIZE {
+        if bytes.len() != HOST_SIZE || bytes[host_at::SKIPPED] > 1 || bytes[host_at::LANDED] > 1 {
             return None;
         }
-        let (first, second) = (four(&bytes[2..]), four(&bytes[6..]));
-        let stage = match bytes[1] {
+        let (first, second) = (four(&bytes[host_at::FIRST..]), four(&bytes[host_at::SECOND..]));
+        let stage = match bytes[host_at::STAGE] {
             0 => Stage::Fresh,
             1 => Stage::Opening,
             2 => Stage::Listing,
@@ -248,21 +646,30 @@ impl HostRecord {
             4 => Stage::Waiting { entry: first, busy: second },
             5 => Stage::Sending { entry: first, block: second },
             6 => Stage::Closing,
-            // Only H1 has a status, and there are ends 0 to 4.
+            // Only H1 has a status, of one byte, and there are ends 0 to 4.
             7 if first == 1 => Stage::Ended { end: 1, status: second as u8 },
             7 if first <= 4 => Stage::Ended { end: first, status: 0 },
             _ => return None,
         };
-        let record = HostRecord {
-            token: bytes[0],
+        Some(HostRecord {
+            token: bytes[host_at::TOKEN],
             stage,
-            mask: four(&bytes[10..]),
-            packets: four(&bytes[14..]),
-            passes: four(&bytes[18..]),
-            skipped: bytes[22] == 1,
-            landed: bytes[23] == 1,
-        };
-        (record.bytes() == bytes).then_some(record)
+            mask: four(&bytes[host_at::MASK..]),
+            packets: four(&bytes[host_at::PACKETS..]),
+            passes: four(&bytes[host_at::PASSES..]),
+            skipped: bytes[host_at::SKIPPED] == 1,
+            landed: bytes[host_at::LANDED] == 1,
+        })
+    }
+
+    /// The bytes that are passed over in this record.
+    pub fn passed_over(&self) -> Vec<Passed> {
+        match self.stage {
+            Stage::Offering { .. } | Stage::Waiting { .. } | Stage::Sending { .. } => Vec::new(),
+            Stage::Ended { end: 1, .. } => vec![(PASSED_STATUS, host_at::SECOND + 1..host_at::MASK)],
+            Stage::Ended { .. } => vec![(PASSED_END, host_at::SECOND..host_at::MASK)],
+            Stage::Fresh | Stage::Opening | Stage::Listing | Stage::Closing => vec![(PASSED_STAGE, host_at::FIRST..host_at::MASK)],
+        }
     }
 
     /// How far it is, as cfu_report.ending and cfu_report.status tell it.
@@ -275,6 +682,11 @@ impl HostRecord {
     }
 }
 
+/// What is passed over in a host's record.
+pub const PASSED_STAGE: &str = "passed over: the numbers of a stage that has none";
+pub const PASSED_END: &str = "passed over: a status where the end has none";
+pub const PASSED_STATUS: &str = "passed over: all but the low byte of a status";
+
 /// A report's number: a record that counts 2^31 packets or more is N1 over every bundle, and its fields are told all the same.
 pub fn report_number(packets: u32) -> u32 {
     if packets < 1 << 31 {
@@ -284,7 +696,28 @@ pub fn report_number(packets: u32) -> u32 {
     }
 }
 
-/// A body in the contents of a checked bundle.
+// ---------------------------------------------------------------- the contents of a checked bundle
+
+pub mod contents_at {
+    pub const ROW: usize = 0;
+    pub const PLACE: usize = 1;
+    pub const COUNT: usize = 2;
+    pub const BODIES: usize = 3;
+    /// The block that the cursor is kept for.
+    pub const ENTRY: usize = 87;
+    pub const BLOCK: usize = 91;
+    pub const CURSOR: usize = 95;
+}
+
+/// A body: its offset, its length and how many records it has (4 each).
+pub const BODY_SIZE: usize = 12;
+
+/// The last row that refuses a bundle.
+pub const BUNDLE_ROWS: u8 = (B8 - B1) as u8 + 1;
+
+const _: () = assert!(contents_at::BODIES + OFFER_LIMIT * BODY_SIZE == contents_at::ENTRY && contents_at::CURSOR + 8 == CONTENTS_SIZE);
+
+/// A body in the contents.
 #[derive(Clone, Copy, Debug, Default, PartialEq, Eq)]
 pub struct Body {
     pub offset: u32,
@@ -292,17 +725,13 @@ pub struct Body {
     pub records: u32,
 }
 
-/// Where the bodies start in contents, and where the block stands whose cursor is kept.
-const BODIES: usize = 3;
-const HAND: usize = BODIES + 7 * 12;
-
 /// The contents of a checked bundle: the row that refuses it and its entry, the count, the bodies, and the block in hand with the cursor behind it.
 #[derive(Clone, Copy, Debug, PartialEq, Eq)]
 pub struct Contents {
     pub row: u8,
     pub place: u8,
     pub count: u8,
-    pub bodies: [Body; 7],
+    pub bodies: [Body; OFFER_LIMIT],
     pub entry: u32,
     pub block: u32,
     pub cursor: u64,
@@ -311,64 +740,68 @@ pub struct Contents {
 impl Default for Contents {
     /// No bundle, and no block in hand.
     fn default() -> Contents {
-        Contents { row: 0, place: 0, count: 0, bodies: [Body::default(); 7], entry: u32::MAX, block: u32::MAX, cursor: 0 }
+        Contents { row: 0, place: 0, count: 0, bodies: [Body::default(); OFFER_LIMIT], entry: u32::MAX, block: u32::MAX, cursor: 0 }
     }
 }
 
 impl Contents {
     pub fn bytes(&self) -> [u8; CONTENTS_SIZE] {
         let mut out = [0; CONTENTS_SIZE];
-        out[..3].copy_from_slice(&[self.row, self.place, self.count]);
+        out[contents_at::ROW] = self.row;
+        out[contents_at::PLACE] = self.place;
+        out[contents_at::COUNT] = self.count;
         for (entry, body) in self.bodies.iter().enumerate() {
-            let own = &mut out[BODIES + 12 * entry..][..12];
-            own[0..4].copy_from_slice(&body.offset.to_le_bytes());
-            own[4..8].copy_from_slice(&body.length.to_le_bytes());
-            own[8..12].copy_from_slice(&body.records.to_le_bytes());
+            let own = &mut out[contents_at::BODIES + BODY_SIZE * entry..][..BODY_SIZE];
+            put(own, 0, &body.offset.to_le_bytes());
+            put(own, 4, &body.length.to_le_bytes());
+            put(own, 8, &body.records.to_le_bytes());
         }
-        out[HAND..][..4].copy_from_slice(&self.entry.to_le_bytes());
-        out[HAND + 4..][..4].copy_from_slice(&self.block.to_le_bytes());
-        out[HAND + 8..].copy_from_slice(&self.cursor.to_le_bytes());
+        put(&mut out, contents_at::ENTRY, &self.entry.to_le_bytes());
+        put(&mut out, contents_at::BLOCK, &self.block.to_le_bytes());
+        put(&mut out, contents_at::CURSOR, &self.cursor.to_le_bytes());
         out
     }
 
     /// The contents in these bytes; none in bytes that no check leaves.
     pub fn read(bytes: &[u8]) -> Option<Contents> {
-        if bytes.len() != CONTENTS_SIZE || bytes[0] > 8 || (bytes[0] == 0 && !(1..=7).contains(&bytes[2])) {
+        if bytes.len() != CONTENTS_SIZE {
             return None;
         }
-        let mut bodies = [Body::default(); 7];
-        for (entry, body) in bodies.iter_mut().enumerate() {
-            let own = &bytes[BODIES + 12 * entry..][..12];
-            *body = Body { offset: four(own), length: four(&own[4..]), records: four(&own[8..]) };
+        let (row, count) = (bytes[contents_at::ROW], bytes[contents_at::COUNT]);
+        if row > BUNDLE_ROWS || (row == 0 && !(1..=OFFER_LIMIT as u8).contains(&count)) {
+            return None;
         }
-        let (entry, block) = (four(&bytes[HAND..]), four(&bytes[HAND + 4..]));
-        Some(Contents { row: bytes[0], place: bytes[1], count: bytes[2], bodies, entry, block, cursor: number(&bytes[HAND + 8..]) })
+        let bodies = std::array::from_fn(|entry| {
+            let own = &bytes[contents_at::BODIES + BODY_SIZE * entry..][..BODY_SIZE];
+            Body { offset: four(own), length: four(&own[4..]), records: four(&own[8..]) }
+        });
+        let (entry, block) = (four(&bytes[contents_at::ENTRY..]), four(&bytes[contents_at::BLOCK..]));
+        Some(Contents { row, place: bytes[contents_at::PLACE], count, bodies, entry, block, cursor: number(&bytes[contents_at::CURSOR..]) })
     }
 }
 
-/// The components of a version reply: running version, id, platform.
-pub fn read_components(bytes: &[u8]) -> [(u32, u8, u16); 7] {
-    let mut out = [(0, 0, 0); 7];
-    for (slot, component) in out.iter_mut().enumerate() {
-        let own = &bytes[7 * slot..][..7];
-        *component = (four(own), own[4], two(&own[5..]));
-    }
-    out
+// ---------------------------------------------------------------- the components of a version reply
+
+/// A component as it is lent: running version (4), id (1), platform (2).
+pub const RUNNING_SIZE: usize = 7;
+
+const _: () = assert!(COMPONENT_LIMIT * RUNNING_SIZE == COMPONENTS_SIZE);
+
+/// Running version, id, platform of each.
+pub fn read_components(bytes: &[u8]) -> [(u32, u8, u16); COMPONENT_LIMIT] {
+    std::array::from_fn(|slot| {
+        let own = &bytes[RUNNING_SIZE * slot..][..RUNNING_SIZE];
+        (four(own), own[4], two(&own[5..]))
+    })
 }
 
-pub fn components_bytes(components: &[(u32, u8, u16); 7]) -> [u8; COMPONENTS_SIZE] {
+pub fn components_bytes(components: &[(u32, u8, u16); COMPONENT_LIMIT]) -> [u8; COMPONENTS_SIZE] {
     let mut out = [0; COMPONENTS_SIZE];
     for (slot, (version, id, platform)) in components.iter().enumerate() {
-        let own = &mut out[7 * slot..][..7];
-        own[0..4].copy_from_slice(&version.to_le_bytes());
+        let own = &mut out[RUNNING_SIZE * slot..][..RUNNING_SIZE];
+        put(own, 0, &version.to_le_bytes());
         own[4] = *id;
-        own[5..7].copy_from_slice(&platform.to_le_bytes());
+        put(own, 5, &platform.to_le_bytes());
     }
     out
-}
-
-/// A version's three parts.
-pub fn parts_of(version: u32) -> Version {
-    let bytes = version.to_le_bytes();
-    Version { major: bytes[3], minor: u16::from_le_bytes([bytes[1], bytes[2]]), variant: bytes[0] }
 }

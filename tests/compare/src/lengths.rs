@@ -56,7 +56,7 @@ pub fn make(r: &mut Random) -> Case {
     let record = valid_device(r);
     let device = record.bytes();
     let staging = vec![0x11; record.staging as usize];
-    let list = list_bytes(&record.parts.map(|part| ListedPart { id: part.id, running: part.running, base: part.base, length: part.length }));
+    let list = list_bytes(&record.list());
     let laid = bundle(&any_entries(r, 2));
     let mut contents = [0; CONTENTS_SIZE];
     Made.check(&laid, &mut contents);
@@ -72,8 +72,8 @@ pub fn make(r: &mut Random) -> Case {
         4 => vec![perhaps(r, &device)],
         5 => vec![laid, perhaps(r, &contents)],
         6 => vec![perhaps(r, &host)],
-        7 => vec![perhaps(r, &host), laid, r.bytes(16), perhaps(r, &long)],
-        8 => vec![perhaps(r, &host), perhaps(r, &contents), laid, r.bytes(16), perhaps(r, &long)],
+        7 => vec![perhaps(r, &host), laid, r.bytes(SHORT_SIZE), perhaps(r, &long)],
+        8 => vec![perhaps(r, &host), perhaps(r, &contents), laid, r.bytes(SHORT_SIZE), perhaps(r, &long)],
         9 => vec![perhaps(r, &host)],
         10 => vec![perhaps(r, &[7; COMPONENTS_SIZE]), perhaps(r, &long)],
         11..=14 | 16 => vec![perhaps(r, &short)],
@@ -82,7 +82,7 @@ pub fn make(r: &mut Random) -> Case {
         _ => vec![r.bytes(LONG_SIZE), perhaps(r, &[0x5A; DATA_SIZE])],
     };
     if function == 17 {
-        buffers[0][..4].copy_from_slice(&[3, 0, 0, 2]);
+        put(&mut buffers[0], version_reply_at::COUNT, &[3, 0, 0, PROTOCOL]);
     }
     Case::aimed("").number("call", function as u64).number("count", record.count as u64).list("buffers", buffers)
 }

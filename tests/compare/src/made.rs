@@ -1,32 +1,33 @@
 //! The crate that tools/rust_crate makes from the proved source. Rows C1 to C3 and bytes that are no record are judged here, as include/cfu.h says.
 
 use cfu_updater::bundle;
-use cfu_updater::bundle_layout::{self, BundleVerdict, Checked};
-use cfu_updater::device_component::record::{Component, Listed, Staged};
-use cfu_updater::device_component::setup::SetupVerdict;
-use cfu_updater::wire_content::content::{build_content, read_content, ContentFields};
-use cfu_updater::wire_content::reply::{build_content_reply, read_content_reply, ContentReply as MadeContentReply};
+use cfu_updater::bundle_layout::{self, verdict_of, BundleVerdict, Checked};
 use cfu_updater::device::answer::{Answer, Refusal};
 use cfu_updater::device::record::Device;
+use cfu_updater::device::setup::set_up;
+use cfu_updater::device_component::record::{Component, Fixed, Listed, Staged};
+use cfu_updater::device_component::setup::SetupVerdict;
+use cfu_updater::device_session::effect::Session as DeviceSession;
 use cfu_updater::device_session::owed::Owed;
 use cfu_updater::device_session::stage::{Offered, Receiving, Stage as DeviceStage};
-use cfu_updater::device::setup::set_up;
-use cfu_updater::host_record::fits::{body_at, in_hand};
-use cfu_updater::host_record::report::Progress;
-use cfu_updater::host_packet::answer::{Sent, StepAnswer, StepRefusal};
 use cfu_updater::host::inner::inner_step;
 use cfu_updater::host::step::{cursor_for, step};
+use cfu_updater::host_packet::answer::{Sent, StepRefusal};
+use cfu_updater::host_record::fits::{in_hand, Body as HandBody};
 use cfu_updater::host_record::record::{End, Host, HostStage, Place, Turn};
+use cfu_updater::host_record::report::Progress;
 use cfu_updater::image::region::{Region, StagingOffset};
+use cfu_updater::wire::address::RegionAddress;
+use cfu_updater::wire::codes;
+use cfu_updater::wire::verdict::Verdict;
+use cfu_updater::wire::version::Version as MadeVersion;
+use cfu_updater::wire_content::content::{build_content, read_content, ContentFields};
+use cfu_updater::wire_content::reply::{build_content_reply, read_content_reply, ContentReply as MadeContentReply};
 use cfu_updater::wire_offer::kind::{read_offer_packet, OfferPacket as MadeOfferPacket};
 use cfu_updater::wire_offer::offer::{build_offer, OfferFields};
 use cfu_updater::wire_offer::reply::{build_offer_reply, read_offer_reply, OfferReply as MadeOfferReply};
 use cfu_updater::wire_offer::signal::{build_extended, build_information, Signal as MadeSignal};
 use cfu_updater::wire_version::{build_version_reply, read_version_reply, Running, VersionReply as MadeVersionReply};
-use cfu_updater::wire::address::RegionAddress;
-use cfu_updater::wire::codes;
-use cfu_updater::wire::verdict::Verdict;
-use cfu_updater::wire::version::Version as MadeVersion;
 
 use crate::calls::Calls;
 use crate::header::*;
@@ -39,39 +40,40 @@ fn version(number: u32) -> MadeVersion {
     MadeVersion::read(bytes[0], bytes[1], bytes[2], bytes[3])
 }
 
-fn region(base: u32, length: u32) -> Region {
-    Region { base: StagingOffset::new(base), len: length }
+fn fixed(id: u8, base: u32, length: u32) -> Fixed {
+    Fixed { id, region: Region { base: StagingOffset::new(base), len: length } }
 }
 
 /// The crate's device of a record.
 pub fn device_of(record: &DeviceRecord) -> Device {
     let part = |part: &Part| Component {
-        id: part.id,
+        fixed: fixed(part.id, part.base, part.length),
         running: version(part.running),
-        region: region(part.base, part.length),
         staged: part.staged.map_or(Staged::Nothing, |staged| Staged::Pending(version(staged))),
     };
     Device {
         platform: record.platform,
         staging_len: record.staging,
         count: record.count,
-        parts: record.parts.each_ref().map(part),
-        stage: match record.session {
-            Session::Idle => DeviceStage::Idle,
-            Session::Offered { slot, token } => DeviceStage::Offered(Offered { slot, token }),
-            Session::Receiving { slot, token, next } => DeviceStage::Receiving(Receiving { slot, token, next }),
+        components: record.parts.each_ref().map(part),
+        session: DeviceSession {
+            stage: match record.session {
+                Session::Idle => DeviceStage::Idle,
+                Session::Offered { slot, token } => DeviceStage::Offered(Offered { slot, token }),
+                Session::Receiving { slot, token, next } => DeviceStage::Receiving(Receiving { slot, token, next }),
+            },
+            owed: record.owed.map_or(Owed::Nothing, Owed::Token),
         },
-        owed: record.owed.map_or(Owed::Nothing, Owed::Token),
     }
 }
 
 /// The record of the crate's device.
 pub fn record_of(device: &Device) -> DeviceRecord {
     let part = |part: &Component| Part {
-        id: part.id,
+        id: part.fixed.id,
         running: part.running.number(),
-        base: part.region.base.number(),
-        length: part.region.len,
+        base: part.fixed.region.base.number(),
+        length: part.fixed.region.len,
         staged: match part.staged {
             Staged::Nothing => None,
             Staged::Pending(staged) => Some(staged.number()),
@@ -81,20 +83,25 @@ pub fn record_of(device: &Device) -> DeviceRecord {
         platform: device.platform,
         staging: device.staging_len,
         count: device.count,
-        session: match device.stage {
+        session: match device.session.stage {
             DeviceStage::Idle => Session::Idle,
             DeviceStage::Offered(Offered { slot, token }) => Session::Offered { slot, token },
             DeviceStage::Receiving(Receiving { slot, token, next }) => Session::Receiving { slot, token, next },
         },
-        owed: match device.owed {
+        owed: match device.session.owed {
             Owed::Nothing => None,
             Owed::Token(token) => Some(token),
         },
-        parts: device.parts.each_ref().map(part),
+        parts: device.components.each_ref().map(part),
     }
 }
 
-/// The device whose bytes these are; bytes that are no record's stand for the blank one, which every entry refuses.
+/// A component as the crate's set-up is told of it.
+fn listed_of(part: &ListedPart) -> Listed {
+    Listed { fixed: fixed(part.id, part.base, part.length), running: version(part.running) }
+}
+
+/// The device in these bytes; bytes that are no record stand for the blank one, which every entry refuses.
 fn read_device(bytes: &[u8]) -> Device {
     device_of(&DeviceRecord::read(bytes).unwrap_or_default())
 }
@@ -108,23 +115,30 @@ fn device_number(refusal: Refusal) -> u32 {
     }
 }
 
-fn replied(answer: Answer, device: &mut [u8], replies: &mut [u8]) -> Replies {
-    let number = device_number(answer.refusal);
-    replies.fill(0);
+/// An answer of the crate as a call of include/cfu.h tells it, the replies that are due, and the record.
+pub fn told(answer: &Answer) -> (Replies, [u8; REPLIES_SIZE], DeviceRecord) {
+    let mut replies = [0; REPLIES_SIZE];
     let mut count = 0;
-    if answer.due {
-        replies[..16].copy_from_slice(&answer.reply);
+    if answer.replies.due {
+        put(&mut replies, 0, &answer.replies.reply);
         count = 1;
     }
-    if let Owed::Token(token) = answer.ready {
+    if let Owed::Token(token) = answer.replies.ready {
         let ready = build_offer_reply(MadeOfferReply { token, reason: 0, status: codes::OFFER_READY });
-        replies[16 * count as usize..][..16].copy_from_slice(&ready);
+        put(&mut replies, SHORT_SIZE * count as usize, &ready);
         count += 1;
     }
-    if number == SERVED {
-        device.copy_from_slice(&record_of(&answer.device).bytes());
+    (Replies { number: device_number(answer.refusal), count }, replies, record_of(&answer.device))
+}
+
+/// What an answer leaves; `leave` says what of the record a served call writes.
+fn replied(answer: Answer, device: &mut [u8], replies: &mut [u8], leave: fn(&DeviceRecord, &mut [u8])) -> Replies {
+    let (told, packets, record) = told(&answer);
+    replies.copy_from_slice(&packets);
+    if told.number == SERVED {
+        leave(&record, device);
     }
-    Replies { number, count }
+    told
 }
 
 pub fn bundle_number(verdict: BundleVerdict) -> u32 {
@@ -199,55 +213,37 @@ fn read_host(bytes: &[u8]) -> Host {
 
 /// The contents of the crate's answer to a check.
 fn contents_of(checked: &Checked) -> Contents {
-    let body = |entry: &layout::Entry| Body { offset: entry.offset, length: entry.length, records: entry.records };
-    let row = bundle_layout::row_number(checked.verdict);
-    Contents { row, place: checked.place, count: checked.count, bodies: checked.table.each_ref().map(body), ..Contents::default() }
+    let body = |entry: &bundle_layout::Entry| Body { offset: entry.offset, length: entry.length, records: entry.records };
+    Contents {
+        row: checked.verdict.number(),
+        place: checked.place,
+        count: checked.count,
+        bodies: checked.table.each_ref().map(body),
+        ..Contents::default()
+    }
 }
 
-/// The crate's answer to a check that such contents come from; the offers are read from the bundle and never from here.
-pub fn checked_of(contents: &Contents) -> Checked {
-    let offer = OfferFields {
-        segment: 0,
-        force_immediate_reset: false,
-        force_ignore_version: false,
-        id: 0,
-        token: 0,
-        version: version(0),
-        need: 0,
-        least: 0,
-        protocol: 0,
-        platform: 0,
-    };
-    let entry = |body: &Body| layout::Entry { offer, offset: body.offset, length: body.length, records: body.records };
-    let verdict = match contents.row {
-        0 => BundleVerdict::Fine,
-        1 => BundleVerdict::B1,
-        2 => BundleVerdict::B2,
-        3 => BundleVerdict::B3,
-        4 => BundleVerdict::B4,
-        5 => BundleVerdict::B5,
-        6 => BundleVerdict::B6,
-        7 => BundleVerdict::B7,
-        _ => BundleVerdict::B8,
-    };
-    Checked { verdict, place: contents.place, count: contents.count, table: contents.bodies.each_ref().map(entry) }
+/// The body of an entry of the contents, as the inner step takes it; past the table it is empty.
+fn body_in(contents: &Contents, entry: u32) -> HandBody {
+    let body = contents.bodies.get(entry as usize).copied().unwrap_or_default();
+    HandBody { start: body.offset as usize, end: body.offset as u64 + body.length as u64, records: body.records }
 }
 
-fn stepped(answer: StepAnswer, host: &mut [u8], packet: &mut [u8]) -> Step {
-    packet.copy_from_slice(&answer.packet);
-    let (number, entry) = match answer.refusal {
+/// What a step answers; the next record is left where no row refuses.
+fn stepped(refusal: StepRefusal, sent: Sent, next: &Host, host: &mut [u8]) -> Step {
+    let (number, entry) = match refusal {
         StepRefusal::Served => (SERVED, 0),
         StepRefusal::Bundle { verdict, place } => (bundle_number(verdict), place as u32),
         StepRefusal::N1 => (N1, 0),
     };
     if number == SERVED {
-        host.copy_from_slice(&host_record(&answer.host).bytes());
+        host.copy_from_slice(&host_record(next).bytes());
     }
-    let length = match answer.sent {
+    let length = match sent {
         Sent::Nothing => 0,
-        Sent::Offer => 16,
-        Sent::Content => 60,
-    };
+        Sent::Offer => SHORT_SIZE,
+        Sent::Content => LONG_SIZE,
+    } as u32;
     Step { number, entry, length }
 }
 
@@ -275,7 +271,7 @@ impl Calls for Made {
         if list.len() != LIST_SIZE {
             return C2;
         }
-        let listed = read_list(list).map(|l| Listed { id: l.id, running: version(l.running), region: region(l.base, l.length) });
+        let listed = read_list(list).each_ref().map(listed_of);
         let answer = set_up(platform, listed, count, staging);
         match answer.verdict {
             SetupVerdict::Fine => {
@@ -309,7 +305,7 @@ impl Calls for Made {
             return Replies { number: C3, count: 0 };
         }
         let answer = read_device(device).offer(staging, report);
-        replied(answer, device, replies)
+        replied(answer, device, replies, DeviceRecord::leave_offered)
     }
 
     fn content(&self, device: &mut [u8], staging: &mut [u8], report: &[u8], replies: &mut [u8]) -> Replies {
@@ -320,7 +316,7 @@ impl Calls for Made {
             return Replies { number: C3, count: 0 };
         }
         let answer = read_device(device).content(staging, report);
-        replied(answer, device, replies)
+        replied(answer, device, replies, DeviceRecord::leave_received)
     }
 
     fn reset(&self, device: &mut [u8]) -> u32 {
@@ -359,7 +355,9 @@ impl Calls for Made {
         if packet.len() != LONG_SIZE {
             return Step { number: C3, entry: 0, length: 0 };
         }
-        stepped(step(read_host(host), bundle, reply), host, packet)
+        let answer = step(read_host(host), bundle, reply);
+        packet.copy_from_slice(&answer.packet);
+        stepped(answer.refusal, answer.sent, &answer.host, host)
     }
 
     fn step_checked(&self, host: &mut [u8], contents: &mut [u8], bundle: &[u8], reply: &[u8], packet: &mut [u8]) -> Step {
@@ -370,17 +368,18 @@ impl Calls for Made {
         if packet.len() != LONG_SIZE {
             return Step { number: C3, entry: 0, length: 0 };
         }
-        let (known, checked) = (read_host(host), checked_of(&kept));
+        let known = read_host(host);
+        let hand = body_in(&kept, in_hand(known.stage));
         // The kept cursor is the record's own, or it is found by a walk over the body in hand.
         let cursor = match known.stage {
             HostStage::Sending(p) if (p.entry, p.block) == (kept.entry, kept.block) => kept.cursor as usize,
-            stage => cursor_for(bundle, body_at(checked.table, in_hand(stage)), stage),
+            stage => cursor_for(bundle, hand, stage),
         };
-        let answer = inner_step(checked, cursor, known, bundle, reply);
-        if let (StepRefusal::Served, HostStage::Sending(p)) = (answer.step.refusal, answer.step.host.stage) {
+        let answer = inner_step(packet, verdict_of(kept.row), kept.place, kept.count, hand, cursor, known, bundle, reply);
+        if let (StepRefusal::Served, HostStage::Sending(p)) = (answer.refusal, answer.host.stage) {
             contents.copy_from_slice(&Contents { entry: p.entry, block: p.block, cursor: answer.cursor as u64, ..kept }.bytes());
         }
-        stepped(answer.step, host, packet)
+        stepped(answer.refusal, answer.sent, &answer.host, host)
     }
 
     fn report(&self, host: &[u8]) -> Report {
@@ -396,7 +395,15 @@ impl Calls for Made {
             Progress::Ended(End::Unexpected) => (H3, 0),
             Progress::Ended(End::Busy) => (H4, 0),
         };
-        Report { number: report_number(told.packets), completed: told.completed, mask: told.mask, packets: told.packets, passes: told.passes, ending, status }
+        Report {
+            number: report_number(told.packets),
+            completed: told.completed,
+            mask: told.mask,
+            packets: told.packets,
+            passes: told.passes,
+            ending,
+            status,
+        }
     }
 
     fn build_version_reply(&self, count: u8, protocol: u8, components: &[u8], packet: &mut [u8]) -> u32 {
@@ -498,7 +505,7 @@ impl Calls for Made {
         match read_offer_packet(packet) {
             MadeOfferPacket::Refused => OfferPacket { number: P1, ..none },
             MadeOfferPacket::Offer(o) => OfferPacket {
-                kind: 1,
+                kind: KIND_OFFER,
                 offer: Offer {
                     segment: o.segment,
                     force_immediate_reset: o.force_immediate_reset as u8,
@@ -513,8 +520,8 @@ impl Calls for Made {
                 },
                 ..none
             },
-            MadeOfferPacket::Information(s) => OfferPacket { kind: 2, signal: Signal { code: s.code, token: s.token }, ..none },
-            MadeOfferPacket::Extended(s) => OfferPacket { kind: 3, signal: Signal { code: s.code, token: s.token }, ..none },
+            MadeOfferPacket::Information(s) => OfferPacket { kind: KIND_INFORMATION, signal: Signal { code: s.code, token: s.token }, ..none },
+            MadeOfferPacket::Extended(s) => OfferPacket { kind: KIND_EXTENDED, signal: Signal { code: s.code, token: s.token }, ..none },
         }
     }
 

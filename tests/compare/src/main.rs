@@ -151,8 +151,8 @@ fn one_kind(place: usize, options: &Options, tally: &mut Tally) -> Result<(), St
 
 /// What was not met although it has to be.
 fn unmet(tally: &Tally) -> Vec<&'static str> {
-    let all = REQUIRED.iter().chain(&devices::BROKEN).chain(&devices::SETUP).chain(&devices::LENGTHS);
-    let all = all.chain(&hosts::BROKEN).chain(&runs::RUNS);
+    let all = REQUIRED.iter().chain(&devices::BROKEN).chain(&devices::PASSED).chain(&devices::LEFT).chain(&devices::SETUP).chain(&devices::LENGTHS);
+    let all = all.chain(&hosts::BROKEN).chain(&hosts::PASSED).chain(&runs::RUNS);
     all.copied().chain(lengths::required()).filter(|name| tally.of(name) == 0).collect()
 }
 

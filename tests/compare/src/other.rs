@@ -96,26 +96,27 @@ fn number_of(refused: Option<Refusal>) -> u32 {
     refused.map_or(SERVED, row_number)
 }
 
-fn replied(next: Device, answer: Answer, device: &mut [u8], replies: &mut [u8]) -> Replies {
+/// What an answer leaves; `leave` says what of the record a served call writes.
+fn replied((next, answer): (Device, Answer), device: &mut [u8], replies: &mut [u8], leave: fn(&DeviceRecord, &mut [u8])) -> Replies {
     replies.fill(0);
     let (number, count) = match answer {
         Answer::Refused(row, reply) => {
-            replies[..16].copy_from_slice(&reply);
+            put(replies, 0, &reply);
             (row_number(row), 0)
         }
         Answer::NoReply => (SERVED, 0),
         Answer::Reply(reply) => {
-            replies[..16].copy_from_slice(&reply);
+            put(replies, 0, &reply);
             (SERVED, 1)
         }
         Answer::ReplyThenReady(reply, ready) => {
-            replies[..16].copy_from_slice(&reply);
-            replies[16..].copy_from_slice(&ready);
+            put(replies, 0, &reply);
+            put(replies, SHORT_SIZE, &ready);
             (SERVED, 2)
         }
     };
     if number == SERVED {
-        device.copy_from_slice(&record_of(&next).bytes());
+        leave(&record_of(&next), device);
     }
     Replies { number, count }
 }
@@ -182,14 +183,14 @@ fn stepped(answer: Stepped, host: &mut [u8], packet: &mut [u8]) -> Step {
     let length = match answer.packet {
         None => 0,
         Some(Packet::ForOffer(bytes)) => {
-            packet[..16].copy_from_slice(&bytes);
-            16
+            put(packet, 0, &bytes);
+            bytes.len()
         }
         Some(Packet::ForContent(bytes)) => {
-            packet.copy_from_slice(&bytes);
-            60
+            put(packet, 0, &bytes);
+            bytes.len()
         }
-    };
+    } as u32;
     match answer.refused {
         Some(Fault { row, entry }) => Step { number: row_number(row), entry: entry as u32, length },
         None => {
@@ -202,7 +203,7 @@ fn stepped(answer: Stepped, host: &mut [u8], packet: &mut [u8]) -> Step {
 /// The place after a record of a body.
 fn place_after(bundle: &Bundle, entry: usize, record: usize) -> u64 {
     let entry = &bundle.entries[entry];
-    let passed: usize = entry.records[..=record].iter().map(|record| 5 + record.data.len()).sum();
+    let passed: usize = entry.records[..=record].iter().map(|record| record_at::DATA + record.data.len()).sum();
     entry.offset as u64 + passed as u64
 }
 
@@ -228,9 +229,8 @@ impl Calls for Other {
         if answer.refused.is_none() {
             let mut record = record_of(&answer.value);
             // Document 01 leaves the slots past the count free; the library fills them from the list.
-            for slot in count as usize..7 {
-                let l = list[slot];
-                record.parts[slot] = Part { id: l.id, running: l.running, base: l.base, length: l.length, staged: None };
+            for slot in count as usize..COMPONENT_LIMIT {
+                record.parts[slot] = list[slot].part();
             }
             device.copy_from_slice(&record.bytes());
         }
@@ -256,8 +256,8 @@ impl Calls for Other {
         if replies.len() != REPLIES_SIZE {
             return Replies { number: C3, count: 0 };
         }
-        let (next, answer) = read_device(device).offer(staging, report);
-        replied(next, answer, device, replies)
+        let answer = read_device(device).offer(staging, report);
+        replied(answer, device, replies, DeviceRecord::leave_offered)
     }
 
     fn content(&self, device: &mut [u8], staging: &mut [u8], report: &[u8], replies: &mut [u8]) -> Replies {
@@ -267,8 +267,8 @@ impl Calls for Other {
         if replies.len() != REPLIES_SIZE {
             return Replies { number: C3, count: 0 };
         }
-        let (next, answer) = read_device(device).content(staging, report);
-        replied(next, answer, device, replies)
+        let answer = read_device(device).content(staging, report);
+        replied(answer, device, replies, DeviceRecord::leave_received)
     }
 
     fn reset(&self, device: &mut [u8]) -> u32 {
@@ -353,7 +353,15 @@ impl Calls for Other {
             Some(End::H3) => (H3, 0),
             Some(End::H4) => (H4, 0),
         };
-        Report { number: report_number(told.packets), completed: told.completed, mask: host.mask, packets: told.packets, passes: told.passes, ending, status }
+        Report {
+            number: report_number(told.packets),
+            completed: told.completed,
+            mask: host.mask,
+            packets: told.packets,
+            passes: told.passes,
+            ending,
+            status,
+        }
     }
 
     fn build_version_reply(&self, count: u8, protocol: u8, components: &[u8], packet: &mut [u8]) -> u32 {
@@ -454,14 +462,14 @@ impl Calls for Other {
     fn read_offer(&self, packet: &[u8]) -> OfferPacket {
         let none = OfferPacket::default();
         // A packet of another length has no byte that decides its kind: every reader answers P1.
-        let byte_2 = if packet.len() == SHORT_SIZE { packet[2] } else { 0 };
+        let byte_2 = if packet.len() == SHORT_SIZE { packet[signal_at::KIND] } else { 0 };
         match packets::kind_of(byte_2) {
             packets::OfferKind::Offer => {
                 let read = packets::read_offer(packet);
                 let o = read.value;
                 OfferPacket {
                     number: number_of(read.refused),
-                    kind: read.refused.is_none() as u32,
+                    kind: if read.refused.is_none() { KIND_OFFER } else { KIND_NONE },
                     offer: Offer {
                         segment: o.segment,
                         force_immediate_reset: o.immediate_reset as u8,
@@ -479,11 +487,11 @@ impl Calls for Other {
             }
             packets::OfferKind::Information => {
                 let read = packets::read_information(packet).value;
-                OfferPacket { kind: 2, signal: Signal { code: read.code, token: read.token }, ..none }
+                OfferPacket { kind: KIND_INFORMATION, signal: Signal { code: read.code, token: read.token }, ..none }
             }
             packets::OfferKind::Extended => {
                 let read = packets::read_extended(packet).value;
-                OfferPacket { kind: 3, signal: Signal { code: read.code, token: read.token }, ..none }
+                OfferPacket { kind: KIND_EXTENDED, signal: Signal { code: read.code, token: read.token }, ..none }
             }
         }
     }

@@ -38,8 +38,8 @@ pub fn make_build(r: &mut Random) -> Case {
         _ => 0,
     };
     match r.below(40) {
-        0 => size = r.pick(&[0, 15, 17, 59, 61, 76 - size]),
-        1 => bytes = r.pick(&[0, 48, 50, 51, 53]),
+        0 => size = r.pick(&[0, SHORT_SIZE - 1, SHORT_SIZE + 1, LONG_SIZE - 1, LONG_SIZE + 1, SHORT_SIZE + LONG_SIZE - size]),
+        1 => bytes = r.pick(&[0, COMPONENTS_SIZE - 1, COMPONENTS_SIZE + 1, DATA_SIZE - 1, DATA_SIZE + 1]),
         _ => {}
     }
     Case::aimed("")
@@ -105,7 +105,7 @@ fn offer_in(case: &Case) -> Offer {
         force_ignore_version: byte("flag V"),
         id: byte("id"),
         token: byte("token"),
-        version: parts_of(case.number_at("version") as u32),
+        version: Version::of(case.number_at("version") as u32),
         need: byte("need"),
         least: case.number_at("least") as u32,
         protocol: byte("protocol"),
@@ -115,17 +115,21 @@ fn offer_in(case: &Case) -> Offer {
 
 pub fn make_read(r: &mut Random) -> Case {
     let kind = r.below(KINDS) as u64;
-    let length = if r.percent(90) { size_of(kind) } else { r.pick(&[0, 1, 15, 16, 17, 59, 60, 61]) };
+    let length = if r.percent(90) {
+        size_of(kind)
+    } else {
+        r.pick(&[0, 1, SHORT_SIZE - 1, SHORT_SIZE, SHORT_SIZE + 1, LONG_SIZE - 1, LONG_SIZE, LONG_SIZE + 1])
+    };
     let mut packet = r.bytes(length);
     if length == LONG_SIZE && kind == 0 && r.percent(85) {
-        packet[0] = r.pick(&[0, 1, 3, 6, 7, 8]);
-        packet[3] = r.pick(&[2, 2, 2, 0x12, 0xF2, 1]);
+        packet[version_reply_at::COUNT] = r.pick(&[0, 1, 3, 6, 7, 8]);
+        packet[version_reply_at::PROTOCOL] = r.pick(&[2, 2, 2, 0x12, 0xF2, 1]);
     }
     if length == SHORT_SIZE && (1..=3).contains(&kind) {
-        packet[2] = r.pick(&[0, 1, 0xDF, 0xFD, 0xFE, 0xFF, r.clone().byte()]);
+        packet[signal_at::KIND] = r.pick(&[0, 1, 0xDF, 0xFD, EXTENDED, INFORMATION, r.clone().byte()]);
     }
     if length == LONG_SIZE && kind == 5 && r.percent(70) {
-        packet[1] = r.pick(&[0, 1, 30, 51, 52, 53, 255]);
+        packet[content_at::LENGTH] = r.pick(&[0, 1, 30, 51, 52, 53, 255]);
     }
     let room = if r.percent(3) { 1 } else { 0 };
     Case::aimed("").number("kind", kind).number("room", room).bytes("packet", packet)

@@ -7,7 +7,7 @@ use crate::bundles::{self, bundle, entries_in, Entry};
 use crate::calls::Calls;
 use crate::case::{difference, hex, Case, Outcome};
 use crate::demand::{self, Shown};
-use crate::devices::{broken_device, guarded, valid_device, BROKEN};
+use crate::devices::{any_record, broken_device, guarded, valid_device, BROKEN};
 use crate::header::*;
 use crate::layout::*;
 use crate::lent::Lent;
@@ -24,7 +24,7 @@ fn records_for(r: &mut Random, image: &[u8]) -> Vec<(u32, Vec<u8>)> {
     let least = 1 + image.len() / 20;
     let mut at = 0;
     while at < image.len() {
-        let length = r.between(1, 52).max(least).min(52).min(image.len() - at);
+        let length = r.between(1, DATA_SIZE).max(least).min(DATA_SIZE).min(image.len() - at);
         let data = image[at..at + length].to_vec();
         if data.iter().any(|byte| *byte != 0xFF) || r.percent(30) {
             records.push((at as u32, data));
@@ -36,7 +36,7 @@ fn records_for(r: &mut Random, image: &[u8]) -> Vec<(u32, Vec<u8>)> {
     }
     if r.percent(25) {
         // A record whose bytes later ones write again: only where all of them are written later.
-        let length = r.between(1, 52.min(image.len()));
+        let length = r.between(1, DATA_SIZE.min(image.len()));
         let at = r.below(image.len() - length + 1);
         let mut covered = vec![false; image.len()];
         for (address, data) in &records {
@@ -83,7 +83,7 @@ fn bad_records(r: &mut Random, part: &Part, version: u32) -> Vec<(u32, Vec<u8>)>
             records.insert(place, (address, r.bytes(2)));
             records
         }
-        _ => vec![(r.below(length) as u32, r.bytes(r.clone().between(1, 52)))],
+        _ => vec![(r.below(length) as u32, r.bytes(r.clone().between(1, DATA_SIZE)))],
     }
 }
 
@@ -94,7 +94,7 @@ fn entries_for(r: &mut Random, device: &DeviceRecord) -> Vec<Entry> {
     let mut ids: Vec<u8> = device.listed().iter().map(|part| part.id).collect();
     ids.extend((10..=12).filter(|_| r.percent(12)));
     r.shuffle(&mut ids);
-    let count = if r.percent(50) { ids.len().min(7) } else { r.between(1, ids.len().min(7)) };
+    let count = if r.percent(50) { ids.len().min(OFFER_LIMIT) } else { r.between(1, ids.len().min(OFFER_LIMIT)) };
     ids.truncate(count);
     // First the versions, for needs refer to them.
     let offered: Vec<(u8, u32)> = ids
@@ -115,9 +115,9 @@ fn entries_for(r: &mut Random, device: &DeviceRecord) -> Vec<Entry> {
     for (place, (id, version)) in offered.iter().enumerate() {
         let need = need_for(r, device, &offered, place, chain);
         let platform = if r.percent(96) { device.platform } else { device.platform ^ 1 };
-        let offer = bundles::offer(*id, *version, need, platform);
+        let offer = offer_packet(*id, *version, need, platform);
         let records = match device.listed().iter().find(|part| part.id == *id) {
-            None => vec![(r.next() as u32, r.bytes(r.clone().between(1, 52))), (0, vec![1])],
+            None => vec![(r.next() as u32, r.bytes(r.clone().between(1, DATA_SIZE))), (0, vec![1])],
             Some(part) if all_good || r.percent(60) => {
                 let image = demand::image(r, part.length as usize, *version, part.id);
                 records_for(r, &image)
@@ -133,26 +133,22 @@ fn entries_for(r: &mut Random, device: &DeviceRecord) -> Vec<Entry> {
 }
 
 fn need_for(r: &mut Random, device: &DeviceRecord, offered: &[(u8, u32)], place: usize, chain: bool) -> [u8; 4] {
-    let told = |id: u8, least: u32| {
-        let bytes = least.to_le_bytes();
-        [id, bytes[0], bytes[1], bytes[2]]
-    };
     if chain && place + 1 < offered.len() {
         let (id, version) = offered[place + 1];
-        return told(id, version / 256);
+        return need_bytes(id, version / 256);
     }
     match r.below(10) {
         0..=4 => [0; 4],
         5 | 6 => {
             // Another offer's new version, or its own; sometimes one more than it.
             let (id, version) = r.pick(offered);
-            told(id, version / 256 + r.pick(&[0, 0, 0, 1]))
+            need_bytes(id, version / 256 + r.pick(&[0, 0, 0, 1]))
         }
         7 | 8 => {
             let part = r.pick(device.listed());
-            told(part.id, part.staged.unwrap_or(part.running) / 256 + r.pick(&[0, 0, 1]))
+            need_bytes(part.id, part.staged.unwrap_or(part.running) / 256 + r.pick(&[0, 0, 1]))
         }
-        _ => told(r.pick(&[0xFE, 0xFF, 13, 0xE0]), r.below(2) as u32),
+        _ => need_bytes(r.pick(&[0xFE, 0xFF, 13, 0xE0]), r.below(2) as u32),
     }
 }
 
@@ -160,7 +156,7 @@ pub fn make_run(r: &mut Random) -> Case {
     let device = valid_device(r);
     let entries = entries_for(r, &device);
     let hostile = if r.percent(20) { r.next() | 1 } else { 0 };
-    let (mut record, mut laid) = (device.bytes().to_vec(), bundle(&entries));
+    let (mut record, mut laid) = (any_record(r, &device.bytes(), device.passed_over()), bundle(&entries));
     match r.below(50) {
         0 => laid = bundles::any_bundle(r),
         1 => {
@@ -236,30 +232,30 @@ fn most_packets(bundle: &[u8]) -> usize {
 fn hostile_reply(seed: u64, place: usize, packet: &[u8]) -> Vec<u8> {
     let mut r = Random::of_case(seed, 99, place as u64);
     let style = seed >> 8 & 3;
-    let mut reply = vec![0; 16];
-    if packet.len() == 60 {
-        reply[..2].copy_from_slice(&packet[2..4]);
+    let mut reply = vec![0; SHORT_SIZE];
+    if packet.len() == LONG_SIZE {
+        put(&mut reply, content_reply_at::SEQUENCE, &packet[content_at::SEQUENCE..][..2]);
         if r.percent(1) {
-            reply[4] = r.byte();
+            reply[content_reply_at::STATUS] = r.byte();
         }
     } else {
-        reply[3] = packet[3];
-        reply[12] = match (packet[2], style) {
-            (0xFF, _) => 1,
-            (0xFE, _) => 4,
+        reply[offer_reply_at::TOKEN] = packet[offer_at::TOKEN];
+        reply[offer_reply_at::STATUS] = match (packet[signal_at::KIND], style) {
+            (INFORMATION, _) => OFFER_ACCEPT,
+            (EXTENDED, _) => OFFER_READY,
             // BUSY without end; SKIP and ACCEPT so that every pass is repeated; anything.
-            (_, 0) => 3,
-            (_, 1) => r.pick(&[0, 1]),
-            (_, 2) => r.pick(&[3, 3, 3, 3, 1, 0]),
-            _ => r.pick(&[0, 1, 2, 3]),
+            (_, 0) => OFFER_BUSY,
+            (_, 1) => r.pick(&[OFFER_SKIP, OFFER_ACCEPT]),
+            (_, 2) => r.pick(&[OFFER_BUSY, OFFER_BUSY, OFFER_BUSY, OFFER_BUSY, OFFER_ACCEPT, OFFER_SKIP]),
+            _ => r.pick(&[OFFER_SKIP, OFFER_ACCEPT, OFFER_REJECT, OFFER_BUSY]),
         };
         if r.percent(1) {
-            reply[12] = r.byte();
+            reply[offer_reply_at::STATUS] = r.byte();
         }
     }
     match r.below(150) {
-        0 => reply = r.bytes(16),
-        1 => reply.truncate(r.below(16)),
+        0 => reply = r.bytes(SHORT_SIZE),
+        1 => reply.truncate(r.below(SHORT_SIZE)),
         _ => {}
     }
     reply
@@ -305,14 +301,14 @@ fn whole_run(calls: &dyn Calls, start: &Start, by: By) -> Result<Left, String> {
         reply = if start.hostile != 0 {
             hostile_reply(start.hostile, left.packets.len(), &sent)
         } else {
-            let told = if step.length == 16 {
+            let told = if sent.len() == SHORT_SIZE {
                 calls.offer(device.lend(), staging.bytes(), &sent, replies.lend())
             } else {
                 calls.content(device.lend(), staging.lend(), &sent, replies.lend())
             };
             guarded(calls, &[&device, &staging, &replies])?;
             // A READY that was owed would follow as another reply; after code 0 none is.
-            replies.bytes()[..16 * told.count as usize].to_vec()
+            replies.bytes()[..SHORT_SIZE * told.count as usize].to_vec()
         };
         left.packets.push(sent);
         left.replies.push(reply.clone());
@@ -367,7 +363,7 @@ fn whole_functions(start: &Start, left: &Left) -> Outcome {
     let ran = made_run(start.bundle, start.token, made::device_of(&device), &mut staging);
     match ran.refusal {
         RunRefusal::Served => {
-            let same = made::record_of(&ran.device).bytes()[..] == left.device[..]
+            let same = is_left(start, left, &device, &made::record_of(&ran.device))
                 && staging == left.staging
                 && ran.report.packets == left.report.packets
                 && ran.report.passes == left.report.passes
@@ -396,10 +392,16 @@ fn whole_functions(start: &Start, left: &Left) -> Outcome {
     let mut staging = start.staging.to_vec();
     let ran = second::run::run(start.token, start.bundle, other::device_of(&device), &mut staging);
     let host = other::host_record(&ran.host).bytes();
-    if other::record_of(&ran.device).bytes()[..] != left.device[..] || staging != left.staging || host[..] != left.host[..] {
+    if !is_left(start, left, &device, &other::record_of(&ran.device)) || staging != left.staging || host[..] != left.host[..] {
         return Err(format!("the second implementation's run differs: {ran:?}\n    the steps: {}", left.text()));
     }
     Ok(())
+}
+
+/// The bytes that the steps leave are read as this record; and are its own, zero where they are passed over, where those before were.
+fn is_left(start: &Start, left: &Left, before: &DeviceRecord, record: &DeviceRecord) -> bool {
+    let is_whole = before.bytes()[..] == start.device[..];
+    DeviceRecord::read(&left.device).as_ref() == Some(record) && (!is_whole || record.bytes()[..] == left.device[..])
 }
 
 fn run_demand(case: &Case, start: &Start, left: &Left, tally: &mut Tally) -> Outcome {

@@ -2,7 +2,7 @@
 
 use std::collections::HashMap;
 
-use crate::header::*;
+use crate::layout::*;
 
 #[derive(Clone, Debug, Default)]
 pub struct Tally {
@@ -79,30 +79,30 @@ pub fn ending(number: u32) -> &'static str {
 
 /// The status of a reply of the offer channel, with a REJECT's reason.
 pub fn offer_status(reply: &[u8]) -> &'static str {
-    match (reply[12], reply[8]) {
-        (0, 0) => "offer reply: SKIP",
-        (1, 0) => "offer reply: ACCEPT",
-        (2, 0) => "offer reply: REJECT 0",
-        (2, 1) => "offer reply: REJECT 1",
-        (2, 2) => "offer reply: REJECT 2",
-        (2, 0xE0) => "offer reply: REJECT 0xE0",
-        (2, 0xE1) => "offer reply: REJECT 0xE1",
-        (3, 0) => "offer reply: BUSY",
-        (4, 0) => "offer reply: READY",
-        (0xFF, 0) => "offer reply: unsupported",
+    match (reply[offer_reply_at::STATUS], reply[offer_reply_at::REASON]) {
+        (OFFER_SKIP, 0) => "offer reply: SKIP",
+        (OFFER_ACCEPT, 0) => "offer reply: ACCEPT",
+        (OFFER_REJECT, REJECT_OLD_FW) => "offer reply: REJECT 0",
+        (OFFER_REJECT, REJECT_INV_COMPONENT) => "offer reply: REJECT 1",
+        (OFFER_REJECT, REJECT_SWAP_PENDING) => "offer reply: REJECT 2",
+        (OFFER_REJECT, REJECT_WRONG_PROTOCOL) => "offer reply: REJECT 0xE0",
+        (OFFER_REJECT, REJECT_WRONG_SEGMENT) => "offer reply: REJECT 0xE1",
+        (OFFER_BUSY, 0) => "offer reply: BUSY",
+        (OFFER_READY, 0) => "offer reply: READY",
+        (OFFER_UNSUPPORTED, 0) => "offer reply: unsupported",
         _ => "offer reply: unknown",
     }
 }
 
-pub fn content_status(status: u8) -> &'static str {
-    match status {
-        0x00 => "content reply: 0x00",
-        0x04 => "content reply: 0x04",
-        0x05 => "content reply: 0x05",
-        0x07 => "content reply: 0x07",
-        0x09 => "content reply: 0x09",
-        0x0A => "content reply: 0x0A",
-        0x0B => "content reply: 0x0B",
+pub fn content_status(reply: &[u8]) -> &'static str {
+    match reply[content_reply_at::STATUS] {
+        SUCCESS => "content reply: 0x00",
+        ERROR_VERIFY => "content reply: 0x04",
+        ERROR_CRC => "content reply: 0x05",
+        ERROR_VERSION => "content reply: 0x07",
+        ERROR_INVALID_ADDR => "content reply: 0x09",
+        ERROR_NO_OFFER => "content reply: 0x0A",
+        ERROR_INVALID => "content reply: 0x0B",
         _ => "content reply: unknown",
     }
 }

@@ -6,10 +6,11 @@ mod plain;
 use std::hint::black_box;
 
 use cfu_updater::bundle::check as made_check;
+use cfu_updater::device::answer::Channel;
+use cfu_updater::firmware::serve_lent;
 use cfu_updater::update::run as made_run;
-use compare::bundles::{bundle, offer, Entry};
+use compare::bundles::{bundle, Entry};
 use compare::calls::Calls;
-use compare::demand;
 use compare::header::*;
 use compare::layout::*;
 use compare::library::Library;
@@ -24,6 +25,9 @@ const REPETITIONS: usize = 40;
 const LEAST: u64 = 500_000;
 
 const TOKEN: u8 = 0xA5;
+/// What every component runs, and what is offered to it.
+const OLD: u32 = 0x0100_0100;
+const NEW: u32 = 0x0100_0200;
 
 /// A row of the table.
 struct Row {
@@ -111,7 +115,7 @@ fn device(count: usize, staging: usize) -> DeviceRecord {
     let mut record = DeviceRecord { platform: 0x0042, staging: staging as u32, count: count as u8, ..Default::default() };
     let length = (staging / count) as u32;
     for slot in 0..count {
-        record.parts[slot] = Part { id: slot as u8 + 1, running: 0x0100_0100, base: slot as u32 * length, length, staged: None };
+        record.parts[slot] = Part { id: slot as u8 + 1, running: OLD, base: slot as u32 * length, length, staged: None };
     }
     record
 }
@@ -131,46 +135,34 @@ fn records(image: &[u8], size: usize) -> Vec<(u32, Vec<u8>)> {
 fn image(length: usize, used: usize, id: u8) -> Vec<u8> {
     let mut r = Random::new(length as u64 + id as u64);
     let mut out = vec![0xFF; length];
-    let used = used.min(length - 2);
+    let used = used.min(length - CRC_SIZE);
     out[..used].copy_from_slice(&r.bytes(used));
-    out[..4].copy_from_slice(&0x0100_0200u32.to_le_bytes());
-    out[4] = id;
-    let check = demand::crc(&out[..length - 2]);
-    out[length - 2..].copy_from_slice(&check.to_be_bytes());
+    make_image(&mut out, NEW, id);
     out
 }
 
 /// A bundle for every component of a device, with records of so many bytes; the bodies share the room of the largest bundle.
 fn bundle_for(record: &DeviceRecord, size: usize) -> Vec<u8> {
     let count = record.count as usize;
-    let room = (65_536 - 8 - 24 * count) / count;
+    let room = (BUNDLE_LIMIT - entry_start(count)) / count;
     // The record with the CRC stands apart.
-    let used = (room - 5 - 2 * size) / (size + 5) * size;
+    let used = (room - record_at::DATA - 2 * size) / (size + record_at::DATA) * size;
     let entries: Vec<Entry> = record
         .listed()
         .iter()
         .map(|part| {
             let image = image(part.length as usize, used, part.id);
-            Entry { offer: offer(part.id, 0x0100_0200, [0; 4], record.platform), records: records(&image, size) }
+            Entry { offer: offer_packet(part.id, NEW, [0; 4], record.platform), records: records(&image, size) }
         })
         .collect();
     bundle(&entries)
 }
 
-fn offer_packet(record: &DeviceRecord) -> [u8; 16] {
+/// An offer for the last component.
+fn offer_for(record: &DeviceRecord) -> [u8; SHORT_SIZE] {
     let id = record.listed().last().map_or(1, |part| part.id);
-    let mut packet = offer(id, 0x0100_0200, [0; 4], record.platform);
-    packet[3] = TOKEN;
-    packet
-}
-
-fn content_packet(flags: u8, sequence: u16, address: u32, data: &[u8]) -> [u8; 60] {
-    let mut packet = [0; 60];
-    packet[0] = flags;
-    packet[1] = data.len() as u8;
-    packet[2..4].copy_from_slice(&sequence.to_le_bytes());
-    packet[4..8].copy_from_slice(&address.to_le_bytes());
-    packet[8..8 + data.len()].copy_from_slice(data);
+    let mut packet = offer_packet(id, NEW, [0; 4], record.platform);
+    packet[offer_at::TOKEN] = TOKEN;
     packet
 }
 
@@ -198,33 +190,37 @@ fn check_row(what: &str, bytes: &[u8]) -> Row {
 }
 
 /// The first reply of the second implementation, which every call here gives.
-fn reply_of(answer: Answer) -> [u8; 16] {
+fn reply_of(answer: Answer) -> [u8; SHORT_SIZE] {
     match answer {
         Answer::Reply(reply) | Answer::ReplyThenReady(reply, _) | Answer::Refused(_, reply) => reply,
-        Answer::NoReply => [0; 16],
+        Answer::NoReply => [0; SHORT_SIZE],
     }
 }
 
-/// One packet to a device that is in the same state each time.
+/// One packet to a device that is in the same state each time; the last time is that of the firmware's entry by value.
 fn packet_row(what: String, record: &DeviceRecord, staging: &[u8], packet: &[u8]) -> Row {
     let before = record.bytes();
-    let mut stagings = [staging.to_vec(), staging.to_vec(), staging.to_vec()];
-    let [own, made_own, other_own] = &mut stagings;
+    let mut stagings = [staging.to_vec(), staging.to_vec(), staging.to_vec(), staging.to_vec()];
+    let [own, made_own, other_own, lent_own] = &mut stagings;
     let (made_device, other_device) = (made::device_of(record), other::device_of(record));
     let mut replies = [0; REPLIES_SIZE];
-    let content = packet.len() == 60;
+    let content = packet.len() == LONG_SIZE;
+    let channel = if content { Channel::Content } else { Channel::Offer };
     // Once, to be compared.
     let mut kept = before;
-    if content {
-        Library.content(&mut kept, own, packet, &mut replies);
-    } else {
-        Library.offer(&mut kept, own, packet, &mut replies);
-    }
+    let library_told =
+        if content { Library.content(&mut kept, own, packet, &mut replies) } else { Library.offer(&mut kept, own, packet, &mut replies) };
     let made_answer = if content { made_device.content(made_own, packet) } else { made_device.offer(made_own, packet) };
     let (next, answer) = if content { other_device.content(other_own, packet) } else { other_device.offer(other_own, packet) };
-    expect(&what, made_answer.reply == replies[..16] && reply_of(answer) == replies[..16]);
-    expect(&what, made::record_of(&made_answer.device).bytes() == kept && other::record_of(&next).bytes() == kept);
-    expect(&what, own == made_own && made_own == other_own);
+    for answer in [made_answer, serve_lent(made_device, channel, lent_own, packet)] {
+        let (told, made_replies, made_record) = made::told(&answer);
+        expect(&what, told == library_told && made_replies == replies && made_record.bytes() == kept);
+    }
+    expect(&what, reply_of(answer) == replies[..SHORT_SIZE] && other::record_of(&next).bytes() == kept);
+    expect(&what, own == made_own && made_own == other_own && other_own == lent_own);
+    let mut lent = || {
+        black_box(serve_lent(black_box(made_device), channel, lent_own, black_box(packet)));
+    };
     // The region is written as it stands, so each repetition leaves the same.
     if content {
         measure(
@@ -240,6 +236,7 @@ fn packet_row(what: String, record: &DeviceRecord, staging: &[u8], packet: &[u8]
                 &mut || {
                     black_box(black_box(other_device).content(other_own, black_box(packet)));
                 },
+                &mut lent,
             ],
         )
     } else {
@@ -256,6 +253,7 @@ fn packet_row(what: String, record: &DeviceRecord, staging: &[u8], packet: &[u8]
                 &mut || {
                     black_box(black_box(other_device).offer(other_own, black_box(packet)));
                 },
+                &mut lent,
             ],
         )
     }
@@ -271,10 +269,10 @@ fn library_session(bundle: &[u8], device: &mut [u8; DEVICE_SIZE], staging: &mut 
     Library.check(bundle, &mut contents);
     Library.fresh(&mut host, TOKEN);
     loop {
-        let step = Library.step_checked(&mut host, &mut contents, bundle, &replies[..16 * due], &mut packet);
-        due = match step.length {
+        let step = Library.step_checked(&mut host, &mut contents, bundle, &replies[..SHORT_SIZE * due], &mut packet);
+        due = match step.length as usize {
             0 => return Library.report(&host),
-            16 => Library.offer(device, staging, &packet[..16], &mut replies).count,
+            SHORT_SIZE => Library.offer(device, staging, &packet[..SHORT_SIZE], &mut replies).count,
             _ => Library.content(device, staging, &packet, &mut replies).count,
         } as usize;
     }
@@ -285,7 +283,7 @@ fn second_session(bundle: &[u8], device: second::device::Device, staging: &mut [
     let mut host = SecondHost::fresh(TOKEN);
     let mut device = device;
     let Ok(read) = second::bundle::check(bundle) else { return (host, device) };
-    let mut reply = [0; 16];
+    let mut reply = [0; SHORT_SIZE];
     loop {
         let (next, answer) = match plain::step(&read, &mut host, &reply) {
             plain::Next::Packet(Packet::ForOffer(packet)) => device.offer(staging, &packet),
@@ -302,7 +300,7 @@ fn plain_session(bundle: &[u8], device: second::device::Device, staging: &mut [u
     let mut host = SecondHost::fresh(TOKEN);
     let mut device = device;
     let Ok(read) = second::bundle::check(bundle) else { return (host, device) };
-    let mut reply = [0; 16];
+    let mut reply = [0; SHORT_SIZE];
     loop {
         reply = match plain::step(&read, &mut host, &reply) {
             plain::Next::Packet(Packet::ForOffer(packet)) => plain::offer_in_place(&mut device, &packet),
@@ -350,41 +348,43 @@ fn session_row(what: &str, record: &DeviceRecord, bytes: &[u8]) -> Row {
     )
 }
 
-fn packet_rows(rows: &mut Vec<Row>) {
-    for (count, staging) in [(1, 4096), (7, 65_536)] {
+fn packet_rows() -> Vec<Row> {
+    let mut rows = Vec::new();
+    for (count, staging) in [(1, 4096), (COMPONENT_LIMIT, STAGING_LIMIT)] {
         let record = device(count, staging);
         let bytes = vec![0; staging];
         let what = format!("{count} component{}, {staging} bytes of staging", if count == 1 { "" } else { "s" });
-        rows.push(packet_row(format!("offer, {what}"), &record, &bytes, &offer_packet(&record)));
+        rows.push(packet_row(format!("offer, {what}"), &record, &bytes, &offer_for(&record)));
         let slot = count as u8 - 1;
         let receiving = DeviceRecord { session: Session::Receiving { slot, token: TOKEN, next: 7 }, ..record };
-        let packet = content_packet(0, 7, 100, &[0x3C; 52]);
+        let packet = content_packet(0, 7, 100, &[0x3C; DATA_SIZE]);
         rows.push(packet_row(format!("content packet, {what}"), &receiving, &bytes, &packet));
     }
-    for length in [64, 4096, 65_536] {
+    for length in [64, 4096, STAGING_LIMIT] {
         let record = device(1, length);
         let receiving = DeviceRecord { session: Session::Receiving { slot: 0, token: TOKEN, next: 7 }, ..record };
         let image = image(length, length, 1);
-        let packet = content_packet(0x40, 7, length as u32 - 20, &image[length - 20..]);
+        let packet = content_packet(FLAG_LAST_BLOCK, 7, length as u32 - 20, &image[length - 20..]);
         rows.push(packet_row(format!("last block, image of {length} bytes"), &receiving, &image, &packet));
     }
+    rows
 }
 
 fn main() {
     let mut rows = Vec::new();
     let two = device(2, 128);
-    let small = bundle_for(&two, 52);
-    let seven = device(7, 65_536);
-    let one = device(1, 65_536);
+    let small = bundle_for(&two, DATA_SIZE);
+    let seven = device(COMPONENT_LIMIT, STAGING_LIMIT);
+    let one = device(1, STAGING_LIMIT);
     rows.push(check_row(&format!("{} bytes", small.len()), &small));
-    for (record, size) in [(device(1, 4096), 52), (one, 52), (seven, 52), (one, 1)] {
+    for (record, size) in [(device(1, 4096), DATA_SIZE), (one, DATA_SIZE), (seven, DATA_SIZE), (one, 1)] {
         let bytes = bundle_for(&record, size);
         let (length, count) = (bytes.len(), record.count);
         rows.push(check_row(&format!("{length} bytes, {count} offer{}, records of {size}", if count == 1 { "" } else { "s" }), &bytes));
     }
-    packet_rows(&mut rows);
+    let packets = packet_rows();
     let mut sessions = vec![session_row("2 images of 64 bytes", &two, &small)];
-    for (record, size) in [(device(1, 4096), 52), (device(1, 16_384), 52), (one, 52), (seven, 52), (one, 1)] {
+    for (record, size) in [(device(1, 4096), DATA_SIZE), (device(1, 16_384), DATA_SIZE), (one, DATA_SIZE), (seven, DATA_SIZE), (one, 1)] {
         let bytes = bundle_for(&record, size);
         let (count, length) = (record.count, record.parts[0].length);
         let plural = if count == 1 { "" } else { "s" };
@@ -394,13 +394,21 @@ fn main() {
     println!("  library: cfu_bundle_check, cfu_host_step_checked, cfu_device_offer and cfu_device_content");
     println!("  crate:   bundle::check, Device::offer and Device::content; update::run for a session");
     println!("  second:  the second implementation's check, packets and device (row D1 at each packet), a plain host with row N1 at each step");
+    println!("  firmware: firmware::serve_lent of the crate, the firmware's entry by value");
     println!("  in place: the same plain host, a plain device that is changed by reference and does not judge row D1");
     println!();
     println!("| | library | crate | second | library/second | crate/second |");
     println!("|---|---:|---:|---:|---:|---:|");
-    for row in rows.iter().chain(&sessions) {
+    for row in rows.iter().chain(&packets).chain(&sessions) {
         let t = &row.times;
         println!("| {} | {:.0} | {:.0} | {:.0} | {:.2} | {:.2} |", row.what, t[0], t[1], t[2], t[0] / t[2], t[1] / t[2]);
+    }
+    println!();
+    println!("| | firmware | firmware/library | firmware/crate | firmware/second |");
+    println!("|---|---:|---:|---:|---:|");
+    for row in &packets {
+        let t = &row.times;
+        println!("| {} | {:.0} | {:.2} | {:.2} | {:.2} |", row.what, t[3], t[3] / t[0], t[3] / t[1], t[3] / t[2]);
     }
     println!();
     println!("| | in place | library/in place | crate/in place | second/in place |");

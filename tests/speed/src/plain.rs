@@ -1,6 +1,11 @@
 //! What the second implementation does not offer, in plain Rust: a host's step over a bundle that was checked once, and a device that is changed in place
 //! without row D1. The decisions are those of document 01, "The host" and "The device".
 
+use compare::layout::{
+    content_at, offer_at, signal_at, ERROR_INVALID, ERROR_INVALID_ADDR, ERROR_NO_OFFER, REJECT_INV_COMPONENT, REJECT_OLD_FW, REJECT_SWAP_PENDING,
+    REJECT_WRONG_PROTOCOL, REJECT_WRONG_SEGMENT, SUCCESS,
+};
+use compare::layout::{four, two};
 use second::bundle::Bundle;
 use second::device::{image_version, judge_image, Component, Device, Offered, Receiving, Stage as DeviceStage};
 use second::host::{End, Host, Packet, Stage};
@@ -52,7 +57,7 @@ fn offer(bundle: &Bundle, host: &mut Host, entry: u8, busy: u8) -> Next {
     match bundle.entries.get(entry as usize) {
         Some(found) => {
             let mut packet = found.packet;
-            packet[3] = host.token;
+            packet[offer_at::TOKEN] = host.token;
             send(host, Stage::Offering { entry, busy }, Packet::ForOffer(packet))
         }
         None => information(host, END_LIST, Stage::Closing),
@@ -132,10 +137,10 @@ fn find(device: &Device, id: u8) -> Option<usize> {
 
 /// An offer or an information packet, in place and without row D1. A session of one host needs no extended packets.
 pub fn offer_in_place(device: &mut Device, report: &[u8; SHORT]) -> [u8; SHORT] {
-    let token = report[3];
+    let token = report[offer_at::TOKEN];
     let answer = |status, reason| build_offer_reply(&OfferReply { token, reason, status }).value;
-    if report[2] == ID_INFORMATION {
-        if report[0] == START_TRANSACTION {
+    if report[signal_at::KIND] == ID_INFORMATION {
+        if report[signal_at::CODE] == START_TRANSACTION {
             device.stage = DeviceStage::Idle;
             device.owed = None;
         }
@@ -146,21 +151,21 @@ pub fn offer_in_place(device: &mut Device, report: &[u8; SHORT]) -> [u8; SHORT] 
         return answer(BUSY, 0);
     }
     if asked.protocol != PROTOCOL {
-        return answer(REJECT, 0xE0);
+        return answer(REJECT, REJECT_WRONG_PROTOCOL);
     }
-    let Some(slot) = find(device, asked.id) else { return answer(REJECT, 1) };
+    let Some(slot) = find(device, asked.id) else { return answer(REJECT, REJECT_INV_COMPONENT) };
     let component: &Component = &device.components[slot];
     if asked.platform != device.platform {
-        return answer(REJECT, 1);
+        return answer(REJECT, REJECT_INV_COMPONENT);
     }
     if asked.segment != 0 {
-        return answer(REJECT, 0xE1);
+        return answer(REJECT, REJECT_WRONG_SEGMENT);
     }
     if component.staged.is_some() {
-        return answer(REJECT, 2);
+        return answer(REJECT, REJECT_SWAP_PENDING);
     }
     if asked.version <= component.running {
-        return answer(REJECT, 0);
+        return answer(REJECT, REJECT_OLD_FW);
     }
     let met = asked.need_id == 0
         || find(device, asked.need_id).is_some_and(|needed| device.components[needed].effective().without_variant() >= asked.need_least);
@@ -173,38 +178,38 @@ pub fn offer_in_place(device: &mut Device, report: &[u8; SHORT]) -> [u8; SHORT] 
 
 /// A content packet, in place and without row D1.
 pub fn content_in_place(device: &mut Device, staging: &mut [u8], report: &[u8; LONG]) -> [u8; SHORT] {
-    let (flags, length) = (report[0], report[1] as usize);
-    let sequence = u16::from_le_bytes([report[2], report[3]]);
-    let address = u32::from_le_bytes([report[4], report[5], report[6], report[7]]) as usize;
+    let (flags, length) = (report[content_at::FLAGS], report[content_at::LENGTH] as usize);
+    let sequence = two(&report[content_at::SEQUENCE..]);
+    let address = four(&report[content_at::ADDRESS..]) as usize;
     let answer = |status| build_content_reply(&ContentReply { sequence, status }).value;
     let (slot, token, receiving) = match device.stage {
-        DeviceStage::Idle => return answer(0x0A),
+        DeviceStage::Idle => return answer(ERROR_NO_OFFER),
         DeviceStage::Offered(open) => (open.slot, open.token, None),
         DeviceStage::Receiving(open) => (open.slot, open.token, Some(open.next)),
     };
     let first = flags & FIRST != 0;
     if !(1..=DATA).contains(&length) || other_flags(flags) || first == receiving.is_some() {
-        return answer(0x0B);
+        return answer(ERROR_INVALID);
     }
     if receiving.is_some_and(|next| next != sequence) {
-        return answer(0x0B);
+        return answer(ERROR_INVALID);
     }
     let component = &mut device.components[slot as usize];
     let base = component.region.base.0 as usize;
     let own = &mut staging[base..base + component.region.length as usize];
     if address + length > own.len() {
-        return answer(0x09);
+        return answer(ERROR_INVALID_ADDR);
     }
     if first {
         own.fill(0xFF);
     }
-    own[address..address + length].copy_from_slice(&report[8..8 + length]);
+    own[address..address + length].copy_from_slice(&report[content_at::DATA..][..length]);
     if flags & LAST == 0 {
         device.stage = DeviceStage::Receiving(Receiving { slot, token, next: sequence.wrapping_add(1) });
-        return answer(0);
+        return answer(SUCCESS);
     }
     let status = judge_image(component, own);
-    if status == 0 {
+    if status == SUCCESS {
         component.staged = Some(image_version(own));
     }
     device.stage = DeviceStage::Idle;

@@ -15,7 +15,7 @@ use Rattle.wire.specs.Rows.{served, Told}
 use Rattle.wire_offer.specs.declared.offer.OfferFields.{OfferFields}
 use Rattle.wire_offer.specs.declared.kind.OfferPacket.{OfferPacket}
 use Rattle.wire_offer.specs.declared.kind.OfferPacket.the-variants.{Refused, Offer, Information, Extended}
-use Rattle.wire_offer.specs.Offer.{fieldsIn}
+use Rattle.wire_offer.specs.Offer.{fieldsIn, blankOffer}
 use Rattle.wire_offer.specs.Kind.{Kind, offer, kindIn, readOf, toldRead}
 use Rattle.bundle_records.specs.declared.Tally.{Tally}
 use Rattle.bundle_records.specs.declared.Tally.the-variants.{Broken, Records}
@@ -50,6 +50,16 @@ offer-told Refused o h = let e = ap (λ (t : Told Kind). t .row) h in cc
 offer-told (Offer x) o h = let e = ap (λ (t : Told Kind). t .value) h in cc
 offer-told (Information s) o h = let e = ap (λ (t : Told Kind). t .value) h in cc
 offer-told (Extended s) o h = let e = ap (λ (t : Told Kind). t .value) h in cc
+
+-- the fields of an offer, and none of another kind
+abbrev fieldsOf : OfferPacket → OfferFields
+fieldsOf Refused = blankOffer
+fieldsOf (Offer o) = o
+fieldsOf (Information s) = blankOffer
+fieldsOf (Extended s) = blankOffer
+
+pub fields-told : {k : OfferPacket} (x : OfferPacket) (o : OfferFields) → k ≡ x → k ≡ Offer o → fieldsOf x ≡ o
+fields-told x o e f = ap fieldsOf (sym e ∙ f)
 
 -- the body
 

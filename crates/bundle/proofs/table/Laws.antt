@@ -1,6 +1,6 @@
 -- The entries of a bundle, from one to the next, and the rows that look at each. Assumes nothing.
 use mathlib.Core.Path.{_≡_, refl, sym, ap, _∙_}
-use mathlib.Core.Bool.{Bool, true, false, _||_, or-assoc, or-comm}
+use mathlib.Core.Bool.{Bool, true, false, cond, _||_, or-assoc, or-comm}
 use mathlib.Core.List.{List, [], _∷_, _++_}
 use Prim.Native.Nat.{ℕ, zero, suc, _+_, _*_, _≤_, _<_}
 use native.Mathlib.Nat.{not-suc-le-zero, le-of-suc-le-suc}
@@ -10,6 +10,7 @@ use lib.Dec.{eqb}
 use lib.ListN.{length, getD, take, drop, length-take, length-drop, drop-of-length-le}
 use lib.Seq.{take-suc, drop-cons, drop-drop, getD-take, length-take-le}
 use Rattle.wire.specs.Checks.{any}
+use Rattle.wire.proofs.Pieces.{read-sized, read-at}
 use Rattle.bundle_layout.specs.Layout.{HEAD, ENTRY, countIn, tableEnd, entriesFrom, entriesIn, idIn}
 use Rattle.bundle_layout.specs.Rows.{firstEntry, repeated}
 
@@ -20,27 +21,16 @@ entryAt b i = take ENTRY (drop (tableEnd i) b)
 pub length-entry : (b : List ℕ) (i : ℕ) → tableEnd (i + 1) ≤ length b → length (entryAt b i) ≡ ENTRY
 length-entry b i h = simp (length-take, length-drop) (omega arith)
 
-length-from : (n : ℕ) (q : List ℕ) → length (entriesFrom n q) ≡ n
-unfolding entriesFrom
-length-from zero q = refl
-length-from (suc n) q = ap suc (length-from n (drop ENTRY q))
-
-entry-from : (n i : ℕ) (q : List ℕ) → i < n → getD (entriesFrom n q) i [] ≡ take ENTRY (drop (ENTRY * i) q)
-unfolding entriesFrom
-entry-from zero i q h = absurd (not-suc-le-zero h)
-entry-from (suc n) zero q h = refl
-entry-from (suc n) (suc i) q h =
-    let e : ENTRY + ENTRY * i ≡ ENTRY * suc i = omega arith in
-    entry-from n i (drop ENTRY q) (le-of-suc-le-suc h) ∙ rw (drop-drop (ENTRY * i) ENTRY q, e)
-
 module _ (b : List ℕ) where
   pub length-entries : length (entriesIn b) ≡ countIn b
-  unfolding entriesIn
-  length-entries = length-from (countIn b) (drop HEAD b)
+  unfolding entriesIn entriesFrom
+  length-entries = read-sized ENTRY (take ENTRY) entriesFrom (λ q. refl) (λ n q. refl) (countIn b) (drop HEAD b)
 
   pub entry-is : (i : ℕ) → i < countIn b → getD (entriesIn b) i [] ≡ entryAt b i
-  unfolding entriesIn
-  entry-is i h = entry-from (countIn b) i (drop HEAD b) h ∙ rw (drop-drop (ENTRY * i) HEAD b)
+  unfolding entriesIn entriesFrom
+  entry-is i h =
+      let e : HEAD + i * ENTRY ≡ tableEnd i = omega arith in
+      read-at ENTRY (take ENTRY) entriesFrom (λ q. refl) (λ n q. refl) (countIn b) i (drop HEAD b) [] h ∙ ap (take ENTRY) (drop-drop (i * ENTRY) HEAD b ∙ ap (λ (n : ℕ). drop n b) e)
 
   -- the entries from i on are entry i and those from i + 1 on
   pub from-here : (i : ℕ) → i < countIn b → drop i (entriesIn b) ≡ entryAt b i ∷ drop (i + 1) (entriesIn b)
@@ -133,15 +123,17 @@ module _ (b : List ℕ) where
   unfolding repeated
   repeated-end i h = rw (from-end i h)
 
--- where p holds of no entry
-first-none : (p : List ℕ → Bool) (k : ℕ) (es : List (List ℕ)) → 0 < k → firstEntry p k es ≡ 0 → (i : ℕ) → i < length es → p (getD es i []) ≡ false
+-- an entry that a search does not name, and the entries after it
+pub skips : (t : Bool) (k rest : ℕ) → cond t (suc k) rest ≡ 0 → (t ≡ false) × (rest ≡ 0)
+skips true k rest h = absurd (omega arith)
+skips false k rest h = (refl, h)
+
+-- p holds of no entry, where the search names none
+pub none-of : (p : List ℕ → Bool) (k : ℕ) (es : List (List ℕ)) (i : ℕ) → firstEntry p (suc k) es ≡ 0 → i < length es → p (getD es i []) ≡ false
 unfolding firstEntry
-first-none p k [] z h i l = absurd (not-suc-le-zero l)
-first-none p k (e ∷ es) z h i l = go (p e) refl i l (λ q j m. first-none p (suc k) es (omega arith) q j m) where
-  go : (x : Bool) → p e ≡ x → (j : ℕ) → j < suc (length es) → (firstEntry p (suc k) es ≡ 0 → (m : ℕ) → m < length es → p (getD es m []) ≡ false) → p (getD (e ∷ es) j []) ≡ false
-  go true q j l ih = let w : k ≡ 0 = rw q at h in absurd (omega arith)
-  go false q zero l ih = q
-  go false q (suc j) l ih = ih (rw q at h) j (le-of-suc-le-suc l)
+none-of p k [] i h l = absurd (not-suc-le-zero l)
+none-of p k (e ∷ es) zero h l = skips (p e) k _ h .0
+none-of p k (e ∷ es) (suc i) h l = none-of p (suc k) es i (skips (p e) k _ h .1) (le-of-suc-le-suc l)
 
 pub none-bad : (b : List ℕ) (p : List ℕ → Bool) → firstEntry p 1 (entriesIn b) ≡ 0 → (i : ℕ) → i < countIn b → p (entryAt b i) ≡ false
-none-bad b p h i l = rw (← entry-is b i l) (first-none p 1 (entriesIn b) (omega arith) h i (rw (length-entries b) l))
+none-bad b p h i l = rw (← entry-is b i l) (none-of p 0 (entriesIn b) i h (rw (length-entries b) l))

@@ -12,7 +12,7 @@ returns c =
     let s = c .before .before .before .before .before .before .before .before .before .before in
     let n : length (o .result) ≡ 32 = search needs in
     let f = c .before .before .before .before .copy .ensures ∙ copy-same (s .args .replies .now) (o .result) (s .pre ∙ sym n) ∙ o .ensures in
-    λ device d. rw (c .before .device-number .ensures, f, c .count-of .ensures)
+    λ left d. rw (c .before .device-number .ensures, f, c .count-of .ensures)
 
 pub answered-spec : {M : Type 1} → statement M
 answered-spec =

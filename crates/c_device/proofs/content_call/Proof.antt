@@ -3,6 +3,7 @@ use borrow.Author.Tests.{eq-eqb, ne-eqb}
 use borrow.Author.Needs.{needs}
 use Rattle.device.specs.Content.{contentEntry}
 use Rattle.device_bytes.specs.Layout.{readDevice}
+use Rattle.device_in_place.specs.InPlace.{contentLeaves}
 use Rattle.c_device.specs.Device.{contentCall, contentCallStaging}
 use Rattle.c_device.proofs.Laws.{answers}
 use Rattle.c_device.proofs.content_call.Statement.{statement}
@@ -27,7 +28,8 @@ returns-3 c =
     let f = eq-eqb _ _ (fine .if2 .left) in
     let o = c .before .before .before .before .before .before .before .before .content-in-place .ensures in
     let b = a .device .now in
-    let told = answers (c .before .before .answered .result) b _ (o .0) (c .before .before .answered .ensures b (contentEntry (readDevice b) (a .staging .now) (a .report .now) .device)) in
+    let x = contentEntry (readDevice b) (a .staging .now) (a .report .now) in
+    let told = answers (c .before .before .answered .result) (contentLeaves b x) _ (o .0) (c .before .before .answered .ensures (contentLeaves b x) (x .device)) in
     (rw (e, f, o .1) told, rw (e, f) (o .2))
 
 pub content-call-spec : {M : Type 1} → statement M

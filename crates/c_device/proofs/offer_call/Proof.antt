@@ -4,6 +4,7 @@ use borrow.Author.Needs.{needs}
 use lib.ListN.{length}
 use Rattle.device.specs.Offer.{offerEntry}
 use Rattle.device_bytes.specs.Layout.{readDevice}
+use Rattle.device_in_place.specs.InPlace.{offerLeaves}
 use Rattle.c_device.specs.Device.{offerCall}
 use Rattle.c_device.proofs.Laws.{answers}
 use Rattle.c_device.proofs.offer_call.Statement.{statement}
@@ -26,7 +27,8 @@ returns-3 c =
     let f = eq-eqb _ _ (fine .if2 .left) in
     let o = c .before .before .before .before .before .before .offer-in-place .ensures in
     let b = a .device .now in
-    rw (e, f, o .1) (answers (c .before .before .answered .result) b _ (o .0) (c .before .before .answered .ensures b (offerEntry (readDevice b) (length (a .staging .now)) (a .report .now) .device)))
+    let x = offerEntry (readDevice b) (length (a .staging .now)) (a .report .now) in
+    rw (e, f, o .1) (answers (c .before .before .answered .result) (offerLeaves b x) _ (o .0) (c .before .before .answered .ensures (offerLeaves b x) (x .device)))
 
 pub offer-call-spec : {M : Type 1} → statement M
 offer-call-spec =

@@ -12,7 +12,7 @@ enum-told c = search needs
 
 returns : tie.Need-returns
 returns c =
-    let p = c .before .before .before .before .args .reply in
+    let p = c .before .before .before .before .before .args .replies .reply in
     let l : length p ≡ 16 = search needs in rw (c .before .if1 .taken, c .before .before .enum-told .given .1) (c .joined .ensures ∙ one-sent p l)
 
 returns-2 : tie.Need-returns-2
@@ -20,7 +20,7 @@ returns-2 c = rw (c .before .if1 .left, c .before .before .enum-told .given .1) 
 
 returns-3 : tie.Need-returns-3
 returns-3 c =
-    let p = c .before .before .before .before .before .before .args .reply in
+    let p = c .before .before .before .before .before .before .before .args .replies .reply in
     let l : length p ≡ 16 = search needs in
     let b = c .before .before .ready-reply in
     rw (c .before .if2 .taken, c .before .before .before .before .ready .given .1) (rw (b .ensures) at (c .joined3 .ensures) ∙ two-sent p (readyBytes _) l refl)

@@ -2,6 +2,7 @@
 use Rattle.c_device.proofs.Laws.{stored-by}
 use lib.ListN.{length}
 use mathlib.Core.Path.{_≡_, sym, _∙_}
+use Rattle.device_bytes.specs.Layout.{DEVICE-SIZE}
 use Rattle.c_device.specs.Device.{resetCall}
 use borrow.Author.Tests.{eq-eqb, ne-eqb}
 use borrow.Author.Needs.{needs}
@@ -18,8 +19,8 @@ returns-2 c =
     let q = c .before .before .before .before .before .before .before .before .before .before .before .before .before .args .device .now in
     let a = c .before .before .before .before .before .before .before .before .reset in
     let b = c .before .before .before .before .before .before .device-bytes in
-    let l : length q ≡ 140 = c .before .before .before .before .before .before .before .before .before .before .before .if1 .left in
-    let m : length (b .result) ≡ 140 = search needs in
+    let l : length q ≡ DEVICE-SIZE = c .before .before .before .before .before .before .before .before .before .before .before .if1 .left in
+    let m : length (b .result) ≡ DEVICE-SIZE = search needs in
     rw (eq-eqb _ _ l, ← c .before .before .before .before .before .before .before .before .before .read-device .ensures, ← a .ensures)
     (stored-by (a .result .refusal) q (b .result) (a .result .device) (c .before .before .before .before .device-number .result) (c .before .before .store .ensures) (l ∙ sym m) (c .before .before .before .before .device-number .ensures) (b .ensures))
 

@@ -2,6 +2,7 @@
 use Rattle.c_device.proofs.Laws.{stored-made}
 use lib.ListN.{length}
 use mathlib.Core.Path.{_≡_, sym, _∙_}
+use Rattle.device_bytes.specs.Layout.{DEVICE-SIZE}
 use Rattle.c_device.specs.Device.{setUpCall}
 use borrow.Author.Tests.{eq-eqb, ne-eqb}
 use borrow.Author.Needs.{needs}
@@ -22,8 +23,8 @@ returns-3 c =
     let q = c .before .before .before .before .before .before .before .before .before .before .before .before .before .before .before .args .device .now in
     let a = c .before .before .before .before .before .before .before .before .set-up in
     let b = c .before .before .before .before .before .before .device-bytes in
-    let l : length q ≡ 140 = c .before .before .before .before .before .before .before .before .before .before .before .if1 .left in
-    let m : length (b .result) ≡ 140 = search needs in
+    let l : length q ≡ DEVICE-SIZE = c .before .before .before .before .before .before .before .before .before .before .before .if1 .left in
+    let m : length (b .result) ≡ DEVICE-SIZE = search needs in
     rw (eq-eqb _ _ l, eq-eqb _ _ (c .before .before .before .before .before .before .before .before .before .before .if2 .left), ← c .before .before .before .before .before .before .before .before .before .read-list .ensures, ← a .ensures)
     (stored-made (a .result .verdict) q (b .result) (a .result .device) (c .before .before .before .before .setup-number .result) (c .before .before .store .ensures) (l ∙ sym m) (c .before .before .before .before .setup-number .ensures) (b .ensures))
 

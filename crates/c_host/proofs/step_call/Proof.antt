@@ -7,11 +7,11 @@ use Rattle.c_host.proofs.step_call.Tie as tie
 
 returns : tie.Need-returns
 unfolding stepCall
-returns c = rw (ne-eqb _ _ (c .before .if1 .taken)) (c .refused .ensures _ _)
+returns c = rw (ne-eqb _ _ (c .before .if1 .taken), c .refused .ensures)
 
 returns-2 : tie.Need-returns-2
 unfolding stepCall
-returns-2 c = rw (eq-eqb _ _ (c .before .before .if1 .left), ne-eqb _ _ (c .before .if2 .taken)) (c .refused2 .ensures _ _)
+returns-2 c = rw (eq-eqb _ _ (c .before .before .if1 .left), ne-eqb _ _ (c .before .if2 .taken), c .refused2 .ensures)
 
 returns-3 : tie.Need-returns-3
 unfolding stepCall

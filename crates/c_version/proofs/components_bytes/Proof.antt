@@ -1,5 +1,6 @@
 -- `components_bytes` meets its contract. After i turns the first i components are written. Assumes nothing.
 use native.Mathlib.Omega.{arith}
+use Rattle.wire.specs.Codes.{COMPONENT-LIMIT}
 use Rattle.c_version.proofs.Pieces.{component-written, written}
 use Rattle.c_version.specs.Layout.{RUNNING-SIZE, COMPONENTS-SIZE, componentsBytes}
 use lib.ListN.{length, take}
@@ -10,10 +11,10 @@ use Rattle.c_version.proofs.components_bytes.Statement.{statement}
 use Rattle.c_version.proofs.components_bytes.Tie as tie
 
 abbrev Inv-loop : tie.InvT-loop
-Inv-loop components out₀ i₀ out i = (i ≤ 7) × (length out ≡ COMPONENTS-SIZE) × (take (i * RUNNING-SIZE) out ≡ componentsBytes (take i components))
+Inv-loop components out₀ i₀ out i = (i ≤ COMPONENT-LIMIT) × (length out ≡ COMPONENTS-SIZE) × (take (i * RUNNING-SIZE) out ≡ componentsBytes (take i components))
 
 abbrev μ-loop : tie.MeasureT-loop
-μ-loop components out₀ i₀ out i = 7 - i
+μ-loop components out₀ i₀ out i = COMPONENT-LIMIT - i
 
 loop-holds : tie.Need-loop-holds Inv-loop μ-loop
 unfolding componentsBytes

@@ -1,5 +1,6 @@
 -- `read_components` meets its contract. After i turns the first i components are read. Assumes nothing.
 use native.Mathlib.Omega.{arith}
+use Rattle.wire.specs.Codes.{COMPONENT-LIMIT}
 use Rattle.c_version.proofs.Pieces.{component-read, components-read}
 use Rattle.c_version.specs.Layout.{componentsIn}
 use lib.ListN.{length, take}
@@ -10,10 +11,10 @@ use Rattle.c_version.proofs.read_components.Statement.{statement}
 use Rattle.c_version.proofs.read_components.Tie as tie
 
 abbrev Inv-loop : tie.InvT-loop
-Inv-loop q components₀ i₀ components i = (i ≤ 7) × (length components ≡ 7) × (take i components ≡ componentsIn i q)
+Inv-loop q components₀ i₀ components i = (i ≤ COMPONENT-LIMIT) × (length components ≡ COMPONENT-LIMIT) × (take i components ≡ componentsIn i q)
 
 abbrev μ-loop : tie.MeasureT-loop
-μ-loop q components₀ i₀ components i = 7 - i
+μ-loop q components₀ i₀ components i = COMPONENT-LIMIT - i
 
 loop-holds : tie.Need-loop-holds Inv-loop μ-loop
 unfolding componentsIn
@@ -22,7 +23,7 @@ loop-holds c = (search needs, search needs, refl)
 loop-again : tie.Need-loop-again Inv-loop μ-loop
 loop-again c =
     let l = c .before .before .loop in
-    (search needs, search needs, component-read (l .i) _ (l .components) _ (omega arith) (l .inv .2) (c .running-at2 .ensures))
+    (search needs, search needs, component-read (l .i) _ (l .components) _ (omega arith) (l .inv .2) (c .running-at .ensures))
 
 returns : tie.Need-returns Inv-loop μ-loop
 returns c = let l = c .before .loop in components-read (l .i) _ (l .components) (omega arith) (l .inv .1) (l .inv .2)

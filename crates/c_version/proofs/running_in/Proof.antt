@@ -4,17 +4,8 @@ use Rattle.c_version.proofs.running_in.Statement.{statement}
 use Rattle.c_version.proofs.running_in.Tie as tie
 
 returns : tie.Need-returns
-returns c = simp (c .word16-at .ensures, c .before .byte-at5 .ensures, c .before .before .read .ensures, c .before .before .before .byte-at4 .ensures, c .before .before .before .before .byte-at3 .ensures, c .before .before .before .before .before .byte-at2 .ensures, c .before .before .before .before .before .before .byte-at .ensures)
+returns c = simp (c .word16-at .ensures, c .before .byte-at .ensures, c .before .before .read-at .ensures)
 
 pub running-in-spec : {M : Type 1} → statement M
 running-in-spec =
-    tie.close
-    (tie.spec
-    (λ c κs. search needs)
-    (λ c κs. search needs)
-    (λ c κs. search needs)
-    (λ c κs. search needs)
-    (λ c κs. search needs)
-    (λ c κs. search needs)
-    (λ c κs. search needs)
-    returns)
+    tie.close (tie.spec (λ c κs. search needs) (λ c κs. search needs) (λ c κs. search needs) returns)

@@ -1,12 +1,11 @@
 -- What set-up hands out: the blank record where a row refuses, and the new one where none does. Assumes nothing.
 use mathlib.Core.Path.{_≡_, refl, sym}
 use mathlib.Core.Bool.{true, false, true≢false}
-use Rattle.device_component.specs.Setup.{rowOf}
+use Rattle.device_component.specs.Setup.{refusesSetup, rowOf}
 use Rattle.device_component.specs.declared.setup.SetupVerdict.{SetupVerdict}
 use Rattle.device_component.specs.declared.setup.SetupVerdict.the-variants.{Fine, S1, S2, S3, S4}
 use Rattle.device.specs.declared.record.Device.{Device}
 use Rattle.device.specs.Record.{blankDevice}
-use Rattle.device_session.specs.Sound.{refusesSetup}
 use Rattle.device.specs.Entries.{setUpBy}
 
 pub refused-set-up : (v : SetupVerdict) (d : Device) → refusesSetup v ≡ true → setUpBy (rowOf v) d ≡ record { row = rowOf v; device = blankDevice }

@@ -6,22 +6,16 @@ use Rattle.device_bytes.proofs.device_in.Tie as tie
 
 returns : tie.Need-returns
 unfolding deviceIn
-returns c = rw (c .before .before .word16-at2 .ensures, c .before .word32-at .ensures, c .before .before .before .owed-in .ensures, c .before .before .before .before .before .before .stage-in .ensures, c .before .before .before .before .before .before .before .word16-at .ensures, c .before .before .before .before .before .before .before .before .before .before .before .components-in .ensures)
+returns c =
+    rw (c .count-in .ensures, c .before .staging-len-in .ensures, c .before .before .platform-in .ensures, c .before .before .before .session-in .ensures, c .before .before .before .before .components-in .ensures)
 
 pub device-in-spec : {M : Type 1} → statement M
 device-in-spec =
     tie.close
     (tie.spec
     (λ c κs. search needs)
-    (λ c. search needs)
-    (λ c. search needs)
-    (λ c. search needs)
-    (λ c κs. search needs)
-    (λ c κs. search needs)
-    (λ c. search needs)
-    (λ c. search needs)
     (λ c κs. search needs)
     (λ c κs. search needs)
     (λ c κs. search needs)
-    (λ c. search needs)
+    (λ c κs. search needs)
     returns)

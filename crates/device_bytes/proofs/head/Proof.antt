@@ -1,20 +1,17 @@
 -- `head` meets its contract: the fields' bytes, in their order. Assumes nothing.
-use Rattle.device_bytes.proofs.stage.Laws.{head-of}
+use Rattle.device_bytes.proofs.session.Laws.{head-of}
 use borrow.Author.Needs.{needs}
 use Rattle.device_bytes.proofs.head.Statement.{statement}
 use Rattle.device_bytes.proofs.head.Tie as tie
 
 returns : tie.Need-returns
 returns c =
-    let d = c .before .before .before .before .args .d in
-    head-of _ _ _ (d .stage) (d .owed) _ _ _ _ (c .before .before .before .bytes16 .ensures) (c .before .before .bytes32 .ensures) (c .before .stage-bytes .ensures)
-    (c .owed-bytes .ensures)
+    head-of (c .before .before .before .before .args .d) _ _ _ (c .before .before .before .bytes16 .ensures) (c .before .before .bytes32 .ensures) (c .session-bytes .ensures)
 
 pub head-spec : {M : Type 1} → statement M
 head-spec =
     tie.close
     (tie.spec
-    (λ c κs. search needs)
     (λ c κs. search needs)
     (λ c κs. search needs)
     (λ c κs. search needs)

@@ -1,33 +1,22 @@
--- `read_device` meets its contract: the fields, where they are written again as the bytes. Assumes nothing.
+-- `read_device` meets its contract: by whether the bytes are a record. Assumes nothing.
 use mathlib.Core.Path.{sym, _∙_}
-use mathlib.Core.Bool.{true, false}
-use Rattle.device_bytes.proofs.Record.{other-length, judged}
+use Rattle.device_bytes.specs.Layout.{readDevice}
+use Rattle.device_bytes.proofs.Flags.{record-sized}
 use borrow.Author.Needs.{needs}
 use Rattle.device_bytes.proofs.read_device.Statement.{statement}
 use Rattle.device_bytes.proofs.read_device.Tie as tie
 
+device-in-requires : tie.Need-device-in-requires
+device-in-requires c κs = record-sized _ (sym (c .before .is-record .ensures) ∙ c .if1 .taken)
+
 returns : tie.Need-returns
-returns c = let b = c .before .before .before .args .b .now in c .blank .ensures ∙ sym (other-length b (c .before .if1 .taken))
+unfolding readDevice
+returns c = rw (sym (c .before .before .is-record .ensures) ∙ c .before .if1 .taken) (c .device-in .ensures)
 
 returns-2 : tie.Need-returns-2
-returns-2 c =
-    judged (c .before .before .before .before .before .before .before .args .b .now) (c .before .before .before .device-bytes .result) (c .before .before .before .before .device-in .result) true (c .before .before .before .before .device-in .ensures) (c .before .before .before .device-bytes .ensures) (sym (c .if2 .taken) ∙ c .before .same .ensures)
-
-returns-3 : tie.Need-returns-3
-returns-3 c =
-    c .blank2 .ensures
-    ∙ judged (c .before .before .before .before .before .before .before .before .args .b .now) (c .before .before .before .before .device-bytes .result) (c .before .before .before .before .before .device-in .result) false (c .before .before .before .before .before .device-in .ensures) (c .before .before .before .before .device-bytes .ensures) (sym (c .before .if2 .left) ∙ c .before .before .same .ensures)
+unfolding readDevice
+returns-2 c = rw (sym (c .before .before .is-record .ensures) ∙ c .before .if1 .left) (c .blank .ensures)
 
 pub read-device-spec : {M : Type 1} → statement M
 read-device-spec =
-    tie.close
-    (tie.spec
-    (λ c κs. search needs)
-    returns
-    (λ c κs. search needs)
-    (λ c κs. search needs)
-    (λ c. search needs)
-    (λ c κs. search needs)
-    (λ c κs. search needs)
-    returns-2
-    returns-3)
+    tie.close (tie.spec (λ c κs. search needs) device-in-requires (λ c κs. search needs) returns returns-2)

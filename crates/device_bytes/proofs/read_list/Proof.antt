@@ -3,6 +3,7 @@ use mathlib.Core.Path.{_≡_, refl}
 use Prim.Native.Nat.{_-_, _≤_}
 use native.Mathlib.Omega.{arith}
 use lib.ListN.{length, take}
+use Rattle.wire.specs.Codes.{COMPONENT-LIMIT}
 use Rattle.device_bytes.specs.Layout.{listIn}
 use Rattle.device_bytes.proofs.Record.{listed-read, list-read}
 use borrow.Author.Needs.{needs}
@@ -10,10 +11,10 @@ use Rattle.device_bytes.proofs.read_list.Statement.{statement}
 use Rattle.device_bytes.proofs.read_list.Tie as tie
 
 abbrev Inv-loop : tie.InvT-loop
-Inv-loop b list₀ i₀ list i = (i ≤ 7) × (length list ≡ 7) × (take i list ≡ listIn i b)
+Inv-loop b list₀ i₀ list i = (i ≤ COMPONENT-LIMIT) × (length list ≡ COMPONENT-LIMIT) × (take i list ≡ listIn i b)
 
 abbrev μ-loop : tie.MeasureT-loop
-μ-loop b list₀ i₀ list i = 7 - i
+μ-loop b list₀ i₀ list i = COMPONENT-LIMIT - i
 
 loop-holds : tie.Need-loop-holds Inv-loop μ-loop
 unfolding listIn

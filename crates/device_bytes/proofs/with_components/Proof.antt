@@ -5,16 +5,17 @@ use mathlib.Core.List.{_++_, append-nil}
 use Prim.Native.Nat.{_+_, _*_, _-_, _≤_}
 use native.Mathlib.Omega.{arith}
 use lib.ListN.{length, take}
-use Rattle.device_bytes.specs.Layout.{COMPONENTS-START, COMPONENT-SIZE, componentsBytes}
+use Rattle.wire.specs.Codes.{COMPONENT-LIMIT}
+use Rattle.device_bytes.specs.Layout.{DEVICE-SIZE, COMPONENTS-START, COMPONENT-SIZE, componentsBytes}
 use borrow.Author.Needs.{needs}
 use Rattle.device_bytes.proofs.with_components.Statement.{statement}
 use Rattle.device_bytes.proofs.with_components.Tie as tie
 
 abbrev Inv-loop : tie.InvT-loop
-Inv-loop out₀ components i₀ out i = (i ≤ 7) × (length out ≡ 140) × (take (COMPONENTS-START + i * COMPONENT-SIZE) out ≡ take COMPONENTS-START out₀ ++ componentsBytes (take i components))
+Inv-loop out₀ components i₀ out i = (i ≤ COMPONENT-LIMIT) × (length out ≡ DEVICE-SIZE) × (take (COMPONENTS-START + i * COMPONENT-SIZE) out ≡ take COMPONENTS-START out₀ ++ componentsBytes (take i components))
 
 abbrev μ-loop : tie.MeasureT-loop
-μ-loop out₀ components i₀ out i = 7 - i
+μ-loop out₀ components i₀ out i = COMPONENT-LIMIT - i
 
 loop-holds : tie.Need-loop-holds Inv-loop μ-loop
 unfolding componentsBytes

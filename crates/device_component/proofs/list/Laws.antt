@@ -53,33 +53,33 @@ module _ (count : ℕ) (components : List Component) (k : ℕ) where
 
 module _ (id count : ℕ) (components : List Component) where
   -- the slot that is found is listed, and has the id
-  pub find-at : (k : ℕ) → find id count components ≡ At k → (k < count) × (k < length components) × (componentAt components k .id ≡ id)
+  pub find-at : (k : ℕ) → find id count components ≡ At k → (k < count) × (k < length components) × (componentAt components k .fixed .id ≡ id)
   unfolding find
   find-at k e =
-      let f = found blankComponent (λ c. eqb id (c .id)) 0 (take count components) k e in
+      let f = found blankComponent (λ c. eqb id (c .fixed .id)) 0 (take count components) k e in
       let s = slot-listed count components k (omega (arith, f .1)) in
       let g = rw (sub-zero, getD-take count components k blankComponent (s .0)) at (f .2) in
-      (s .0, s .1, sym (eqb-true id (componentAt components k .id) g))
+      (s .0, s .1, sym (eqb-true id (componentAt components k .fixed .id) g))
 
   -- where none is found, no listed slot has the id
-  pub find-none : find id count components ≡ Nothing → (k : ℕ) → k < count → k < length components → componentAt components k .id ≡ id → ⊥
+  pub find-none : find id count components ≡ Nothing → (k : ℕ) → k < count → k < length components → componentAt components k .fixed .id ≡ id → ⊥
   unfolding find isAt
   find-none e k h h′ q =
-      let none : any (λ c. eqb id (c .id)) (take count components) ≡ false = sym (at-any (λ c. eqb id (c .id)) 0 (take count components)) ∙ ap isAt e in
-      eqb-false id (componentAt components k .id)
-      (rw (getD-take count components k blankComponent h) at (any-none blankComponent (λ c. eqb id (c .id)) (take count components) none k (slot-taken count components k h h′)))
+      let none : any (λ c. eqb id (c .fixed .id)) (take count components) ≡ false = sym (at-any (λ c. eqb id (c .fixed .id)) 0 (take count components)) ∙ ap isAt e in
+      eqb-false id (componentAt components k .fixed .id)
+      (rw (getD-take count components k blankComponent h) at (any-none blankComponent (λ c. eqb id (c .fixed .id)) (take count components) none k (slot-taken count components k h h′)))
       (sym q)
 
 -- two listed slots with one id are one slot, where no id repeats
 pub ids-differ : (count : ℕ) (components : List Component) → badIds (take count components) ≡ false
-    → (i j : ℕ) → i < count → i < length components → j < count → j < length components → componentAt components i .id ≡ componentAt components j .id → i ≡ j
+    → (i j : ℕ) → i < count → i < length components → j < count → j < length components → componentAt components i .fixed .id ≡ componentAt components j .fixed .id → i ≡ j
 unfolding badIds
 ids-differ count components e i j i< i<′ j< j<′ q = go (decLt i j) (decLt j i) where
-  unlike : (m n : ℕ) → m < n → m < count → n < count → n < length components → componentAt components m .id ≡ componentAt components n .id → ⊥
+  unlike : (m n : ℕ) → m < n → m < count → n < count → n < length components → componentAt components m .fixed .id ≡ componentAt components n .fixed .id → ⊥
   unlike m n h m< n< n<′ s =
-      eqb-false (componentAt components m .id) (componentAt components n .id)
+      eqb-false (componentAt components m .fixed .id) (componentAt components n .fixed .id)
       (rw (getD-take count components m blankComponent m<, getD-take count components n blankComponent n<) at
-      (pairs-none blankComponent (λ c c′. eqb (c .id) (c′ .id)) (take count components) (neither (any (λ c. badId (c .id)) (take count components)) _ e .1) m n h (slot-taken count components n n< n<′)))
+      (pairs-none blankComponent (λ c c′. eqb (c .fixed .id) (c′ .fixed .id)) (take count components) (neither (any (λ c. badId (c .fixed .id)) (take count components)) _ e .1) m n h (slot-taken count components n n< n<′)))
       s
 
   go : Dec (i < j) → Dec (j < i) → i ≡ j
@@ -89,7 +89,7 @@ ids-differ count components e i j i< i<′ j< j<′ q = go (decLt i j) (decLt j 
 
 -- a listed slot that has the id is the one that is found, where no id repeats
 pub find-only : (id count : ℕ) (components : List Component) → badIds (take count components) ≡ false
-    → (k : ℕ) → k < count → k < length components → componentAt components k .id ≡ id → find id count components ≡ At k
+    → (k : ℕ) → k < count → k < length components → componentAt components k .fixed .id ≡ id → find id count components ≡ At k
 find-only id count components e k h h′ q = go (find id count components) refl where
   go : (f : Found) → find id count components ≡ f → find id count components ≡ At k
   go Nothing t = absurd (find-none id count components t k h h′ q)
@@ -99,8 +99,8 @@ find-only id count components e k h h′ q = go (find id count components) refl 
       t ∙ ap At s
 
 -- lists with the same ids give the same slot
-pub find-same : (id count : ℕ) (components components′ : List Component) → map (λ c. c .id) components ≡ map (λ c. c .id) components′ → find id count components ≡ find id count components′
+pub find-same : (id count : ℕ) (components components′ : List Component) → map (λ c. c .fixed .id) components ≡ map (λ c. c .fixed .id) components′ → find id count components ≡ find id count components′
 unfolding find
 find-same id count components components′ e = by-ids components ∙ ap (λ ids. firstFrom (eqb id) 0 (take count ids)) e ∙ sym (by-ids components′) where
-  by-ids : (l : List Component) → firstFrom (λ c. eqb id (c .id)) 0 (take count l) ≡ firstFrom (eqb id) 0 (take count (map (λ c. c .id) l))
-  by-ids l = first-map (λ (c : Component). c .id) (eqb id) 0 (take count l) ∙ ap (firstFrom (eqb id) 0) (map-take (λ (c : Component). c .id) count l)
+  by-ids : (l : List Component) → firstFrom (λ c. eqb id (c .fixed .id)) 0 (take count l) ≡ firstFrom (eqb id) 0 (take count (map (λ c. c .fixed .id) l))
+  by-ids l = first-map (λ (c : Component). c .fixed .id) (eqb id) 0 (take count l) ∙ ap (firstFrom (eqb id) 0) (map-take (λ (c : Component). c .fixed .id) count l)

@@ -8,6 +8,7 @@ use native.Mathlib.Omega.{arith}
 use native.Mathlib.Numerals.{add-one}
 use lib.ListN.{length, take, drop, getD, drop-of-length-le, length-take}
 use lib.Seq.{drop-cons, getD-take}
+use Rattle.wire.specs.Codes.{COMPONENT-LIMIT}
 use Rattle.wire.specs.Checks.{any, pairs}
 use Rattle.wire.proofs.Tests.{neither}
 use Rattle.device_component.specs.Lists.{firstFrom}
@@ -15,7 +16,7 @@ use Rattle.device_component.specs.declared.list.Found.{Found}
 use Rattle.device_component.specs.declared.list.Found.the-variants.{Nothing, At}
 
 -- a count as far as there are slots is the number of members it counts
-pub ends : {A : Type 0} {end : ℕ} (n : ℕ) (l : List A) → length l ≡ 7 → end ≡ min n 7 → end ≡ length (take n l)
+pub ends : {A : Type 0} {end : ℕ} (n : ℕ) (l : List A) → length l ≡ COMPONENT-LIMIT → end ≡ min n COMPONENT-LIMIT → end ≡ length (take n l)
 ends n l k e = rw (length-take, k) e
 
 -- where one of two tests holds, it does among more

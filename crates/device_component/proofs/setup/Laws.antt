@@ -10,6 +10,7 @@ use borrow.Author.Tests.{ltb-false}
 use lib.Dec.{ltb, eqb}
 use lib.ListN.{length, take, set}
 use lib.Seq.{getD-take, map-set-same}
+use Rattle.wire.specs.Codes.{COMPONENT-LIMIT}
 use Rattle.wire.specs.Checks.{firstOf, any, pairs}
 use Rattle.wire.specs.declared.version.Version.{Version}
 use Rattle.image.specs.declared.region.Region.{Region}
@@ -18,6 +19,7 @@ use Rattle.device_component.specs.Record.{blankComponent, withStaged}
 use Rattle.device_component.specs.Lists.{componentAt}
 use Rattle.device_component.specs.Setup.{stagingTooLong, badCount, badId, badIds, badRegion, overlap, badRegions, setupVerdict}
 use Rattle.device_component.specs.declared.record.Component.{Component}
+use Rattle.device_component.specs.declared.record.Fixed.{Fixed}
 use Rattle.device_component.specs.declared.setup.SetupVerdict.{SetupVerdict}
 use Rattle.device_component.specs.declared.setup.SetupVerdict.the-variants.{Fine, S1, S2, S3, S4}
 use Rattle.wire.proofs.Tests.{neither}
@@ -53,18 +55,18 @@ module _ (n count : ℕ) (components : List Component) (fine : setupVerdict n co
   pub fine-staging : n ≤ 65536
   fine-staging = ltb-false 65536 n (rows .0)
 
-  -- S2: there are 1 to 7 components
-  pub fine-count : (1 ≤ count) × (count ≤ 7)
+  -- S2: there is a component, and no more than the limit
+  pub fine-count : (1 ≤ count) × (count ≤ COMPONENT-LIMIT)
   fine-count =
-      let s = neither (ltb count 1) (ltb 7 count) (rows .1) in
-      (ltb-false count 1 (s .0), ltb-false 7 count (s .1))
+      let s = neither (ltb count 1) (ltb COMPONENT-LIMIT count) (rows .1) in
+      (ltb-false count 1 (s .0), ltb-false COMPONENT-LIMIT count (s .1))
 
   -- S3: no id is bad
   pub fine-ids : badIds (take count components) ≡ false
   fine-ids = rows .2
 
-  module _ (slots : length components ≡ 7) where
-    -- a listed slot is one of the seven
+  module _ (slots : length components ≡ COMPONENT-LIMIT) where
+    -- a listed slot is there
     pub fine-slot : (k : ℕ) → k < count → k < length components
     fine-slot k h = omega (arith, fine-count .1)
 
@@ -72,51 +74,51 @@ module _ (n count : ℕ) (components : List Component) (fine : setupVerdict n co
     taken k h = slot-taken count components k h (fine-slot k h)
 
     -- S3: an id is 1 to 0xDF
-    pub fine-id : (k : ℕ) → k < count → (1 ≤ componentAt components k .id) × (componentAt components k .id ≤ 0xDF)
+    pub fine-id : (k : ℕ) → k < count → (1 ≤ componentAt components k .fixed .id) × (componentAt components k .fixed .id ≤ 0xDF)
     unfolding badIds
     fine-id k h =
-        let e = any-none blankComponent (λ c. badId (c .id)) (take count components) (neither (any (λ c. badId (c .id)) (take count components)) _ (rows .2) .0) k (taken k h) in
-        let s = neither (ltb (componentAt components k .id) 1) (ltb 0xDF (componentAt components k .id)) (rw (getD-take count components k blankComponent h) at e) in
-        (ltb-false (componentAt components k .id) 1 (s .0), ltb-false 0xDF (componentAt components k .id) (s .1))
+        let e = any-none blankComponent (λ c. badId (c .fixed .id)) (take count components) (neither (any (λ c. badId (c .fixed .id)) (take count components)) _ (rows .2) .0) k (taken k h) in
+        let s = neither (ltb (componentAt components k .fixed .id) 1) (ltb 0xDF (componentAt components k .fixed .id)) (rw (getD-take count components k blankComponent h) at e) in
+        (ltb-false (componentAt components k .fixed .id) 1 (s .0), ltb-false 0xDF (componentAt components k .fixed .id) (s .1))
 
     -- S3: two slots with one id are one slot
-    pub fine-differ : (i j : ℕ) → i < count → j < count → componentAt components i .id ≡ componentAt components j .id → i ≡ j
+    pub fine-differ : (i j : ℕ) → i < count → j < count → componentAt components i .fixed .id ≡ componentAt components j .fixed .id → i ≡ j
     fine-differ i j i< j< q = ids-differ-where count components (rows .2) i j i< (fine-slot i i<) j< (fine-slot j j<) q
 
     -- S4: a region has 8 bytes or more, and lies in the buffer
-    pub fine-region : (k : ℕ) → k < count → (8 ≤ componentAt components k .region .len) × (componentAt components k .region .base .0 + componentAt components k .region .len ≤ n)
+    pub fine-region : (k : ℕ) → k < count → (8 ≤ componentAt components k .fixed .region .len) × (componentAt components k .fixed .region .base .0 + componentAt components k .fixed .region .len ≤ n)
     unfolding badRegions
     fine-region k h =
-        let r = componentAt components k .region in
-        let e = any-none blankComponent (λ c. badRegion n (c .region)) (take count components) (neither (any (λ c. badRegion n (c .region)) (take count components)) _ (rows .3) .0) k (taken k h) in
+        let r = componentAt components k .fixed .region in
+        let e = any-none blankComponent (λ c. badRegion n (c .fixed .region)) (take count components) (neither (any (λ c. badRegion n (c .fixed .region)) (take count components)) _ (rows .3) .0) k (taken k h) in
         let s = neither (ltb (r .len) 8) (ltb n (r .base .0 + r .len)) (rw (getD-take count components k blankComponent h) at e) in
         (ltb-false (r .len) 8 (s .0), ltb-false n (r .base .0 + r .len) (s .1))
 
     -- S4: of two slots' regions one lies before the other
-    pub fine-apart : (i j : ℕ) → i < count → j < count → (i ≡ j → ⊥) → Apart (componentAt components i .region) (componentAt components j .region)
+    pub fine-apart : (i j : ℕ) → i < count → j < count → (i ≡ j → ⊥) → Apart (componentAt components i .fixed .region) (componentAt components j .fixed .region)
     unfolding badRegions
     fine-apart i j i< j< ne = go (decLt i j) where
-      order : (m k : ℕ) → m < k → m < count → k < count → Apart (componentAt components m .region) (componentAt components k .region)
+      order : (m k : ℕ) → m < k → m < count → k < count → Apart (componentAt components m .fixed .region) (componentAt components k .fixed .region)
       order m k h m< k< =
-          apart (componentAt components m .region) (componentAt components k .region)
+          apart (componentAt components m .fixed .region) (componentAt components k .fixed .region)
           (rw (getD-take count components m blankComponent m<, getD-take count components k blankComponent k<) at
-          (pairs-none blankComponent (λ c c′. overlap (c .region) (c′ .region)) (take count components) (neither (any (λ c. badRegion n (c .region)) (take count components)) _ (rows .3) .1) m k h (taken k k<)))
+          (pairs-none blankComponent (λ c c′. overlap (c .fixed .region) (c′ .fixed .region)) (take count components) (neither (any (λ c. badRegion n (c .fixed .region)) (take count components)) _ (rows .3) .1) m k h (taken k k<)))
 
-      go : Dec (i < j) → Apart (componentAt components i .region) (componentAt components j .region)
+      go : Dec (i < j) → Apart (componentAt components i .fixed .region) (componentAt components j .fixed .region)
       go (yes h) = order i j h i< j<
-      go (no h) = let ji : j < i = omega arith in apart-sym (componentAt components j .region) (componentAt components i .region) (order j i ji j< i<)
+      go (no h) = let ji : j < i = omega arith in apart-sym (componentAt components j .fixed .region) (componentAt components i .fixed .region) (order j i ji j< i<)
 
--- what set-up looks at of a component: its id and its region
-abbrev pub seen : Component → ℕ × Region
-seen c = (c .id, c .region)
+-- what set-up looks at of a component
+abbrev pub seen : Component → Fixed
+seen c = c .fixed
 
 module _ (n count : ℕ) (components components′ : List Component) (e : map seen components ≡ map seen components′) where
   -- a row that looks at each of the components in use, and at each two
-  row : (p : ℕ × Region → Bool) (q : ℕ × Region → ℕ × Region → Bool)
+  row : (p : Fixed → Bool) (q : Fixed → Fixed → Bool)
       → (any (λ c. p (seen c)) (take count components) || pairs (λ c c′. q (seen c) (seen c′)) (take count components))
       ≡ (any (λ c. p (seen c)) (take count components′) || pairs (λ c c′. q (seen c) (seen c′)) (take count components′))
   row p q = at components ∙ ap over e ∙ sym (at components′) where
-    over : List (ℕ × Region) → Bool
+    over : List (Fixed) → Bool
     over t = any p (take count t) || pairs q (take count t)
 
     at : (l : List Component) → (any (λ c. p (seen c)) (take count l) || pairs (λ c c′. q (seen c) (seen c′)) (take count l)) ≡ over (map seen l)
@@ -125,7 +127,7 @@ module _ (n count : ℕ) (components components′ : List Component) (e : map se
   -- lists that look the same to set-up get the same verdict
   pub setup-same : setupVerdict n count components ≡ setupVerdict n count components′
   unfolding setupVerdict badIds badRegions
-  setup-same = ap₂ verdict (row (λ x. badId (x .0)) (λ x y. eqb (x .0) (y .0))) (row (λ x. badRegion n (x .1)) (λ x y. overlap (x .1) (y .1))) where
+  setup-same = ap₂ verdict (row (λ x. badId (x .id)) (λ x y. eqb (x .id) (y .id))) (row (λ x. badRegion n (x .region)) (λ x y. overlap (x .region) (y .region))) where
     verdict : Bool → Bool → SetupVerdict
     verdict i r = firstOf ((stagingTooLong n, S1) ∷ (badCount count, S2) ∷ (i, S3) ∷ (r, S4) ∷ []) Fine
 

@@ -7,12 +7,12 @@ use lib.Dec.{eqb}
 use lib.ListN.{take}
 use Rattle.wire.specs.Checks.{firstOf, any, pairs}
 use Rattle.device_component.specs.Versions.{keepsStaged}
-use Rattle.device_component.specs.Setup.{stagingTooLong, badCount, badId, badIds, badRegion, badRegions, overlap, setupVerdict}
+use Rattle.device_component.specs.Setup.{refusesSetup, stagingTooLong, badCount, badId, badIds, badRegion, badRegions, overlap, setupVerdict}
 use Rattle.device_component.specs.Rules.{unsound}
 use Rattle.device_component.specs.declared.record.Component.{Component}
 use Rattle.device_component.specs.declared.setup.SetupVerdict.the-variants.{Fine, S1, S2, S3, S4}
 use Rattle.device_session.specs.declared.effect.Session.{Session}
-use Rattle.device_session.specs.Sound.{refusesSetup, opensWrong, owesIdle, breaksD1}
+use Rattle.device_session.specs.Sound.{opensWrong, owesIdle, breaksD1}
 
 -- two tests of each member, one after the other
 exchange : (a b x y : Bool) → ((a || b) || (x || y)) ≡ ((a || x) || (b || y))
@@ -64,11 +64,11 @@ module _ (n : ℕ) where
   unsound-as : (cs : List Component) → ((badIds cs || badRegions n cs) || any (λ c. not (keepsStaged c (c .staged))) cs) ≡ unsound n cs
   unfolding badIds badRegions unsound
   unsound-as cs =
-      together (any (λ c. badId (c .id)) cs) (pairs (λ c c′. eqb (c .id) (c′ .id)) cs) (any (λ c. badRegion n (c .region)) cs) (pairs (λ c c′. overlap (c .region) (c′ .region)) cs) (any (λ c. not (keepsStaged c (c .staged))) cs)
+      together (any (λ c. badId (c .fixed .id)) cs) (pairs (λ c c′. eqb (c .fixed .id) (c′ .fixed .id)) cs) (any (λ c. badRegion n (c .fixed .region)) cs) (pairs (λ c c′. overlap (c .fixed .region) (c′ .fixed .region)) cs) (any (λ c. not (keepsStaged c (c .staged))) cs)
       ∙ sym (ap₂ (λ (a b : Bool). a || b)
-      (any-or (λ c. badId (c .id)) (λ c. badRegion n (c .region) || not (keepsStaged c (c .staged))) cs
-      ∙ ap (λ (b : Bool). any (λ c. badId (c .id)) cs || b) (any-or (λ c. badRegion n (c .region)) (λ c. not (keepsStaged c (c .staged))) cs))
-      (pairs-or (λ c c′. eqb (c .id) (c′ .id)) (λ c c′. overlap (c .region) (c′ .region)) cs))
+      (any-or (λ c. badId (c .fixed .id)) (λ c. badRegion n (c .fixed .region) || not (keepsStaged c (c .staged))) cs
+      ∙ ap (λ (b : Bool). any (λ c. badId (c .fixed .id)) cs || b) (any-or (λ c. badRegion n (c .fixed .region)) (λ c. not (keepsStaged c (c .staged))) cs))
+      (pairs-or (λ c c′. eqb (c .fixed .id) (c′ .fixed .id)) (λ c c′. overlap (c .fixed .region) (c′ .fixed .region)) cs))
 
   -- D1
   pub grouped : (count : ℕ) (components : List Component) (session : Session) → breaksD1 n count components session

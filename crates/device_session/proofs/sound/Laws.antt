@@ -7,12 +7,13 @@ use native.Mathlib.Omega.{arith}
 use borrow.Author.Tests.{leb-false}
 use lib.Dec.{leb}
 use lib.ListN.{length}
+use Rattle.wire.specs.Codes.{COMPONENT-LIMIT}
 use Rattle.wire.proofs.Tests.{neither}
 use Rattle.image.specs.Region.{isInside}
 use Rattle.image.proofs.region.Within.{lies-inside}
 use Rattle.device_component.specs.Record.{isPending}
 use Rattle.device_component.specs.Lists.{componentAt}
-use Rattle.device_component.specs.Setup.{setupVerdict}
+use Rattle.device_component.specs.Setup.{refusesSetup, setupVerdict}
 use Rattle.device_component.specs.declared.record.Component.{Component}
 use Rattle.device_component.specs.declared.list.Found.the-variants.{At}
 use Rattle.device_component.specs.declared.setup.SetupVerdict.{SetupVerdict}
@@ -20,7 +21,7 @@ use Rattle.device_component.specs.declared.setup.SetupVerdict.the-variants.{Fin
 use Rattle.device_component.proofs.setup.Laws.{fine-staging, fine-count, fine-region}
 use Rattle.device_session.specs.declared.effect.Session.{Session}
 use Rattle.device_session.specs.Stage.{openSlot}
-use Rattle.device_session.specs.Sound.{refusesSetup, breaksSetup, wrongSlot, opensWrong, owesIdle, stagedBelow, breaksD1}
+use Rattle.device_session.specs.Sound.{breaksSetup, wrongSlot, opensWrong, owesIdle, stagedBelow, breaksD1}
 
 -- no clause of D1 applies
 pub record Passes (n count : ℕ) (components : List Component) (session : Session) : Type 0 where
@@ -56,8 +57,8 @@ module _ {n count : ℕ} {components : List Component} {session : Session} where
   pub staging-most : Passes n count components session → n ≤ 65536
   staging-most p = fine-staging n count components (setup-fine p)
 
-  -- there are at most seven components
-  pub count-most : Passes n count components session → count ≤ 7
+  -- there are no more components than the limit
+  pub count-most : Passes n count components session → count ≤ COMPONENT-LIMIT
   count-most p = fine-count n count components (setup-fine p) .1
 
   -- a session that is open on a slot is open on a component that is listed and not pending
@@ -67,6 +68,6 @@ module _ {n count : ℕ} {components : List Component} {session : Session} where
       let m = neither (leb count k) _ h in (leb-false count k (m .0), m .1)
 
   -- the region of a component in use lies in the staging buffer
-  pub region-inside : (k : ℕ) → Passes n count components session → length components ≡ 7 → k < count → isInside (componentAt components k .region) n ≡ true
+  pub region-inside : (k : ℕ) → Passes n count components session → length components ≡ COMPONENT-LIMIT → k < count → isInside (componentAt components k .fixed .region) n ≡ true
   region-inside k p l h =
-      lies-inside (componentAt components k .region) n (fine-region n count components (setup-fine p) l k h .1) (omega (arith, staging-most p))
+      lies-inside (componentAt components k .fixed .region) n (fine-region n count components (setup-fine p) l k h .1) (omega (arith, staging-most p))

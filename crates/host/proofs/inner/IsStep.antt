@@ -34,12 +34,13 @@ use Rattle.host_decide.specs.declared.Action.the-variants as action
 use Rattle.host_decide.specs.declared.Move.{Move}
 use Rattle.host_record.specs.declared.fits.Body.{Body}
 use Rattle.host_record.specs.Fits.{BUSY-LIMIT, PACKET-LIMIT, turnBreaks, placeBreaks, stageBreaks, recordBreaks, lastOf, listedAt, recordsOn, bodyOf, inHand}
-use Rattle.host_decide.specs.Decide.{ends, offerFrom, noted, completes, decideIn, decideOf, entryOf, decisionOf}
+use Rattle.host_decide.specs.Decide.{ends, offerFrom, noted, completes, decideIn, decideOf, decisionOf}
 use Rattle.host_packet.specs.Packet.{blockBytes}
 use Rattle.host.specs.Step.{entryAt, blocksAt, recordsAt, badStage, breaksN1, isLast, lastIn, noBlock, blockAt, packetOf, moved, stepOn, stepOf}
 use Rattle.host_packet.specs.Answer.{B, N, refusedBy}
 use Rattle.host_packet.specs.Made.{sending, recordStart, laidRecord, laidBlock, laidOf, InnerStep, stepOfLaid, madeOf}
-use Rattle.host.specs.Inner.{innerOf, CursorIn, InnerIsStep}
+use Rattle.host.specs.Inner.{innerOf, innerFor, CursorIn, InnerIsStep}
+use Rattle.host_decide.proofs.Hands.{OfEntry, decided-in-hand}
 use Rattle.host_decide.proofs.Moves.{opening-cases, listing-cases, offering-cases, waiting-cases, closing-cases, sending-cases, offer-cases}
 use Rattle.bundle_records.proofs.Walks.{Goes, goes}
 
@@ -154,10 +155,10 @@ module _ (b : List ℕ) (α : Accepted b) (s : bundle.bundleRow b ≡ bundle.ser
   abbrev Same : (after : Host) → Action → InnerStep → Type 0
   Same after a i = (i .step ≡ moved b (record { action = a; host = after })) × CursorIn b (after .stage) (i .cursor)
 
-  module _ (cursor : ℕ) (before after : Host) where
-    -- the step of an action, over the body of its entry
+  module _ (hand cursor : ℕ) (before after : Host) where
+    -- the step of an action, over the body in hand
     abbrev made : Action → InnerStep
-    made a = madeOf b (checked b (entryOf a)) cursor before after a
+    made a = madeOf b (checked b hand) cursor before after a
 
     offer-same : (e : ℕ) → e < countIn b → Still (after .stage) → Same after (action.Offer e) (made (action.Offer e))
     unfolding laidOf packetOf
@@ -179,17 +180,18 @@ module _ (b : List ℕ) (α : Accepted b) (s : bundle.bundleRow b ≡ bundle.ser
       (h .1, h .2),
     )
 
-    made-same : (a : Action) → Fine cursor a (after .stage) → Same after a (made a)
+    made-same : (a : Action) → OfEntry hand a → Fine cursor a (after .stage) → Same after a (made a)
     unfolding laidOf packetOf
-    made-same action.Nothing f = (refl, f cursor)
-    made-same (action.Information code) f = (refl, f cursor)
-    made-same action.Notify f = (refl, f cursor)
-    made-same (action.Offer e) f = offer-same e (f .0) (f .1)
-    made-same (action.Block p) f =
+    made-same action.Nothing o f = (refl, f cursor)
+    made-same (action.Information code) o f = (refl, f cursor)
+    made-same action.Notify o f = (refl, f cursor)
+    made-same (action.Offer e) o f = offer-same e (f .0) (f .1)
+    made-same (action.Block p) o f =
         let at = recordStart (checked b (p .entry)) cursor (p .block) in
         let end = checked b (p .entry) .end in
         let g = goes b at end _ _ (f .3 .below) (end-inside (p .entry) (f .1)) (f .3 .reads ∙ ap whole (drop-cons (blocksAt b (p .entry)) (p .block) noBlock (f .2))) in
         let w = block-by p (f .1) (nextOf b at end) g in
+        subst (λ (i : ℕ). Same after (action.Block p) (stepOfLaid (laidBlock b (checked b i) cursor p) before after)) o
         (w .0, subst (λ (g : HostStage). CursorIn b g (laidBlock b (checked b (p .entry)) cursor p .cursor)) (sym (f .0)) (w .1))
 
   -- every move from a record that N1 leaves is such an action
@@ -236,16 +238,16 @@ module _ (b : List ℕ) (α : Accepted b) (s : bundle.bundleRow b ≡ bundle.ser
     move = decideOf (countIn b) (lastIn b (h .stage)) h reply
 
     -- over an accepted bundle the inner step is N1 or the move, and so is the step
-    inner-breaks : breaksN1 b h ≡ true → innerOf b (checkOf b) cursor h reply ≡ record { step = refusedBy (N 1) h; cursor = cursor }
+    inner-breaks : breaksN1 b h ≡ true → innerFor b (checkOf b) cursor h reply ≡ record { step = refusedBy (N 1) h; cursor = cursor }
     unfolding innerOf decisionOf
     inner-breaks w = rw (check-row b, s, breaks-is, w)
 
-    inner-moves : breaksN1 b h ≡ false → innerOf b (checkOf b) cursor h reply ≡ made cursor h (move .host) (move .action)
+    inner-moves : breaksN1 b h ≡ false → innerFor b (checkOf b) cursor h reply ≡ made (inHand (h .stage)) cursor h (move .host) (move .action)
     unfolding innerOf decisionOf breaksN1
     inner-moves w =
         let e = last-same (countIn b) (recordsOn (checkOf b)) (recordsAt b) records-is (h .stage) (neither (badStage b (h .stage)) _ w .0) in
         rw (check-row b, s, breaks-is, w)
-        (ap (λ (m : Move). made cursor h (m .host) (m .action)) (ap₂ (λ (n : ℕ) (l : Bool). decideOf n l h reply) count-is e))
+        (ap (λ (m : Move). made (inHand (h .stage)) cursor h (m .host) (m .action)) (ap₂ (λ (n : ℕ) (l : Bool). decideOf n l h reply) count-is e))
 
     step-breaks : breaksN1 b h ≡ true → stepOf b h reply ≡ refusedBy (N 1) h
     unfolding stepOf stepOn
@@ -255,15 +257,15 @@ module _ (b : List ℕ) (α : Accepted b) (s : bundle.bundleRow b ≡ bundle.ser
     unfolding stepOf stepOn
     step-moves w = rw (s, w)
 
-    same : breaksN1 b h ≡ false → CursorIn b (h .stage) cursor → Same (move .host) (move .action) (innerOf b (checkOf b) cursor h reply)
+    same : breaksN1 b h ≡ false → CursorIn b (h .stage) cursor → Same (move .host) (move .action) (innerFor b (checkOf b) cursor h reply)
     unfolding breaksN1
     same w k =
         rw (inner-moves w)
-        (made-same cursor h (move .host) (move .action) (fine-by (h .stage) refl (neither (badStage b (h .stage)) _ w .0) k))
+        (made-same (inHand (h .stage)) cursor h (move .host) (move .action) (decided-in-hand (countIn b) (lastIn b (h .stage)) h reply) (fine-by (h .stage) refl (neither (badStage b (h .stage)) _ w .0) k))
 
 -- over a refused bundle both are its row
 module _ (b : List ℕ) (h : Host) (cursor : ℕ) (reply : List ℕ) (n entry : ℕ) (s : bundle.bundleRow b ≡ bundle.B n entry) where
-  inner-refused : innerOf b (checkOf b) cursor h reply ≡ record { step = refusedBy (B n entry) h; cursor = cursor }
+  inner-refused : innerFor b (checkOf b) cursor h reply ≡ record { step = refusedBy (B n entry) h; cursor = cursor }
   unfolding innerOf
   inner-refused = rw (check-row b, s)
 
@@ -275,8 +277,8 @@ module _ (b : List ℕ) (h : Host) (cursor : ℕ) (reply : List ℕ) (n entry : 
 module _ (b : List ℕ) (h : Host) (cursor : ℕ) (reply : List ℕ) where
   abbrev pub Agrees : Type 0
   Agrees =
-      (innerOf b (checkOf b) cursor h reply .step ≡ stepOf b h reply)
-      × (CursorIn b (h .stage) cursor → CursorIn b (stepOf b h reply .host .stage) (innerOf b (checkOf b) cursor h reply .cursor))
+      (innerFor b (checkOf b) cursor h reply .step ≡ stepOf b h reply)
+      × (CursorIn b (h .stage) cursor → CursorIn b (stepOf b h reply .host .stage) (innerFor b (checkOf b) cursor h reply .cursor))
 
   -- where the cursor is right if the check passes and N1 does not hold of the stage
   pub agrees : Bytes b → (bundle.bundleRow b ≡ bundle.served → badStage b (h .stage) ≡ false → CursorIn b (h .stage) cursor) → Agrees

@@ -20,7 +20,7 @@ use Rattle.host_record.specs.declared.record.Host.{Host}
 use Rattle.host_record.specs.declared.record.HostStage.{HostStage}
 use Rattle.host_record.specs.declared.record.HostStage.the-variants.{Fresh, Opening, Listing, Offering, Waiting, Sending, Closing, Ended}
 use Rattle.host.specs.Step.{blocksAt, badStage, stepOf}
-use Rattle.host.specs.Inner.{innerOf, CursorIn, pastRecord, placeAfter, cursorOf}
+use Rattle.host.specs.Inner.{innerFor, CursorIn, pastRecord, placeAfter, cursorOf}
 use Rattle.host.proofs.inner.IsStep.{place-inside, end-inside, first-stood, agrees}
 
 -- a walk of one record or more, by what stands at its place
@@ -64,5 +64,5 @@ cursor-found b bytes s Closing w = tt
 cursor-found b bytes s (Ended e) w = tt
 
 -- the step is the inner step with that cursor
-pub step-is-inner : (b : List ℕ) (h : Host) (reply : List ℕ) → Bytes b → innerOf b (checkOf b) (cursorOf b (checkOf b) (h .stage)) h reply .step ≡ stepOf b h reply
+pub step-is-inner : (b : List ℕ) (h : Host) (reply : List ℕ) → Bytes b → innerFor b (checkOf b) (cursorOf b (checkOf b) (h .stage)) h reply .step ≡ stepOf b h reply
 step-is-inner b h reply bytes = agrees b h (cursorOf b (checkOf b) (h .stage)) reply bytes (λ s w. cursor-found b bytes s (h .stage) w) .0

@@ -7,4 +7,4 @@ returns : tie.Need-returns
 returns c = rw (c .byte-at2 .ensures, c .before .byte-at .ensures)
 
 pub are-contents-spec : {M : Type 1} → statement M
-are-contents-spec = tie.close (tie.spec (λ c κs. search needs) (λ c κs. search needs) returns)
+are-contents-spec = tie.close (tie.spec (λ c κs. search needs) (λ c κs. search needs) (λ c. search needs) returns)

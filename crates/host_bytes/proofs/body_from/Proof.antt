@@ -4,7 +4,7 @@ use Rattle.host_bytes.proofs.body_from.Statement.{statement}
 use Rattle.host_bytes.proofs.body_from.Tie as tie
 
 returns : tie.Need-returns
-returns c = rw (c .word-from3 .ensures, c .before .word-from2 .ensures, c .before .before .word-from .ensures)
+returns c = rw (c .word32-at3 .ensures, c .before .word32-at2 .ensures, c .before .before .word32-at .ensures)
 
 pub body-from-spec : {M : Type 1} → statement M
 body-from-spec =
@@ -14,9 +14,9 @@ body-from-spec =
     (λ c. search needs)
     (λ c κs. search needs)
     (λ c. search needs)
+    (λ c. search needs)
+    (λ c. search needs)
+    (λ c. search needs)
+    (λ c. search needs)
     (λ c κs. search needs)
-    (λ c. search needs)
-    (λ c. search needs)
-    (λ c. search needs)
-    (λ c. search needs)
     returns)

@@ -1,29 +1,22 @@
--- `is_kept`: by the stage. Assumes nothing.
+-- `is_kept`: the number of the stage, and both words. Assumes nothing.
+use Rattle.host_bytes.proofs.Contents.{kept-test}
 use borrow.Author.Needs.{needs}
 use Rattle.host_bytes.proofs.is_kept.Statement.{statement}
 use Rattle.host_bytes.proofs.is_kept.Tie as tie
 
-sending : tie.Need-returns-6
-sending c = rw (c .before .before .stage .given .1) (c .is-hand .ensures)
+returns : tie.Need-returns
+returns c =
+    let s = c .before .before .before .before .before in
+    let a = s .before .before .args in
+    rw (c .before .word32-at2 .ensures, c .before .before .before .word32-at .ensures, s .stage-words .ensures) (kept-test (a .q .now) (a .stage))
 
 pub is-kept-spec : {M : Type 1} → statement M
 is-kept-spec =
     tie.close
     (tie.spec
-    (λ c. search needs)
-    (λ c. search needs)
-    (λ c. search needs)
-    (λ c. search needs)
-    (λ c. search needs)
+    (λ c κs. search needs)
     (λ c. search needs)
     (λ c κs. search needs)
     (λ c. search needs)
-    (λ c. search needs)
-    (λ c. search needs)
-    (λ c. search needs)
-    (λ c. search needs)
-    (λ c. search needs)
-    (λ c. search needs)
-    sending
-    (λ c. search needs)
-    (λ c. search needs))
+    (λ c κs. search needs)
+    returns)

@@ -1,31 +1,64 @@
--- `read_host` meets its contract: the fields, where they are written again as the bytes. Assumes nothing.
-use mathlib.Core.Path.{sym, _∙_}
+-- `read_host` meets its contract: the fields, each from its bytes, where the length and the flags are a record's. Assumes nothing.
 use mathlib.Core.Bool.{true, false}
-use Rattle.host_bytes.proofs.Record.{other-length, judged}
+use Rattle.host_bytes.proofs.Record.{flags-read, fields-read, read-fits, read-lost}
 use borrow.Author.Needs.{needs}
 use Rattle.host_bytes.proofs.read_host.Statement.{statement}
 use Rattle.host_bytes.proofs.read_host.Tie as tie
 
 returns : tie.Need-returns
-returns c = c .lost-host .ensures ∙ other-length _ (c .before .if1 .taken)
+returns c =
+    let p4 = c .before in
+    let p3 = p4 .before in
+    let t0 = p3 .before in
+    let s = t0 .before in
+    let w2 = s .before in
+    let t = w2 .before in
+    let f = t .before in
+    let y = f .before in
+    let x = y .before in
+    let e = x .before in
+    let n = e .before in
+    let b = n .before .before .args .b .now in
+    read-fits b _
+    (flags-read b (n .byte-at .result) (e .word32-at .result) (x .byte-at2 .result) (y .byte-at3 .result) true (f .are-flags .result) (n .byte-at .ensures) (e .word32-at .ensures) (x .byte-at2 .ensures) (y .byte-at3 .ensures) (f .are-flags .ensures)
+    (t .if1 .taken))
+    (fields-read b _ _ _ _ (n .byte-at .result) (e .word32-at .result) (w2 .word32-at2 .result) (x .byte-at2 .result) (y .byte-at3 .result) _ (t0 .byte-at4 .ensures) (s .stage-in .ensures) (n .byte-at .ensures)
+    (e .word32-at .ensures) (w2 .word32-at2 .ensures) (p3 .word32-at3 .ensures) (p4 .word32-at4 .ensures) (c .word32-at5 .ensures) (x .byte-at2 .ensures) (y .byte-at3 .ensures))
 
 returns-2 : tie.Need-returns-2
 returns-2 c =
-    judged (c .before .before .before .before .before .args .b .now) (c .before .before .host-in .result) true (c .before .before .host-in .ensures) (sym (c .if2 .taken) ∙ c .before .is-tidy .ensures)
-
-returns-3 : tie.Need-returns-3
-returns-3 c =
-    c .lost-host2 .ensures
-    ∙ judged (c .before .before .before .before .before .before .args .b .now) (c .before .before .before .host-in .result) false (c .before .before .before .host-in .ensures) (sym (c .before .if2 .left) ∙ c .before .before .is-tidy .ensures)
+    let t = c .before in
+    let f = t .before in
+    let y = f .before in
+    let x = y .before in
+    let e = x .before in
+    let n = e .before in
+    let b = n .before .before .args .b .now in
+    read-lost b _
+    (flags-read b (n .byte-at .result) (e .word32-at .result) (x .byte-at2 .result) (y .byte-at3 .result) false (f .are-flags .result) (n .byte-at .ensures) (e .word32-at .ensures) (x .byte-at2 .ensures) (y .byte-at3 .ensures) (f .are-flags .ensures)
+    (t .if1 .left))
+    (c .lost-host .ensures)
 
 pub read-host-spec : {M : Type 1} → statement M
 read-host-spec =
     tie.close
     (tie.spec
     (λ c κs. search needs)
+    (λ c. search needs)
+    (λ c κs. search needs)
+    (λ c κs. search needs)
+    (λ c κs. search needs)
+    (λ c κs. search needs)
+    (λ c. search needs)
+    (λ c κs. search needs)
+    (λ c κs. search needs)
+    (λ c κs. search needs)
+    (λ c. search needs)
+    (λ c κs. search needs)
+    (λ c. search needs)
+    (λ c κs. search needs)
+    (λ c. search needs)
+    (λ c κs. search needs)
+    (λ c κs. search needs)
     returns
-    (λ c κs. search needs)
-    (λ c κs. search needs)
-    (λ c κs. search needs)
-    returns-2
-    returns-3)
+    returns-2)

@@ -1,4 +1,4 @@
--- `store_hand`: the bytes of the block, and those of the cursor, are copied to the end. Assumes nothing.
+-- `store_hand`: the words of the block, and the bytes of the cursor, at the end. Assumes nothing.
 use mathlib.Core.Path.{refl}
 use Rattle.host_bytes.proofs.Contents.{hand-stored}
 use borrow.Author.Tests.{eq-eqb, ne-eqb}
@@ -8,13 +8,14 @@ use Rattle.host_bytes.proofs.store_hand.Tie as tie
 
 returns : tie.Need-returns
 returns c =
-    let x = c .before .before .copy2 in
-    let s = c .before .before .before .before .before .before .before .copy in
-    let b = c .before .before .before .before .before .before .before .before .before .before .before in
-    let l = b .before .before .if1 .taken in
-    let a = b .before .before .before .before .args in
-    rw (eq-eqb _ _ l) (hand-stored (a .q .now) (b .before .numbered .result) (s .last .0) (b .bytes64 .result) (x .last .0) (a .p) (a .cursor) 8 8 refl refl l (b .before .numbered .ensures)
-    (b .bytes64 .ensures) (s .ensures) (x .ensures))
+    let x = c .before .before in
+    let b = x .before .before .before in
+    let v = b .before .before .before in
+    let u = v .before .before .before .before in
+    let t = u .before .before in
+    let a = t .before .before .args in
+    rw (eq-eqb _ _ (t .if1 .taken)) (hand-stored (a .q .now) (u .put32 .last .0) (v .put322 .last .0) (b .bytes64 .result) (x .copy .last .0) (a .entry) (a .block) (a .cursor) 8 refl (t .if1 .taken) (u .put32 .ensures) (v .put322 .ensures)
+    (b .bytes64 .ensures) (x .copy .ensures))
 
 returns-2 : tie.Need-returns-2
 returns-2 c = rw (ne-eqb _ _ (c .if1 .left))
@@ -24,13 +25,8 @@ store-hand-spec =
     tie.close
     (tie.spec
     (λ c κs. search needs)
+    (λ c. search needs)
     (λ c κs. search needs)
-    (λ c. search needs)
-    (λ c. search needs)
-    (λ c. search needs)
-    (λ c. search needs)
-    (λ c. search needs)
-    (λ c. search needs)
     (λ c κs. search needs)
     (λ c. search needs)
     (λ c. search needs)

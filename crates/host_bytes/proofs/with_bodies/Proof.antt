@@ -4,6 +4,7 @@ use mathlib.Core.List.{_++_, append-nil}
 use Prim.Native.Nat.{_+_, _*_, _-_, _≤_}
 use native.Mathlib.Omega.{arith}
 use lib.ListN.{length, take}
+use Rattle.bundle_layout.specs.Layout.{OFFER-LIMIT}
 use Rattle.host_bytes.specs.Layout.{BODY-SIZE, BODIES-START, CONTENTS-SIZE, bodiesBytes}
 use Rattle.host_bytes.proofs.Contents.{body-written, written}
 use borrow.Author.Needs.{needs}
@@ -11,28 +12,29 @@ use Rattle.host_bytes.proofs.with_bodies.Statement.{statement}
 use Rattle.host_bytes.proofs.with_bodies.Tie as tie
 
 abbrev Inv-loop : tie.InvT-loop
-Inv-loop out₀ table i₀ out i = (i ≤ 7) × (length out ≡ CONTENTS-SIZE) × (take (BODIES-START + i * BODY-SIZE) out ≡ take BODIES-START out₀ ++ bodiesBytes (take i table))
+Inv-loop out₀ table i₀ out i = (i ≤ OFFER-LIMIT) × (length table ≡ OFFER-LIMIT) × (length out ≡ CONTENTS-SIZE) × (take (BODIES-START + i * BODY-SIZE) out ≡ take BODIES-START out₀ ++ bodiesBytes (take i table))
 
 abbrev μ-loop : tie.MeasureT-loop
-μ-loop out₀ table i₀ out i = 7 - i
+μ-loop out₀ table i₀ out i = OFFER-LIMIT - i
 
 loop-holds : tie.Need-loop-holds Inv-loop μ-loop
 unfolding bodiesBytes
-loop-holds c = (search needs, search needs, sym (append-nil _))
+loop-holds c = (search needs, search needs, search needs, sym (append-nil _))
 
 loop-again : tie.Need-loop-again Inv-loop μ-loop
 loop-again c =
-    let l = c .before .before .before .before .before .before .before .loop in
-    let a = c .before .before .before .before .before .before .before .before .args in
-    let at = BODIES-START + l .i * BODY-SIZE in
-    let p = c .before .before .before .before .body-bytes in
-    let w = body-written (l .out) (take BODIES-START (a .t1)) (p .result) (c .before .copy .last .0) (a .t2) (l .i) (at + BODY-SIZE - at) (omega arith) (search needs) (l .inv .1) (omega arith) (p .ensures) (c .before .copy .ensures) (l .inv .2) in
-    (omega arith, w .0, w .1)
+    let z = c .before in
+    let y = z .before .before .before in
+    let x = y .before .before .before in
+    let l = x .before .before .before .before .loop in
+    let a = x .before .before .before .before .before .args in
+    let w = body-written (l .out) (take BODIES-START (a .t1)) (x .put32 .last .0) (y .put322 .last .0) (z .put323 .last .0) (a .t2) (l .i) (omega arith) (l .inv .1) (l .inv .2) (x .put32 .ensures) (y .put322 .ensures) (z .put323 .ensures) (l .inv .3) in
+    (omega arith, l .inv .1, w .0, w .1)
 
 returns : tie.Need-returns Inv-loop μ-loop
 returns c =
     let l = c .before .loop in
-    let a = c .before .before .args in written (l .out) (take BODIES-START (a .t1)) (a .t2) (l .i) (omega arith) (search needs) (l .inv .2)
+    let a = c .before .before .args in written (l .out) (take BODIES-START (a .t1)) (a .t2) (l .i) (omega arith) (l .inv .1) (l .inv .3)
 
 pub with-bodies-spec : {M : Type 1} → statement M
 with-bodies-spec =
@@ -43,12 +45,13 @@ with-bodies-spec =
     loop-holds
     (λ c. search needs)
     (λ c. search needs)
+    (λ c. search needs)
+    (λ c. search needs)
+    (λ c. search needs)
     (λ c κs. search needs)
     (λ c. search needs)
     (λ c. search needs)
-    (λ c. search needs)
-    (λ c. search needs)
-    (λ c. search needs)
+    (λ c κs. search needs)
     (λ c. search needs)
     (λ c. search needs)
     (λ c κs. search needs)

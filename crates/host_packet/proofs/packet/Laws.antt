@@ -5,7 +5,7 @@ use mathlib.Core.List.{List, [], _++_, append-nil}
 use Prim.Native.Nat.{ℕ, _+_, _-_, _≤_}
 use native.Mathlib.Omega.{arith}
 use lib.Dec.{eqb}
-use lib.Seq.{take-at, drop-length}
+use lib.Seq.{take-at}
 use Rattle.wire.specs.Bytes.{copyOf}
 use Rattle.wire.proofs.words.Copies.{copy-same}
 use lib.ListN.{length, take, drop, replicate, length-append, length-take, length-drop, length-replicate, drop-of-length-le}
@@ -13,10 +13,6 @@ use Rattle.wire.specs.declared.address.RegionAddress.{RegionAddress}
 use Rattle.wire_content.specs.Content.{headOf, contentBytes, cleared}
 use Rattle.host_record.specs.Record.{sequenceOf}
 use Rattle.host_packet.specs.Packet.{flagsOf, blockBytes}
-
--- all bytes are cleared
-pub clear-all : (d l : List ℕ) (i : ℕ) → l ≡ replicate i 0 ++ drop i d → i ≡ length d → l ≡ replicate (length d) 0
-clear-all d l i e p = rw (p, drop-length) at e ∙ append-nil _
 
 -- the k bytes behind the first `at` are cleared
 pub clear-rest : (q front last : List ℕ) (at k m : ℕ) → m ≡ k → length q ≡ at + k → take at q ≡ front → last ≡ replicate (length (take m (drop at q))) 0

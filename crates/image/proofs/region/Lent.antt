@@ -1,15 +1,15 @@
--- A part of a buffer that is lent and comes back, and a fill, byte by byte. Assumes nothing.
+-- A part of a buffer that is lent and comes back. Assumes nothing.
 use mathlib.Core.Path.{_≡_, refl, sym, _∙_}
 use mathlib.Core.Bool.{Bool, true, false}
-use mathlib.Core.List.{List, _++_, append-nil}
+use mathlib.Core.List.{List, _++_}
 use Prim.Native.Nat.{ℕ, _+_, _-_, _≤_, min}
 use native.Mathlib.Decide.{decLe}
 use native.Mathlib.Omega.{arith}
 use borrow.Author.Tests.{leb-true, leb-false, le-leb, lt-leb}
 use lib.Dec.{leb}
-use lib.ListN.{length, take, drop, replicate, length-drop, drop-of-length-le}
+use lib.ListN.{length, take, drop, length-drop, drop-of-length-le}
 use lib.Seq.{take-all, take-nil, drop-length, drop-drop}
-use Rattle.image.specs.Region.{within, blank}
+use Rattle.image.specs.Region.{within}
 
 -- the n bytes from a on are lent, and come back changed by f
 pub lent : (a n : ℕ) (f : List ℕ → List ℕ) (s l : List ℕ) → l ≡ f (take (a + n - a) (drop a s)) → take a s ++ (l ++ drop (a + n - a) (drop a s)) ≡ within a n f s
@@ -17,11 +17,6 @@ unfolding within
 lent a n f s l e =
     let m : a + n - a ≡ n = omega arith in
     rw (e, m, drop-drop)
-
--- all of them are filled
-pub filled : (d l : List ℕ) (i : ℕ) → l ≡ replicate i 0xFF ++ drop i d → i ≡ length d → l ≡ blank (length d)
-unfolding blank
-filled d l i e p = rw (p, drop-length) at e ∙ append-nil _
 
 -- an address is at most what n bytes leave where address and n bytes are at most the whole
 pub rest : (a n len : ℕ) → n ≤ len → leb a (len - n) ≡ leb (a + n) len

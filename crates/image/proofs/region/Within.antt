@@ -1,6 +1,6 @@
 -- A change inside a region of a buffer: what is there afterwards, and what is left alone. Assumes nothing.
 use mathlib.Core.Path.{_≡_, refl, sym, ap, _∙_}
-use mathlib.Core.Bool.{Bool, true, false, _&&_, true≢false}
+use mathlib.Core.Bool.{Bool, true, false, _&&_}
 use mathlib.Core.Logic.{_⊎_, inl, inr}
 use mathlib.Core.List.{List, _++_, append-assoc}
 use Prim.Native.Nat.{ℕ, _+_, _-_, _^_, _≤_, _<_}
@@ -10,6 +10,7 @@ use lib.Dec.{leb, ltb}
 use lib.ListN.{length, getD, take, drop, length-append, length-take, length-drop, length-replicate, List·getD-append, take-append-drop}
 use lib.Seq.{take-at, drop-at, drop-append-le, getD-append-add, getD-take, getD-drop, ext-getD, take-take, take-add, drop-drop}
 use Rattle.wire.specs.declared.address.RegionAddress.{RegionAddress}
+use Rattle.wire.proofs.Tests.{both}
 use Rattle.image.specs.Region.{placeOf, isInside, holds, within, regionBytes, blank, put, eraseOf, writeOf}
 use Rattle.image.specs.declared.region.Region.{Region}
 
@@ -36,6 +37,19 @@ put-length at bytes l h = simp (length-append, length-take, length-drop) (omega 
 pub region-byte : (r : Region) (s : List ℕ) (i : ℕ) → i < r .len → getD (regionBytes r s) i 0 ≡ getD s (r .base .0 + i) 0
 unfolding regionBytes
 region-byte r s i h = getD-take (r .len) (drop (r .base .0) s) i 0 h ∙ getD-drop (r .base .0) s i 0
+
+-- where every byte outside one region stays, so do the bytes of a region that does not overlap it
+pub kept-apart : (r r′ : Region) (s s′ : List ℕ) → length s′ ≡ length s → ((j : ℕ) → (j < r .base .0) ⊎ (r .base .0 + r .len ≤ j) → getD s′ j 0 ≡ getD s j 0)
+    → r′ .base .0 + r′ .len ≤ length s → Apart r r′ → regionBytes r′ s′ ≡ regionBytes r′ s
+kept-apart r r′ s s′ l h i a =
+    let n = region-length r′ s′ (omega arith) in
+    ext-getD 0 _ _ (n ∙ sym (region-length r′ s i))
+    (λ j q. let q′ : j < r′ .len = omega arith in
+    region-byte r′ s′ j q′ ∙ h (r′ .base .0 + j) (out j q′ a) ∙ sym (region-byte r′ s j q′))
+  where
+    out : (j : ℕ) → j < r′ .len → Apart r r′ → (r′ .base .0 + j < r .base .0) ⊎ (r .base .0 + r .len ≤ r′ .base .0 + j)
+    out j q (inl z) = inr (omega arith)
+    out j q (inr z) = inl (omega arith)
 
 -- only what becomes of the region's own bytes counts
 pub within-same : (r : Region) (f g : List ℕ → List ℕ) (s : List ℕ) → f (regionBytes r s) ≡ g (regionBytes r s) → within (r .base .0) (r .len) f s ≡ within (r .base .0) (r .len) g s
@@ -91,20 +105,7 @@ module _ (r : Region) (f : List ℕ → List ℕ) (s : List ℕ) (h : r .base .0
 
   -- so do the bytes of a region that does not overlap it
   pub within-apart : (r′ : Region) → r′ .base .0 + r′ .len ≤ length s → Apart r r′ → regionBytes r′ (within (r .base .0) (r .len) f s) ≡ regionBytes r′ s
-  within-apart r′ h′ a =
-      let n = region-length r′ (within (r .base .0) (r .len) f s) (omega (arith, within-length)) in
-      ext-getD 0 _ _ (n ∙ sym (region-length r′ s h′))
-      (λ i q. let q′ : i < r′ .len = omega arith in
-      region-byte r′ _ i q′ ∙ within-out (r′ .base .0 + i) (out i q′ a) ∙ sym (region-byte r′ s i q′))
-    where
-      out : (i : ℕ) → i < r′ .len → Apart r r′ → (r′ .base .0 + i < r .base .0) ⊎ (r .base .0 + r .len ≤ r′ .base .0 + i)
-      out i q (inl z) = inr (omega arith)
-      out i q (inr z) = inl (omega arith)
-
--- both tests of a guard
-pub both : (a b : Bool) → (a && b) ≡ true → (a ≡ true) × (b ≡ true)
-both true b e = (refl, e)
-both false b e = absurd (true≢false (sym e))
+  within-apart r′ h′ a = kept-apart r r′ s _ within-length within-out h′ a
 
 module _ (r : Region) (n : ℕ) where
   -- a guard that lets pass says where the region lies

@@ -1,14 +1,14 @@
--- `inspect::print_entries`: the place is one of seven. Assumes nothing.
+-- `inspect::print_entries`: the place is an entry's of the table. Assumes nothing.
 use Prim.Native.Nat.{_-_, _≤_}
 use borrow.Author.Needs.{needs}
 use Rattle.inspect.proofs.print_entries.Statement.{statement}
 use Rattle.inspect.proofs.print_entries.Tie as tie
 
 abbrev Inv-loop : tie.InvT-loop
-Inv-loop count table i₀ i = i ≤ 7
+Inv-loop count table n i₀ i = i ≤ 7
 
 abbrev μ-loop : tie.MeasureT-loop
-μ-loop count table i₀ i = 7 - i
+μ-loop count table n i₀ i = 7 - i
 
 pub print-entries-spec : {M : Type 1} → statement M
 print-entries-spec =
@@ -16,7 +16,6 @@ print-entries-spec =
     (tie.spec
     Inv-loop
     μ-loop
-    (λ c. search needs)
     (λ c. search needs)
     (λ c. search needs)
     (λ c. search needs)

@@ -1,14 +1,16 @@
 -- `run` meets its contract: its first row, or the end of the run; and demand 3. Assumes nothing.
 use mathlib.Core.Path.{_≡_, sym, ap, _∙_}
 use mathlib.Core.Bool.{false}
-use Prim.Native.Nat.{_<_}
+use mathlib.Core.List.{List}
+use Prim.Native.Nat.{ℕ, _<_}
 use borrow.Author.Tests.{eq-eqb, ne-eqb}
 use Rattle.bundle_layout.specs.Rows as rows
 use Rattle.bundle.specs.Contents.{Contents}
 use Rattle.device.specs.Refusals.{breaksD1}
 use Rattle.host_record.specs.Record.{Reported}
-use Rattle.bundle.proofs.Told.{fine-row, bad-row, check-row}
-use Rattle.update.specs.Answer.{served, B, D, ended}
+use Rattle.bundle_layout.proofs.Numbers.{refused-row, fine-row}
+use Rattle.bundle.proofs.Told.{check-row}
+use Rattle.update.specs.Answer.{served, B, D, Ran, ended}
 use Rattle.update.specs.Demand.{GoodBodies, Premise}
 use Rattle.update.proofs.Ranges.{device-fits}
 use Rattle.update.proofs.Answers.{bundle-refuses, d1-refuses, d2-refuses, no-row}
@@ -22,25 +24,33 @@ row-is : (c : tie.After-check) → rows.bundleRow (c .before .before .before .ar
 row-is c = sym (check-row (c .before .before .before .args .bundle .now)) ∙ sym (ap (λ (x : Contents). x .row) (c .check .ensures))
 
 -- no row refuses the bundle
-served-is : (c : tie.Then1) → rows.bundleRow (c .before .before .before .before .before .args .bundle .now) ≡ rows.served
+served-is : (c : tie.Else1) → rows.bundleRow (c .before .before .before .before .before .args .bundle .now) ≡ rows.served
 served-is c =
     let k = c .before .before .check in
-    row-is (c .before .before) ∙ fine-row (k .result .verdict) (k .result .place) (sym (c .before .row-number .ensures) ∙ c .if1 .taken)
+    row-is (c .before .before) ∙ fine-row (k .result .verdict) (k .result .place) (sym (c .before .is-refused .ensures) ∙ c .if1 .left)
 
 returns : tie.Need-returns
 returns c =
+    let a = c .before .before .before .before .before .before .args in
+    let k = c .before .before .before .check in
+    refused-answered (a .bundle .now) (a .token) (a .device) (a .staging .now) _ (B _ _) tt (ap (λ (f : List ℕ → Ran). f (a .staging .now)) (c .refused .ensures))
+    (bundle-refuses (a .bundle .now) (a .token) (a .device) (a .staging .now) _ _
+    (row-is (c .before .before .before) ∙ refused-row (k .result .verdict) (k .result .place) (sym (c .before .before .is-refused .ensures) ∙ c .before .if1 .taken)))
+
+returns-2 : tie.Need-returns-2
+returns-2 c =
     let a = c .before .before .before .before .before .before .before .before .args in
-    refused-answered (a .bundle .now) (a .token) (a .device) (a .staging .now) _ (D 1) tt (c .refused .ensures (a .staging .now))
+    refused-answered (a .bundle .now) (a .token) (a .device) (a .staging .now) _ (D 1) tt (ap (λ (f : List ℕ → Ran). f (a .staging .now)) (c .refused2 .ensures))
     (d1-refuses (a .bundle .now) (a .token) (a .device) (a .staging .now) (served-is (c .before .before .before)) (sym (c .before .before .breaks-d1 .ensures) ∙ c .before .if2 .taken))
 
 -- D1 does not refuse the device
 fine : (c : tie.Else2) → breaksD1 (c .before .before .before .before .before .before .before .args .device) ≡ false
 fine c = sym (c .before .breaks-d1 .ensures) ∙ c .if2 .left
 
-returns-2 : tie.Need-returns-2
-returns-2 c =
+returns-3 : tie.Need-returns-3
+returns-3 c =
     let a = c .before .before .before .before .before .before .before .before .before .before .args in
-    refused-answered (a .bundle .now) (a .token) (a .device) (a .staging .now) _ (D 2) tt (c .refused2 .ensures (a .staging .now))
+    refused-answered (a .bundle .now) (a .token) (a .device) (a .staging .now) _ (D 2) tt (ap (λ (f : List ℕ → Ran). f (a .staging .now)) (c .refused3 .ensures))
     (d2-refuses (a .bundle .now) (a .token) (a .device) (a .staging .now) (served-is (c .before .before .before .before .before)) (fine (c .before .before .before)) (ne-eqb _ _ (c .before .if3 .taken)))
 
 run-to-end-requires : tie.Need-run-to-end-requires
@@ -66,21 +76,14 @@ premise c good =
       good = good;
     }
 
-returns-3 : tie.Need-returns-3
-returns-3 c =
+returns-4 : tie.Need-returns-4
+returns-4 c =
     let a = c .before .before .before .before .before .before .before .before .before .before .before .before .before .before .before .before .args in
     let k = c .before .before .before .before .before .run-to-end in
     let e = c .before .before .before .before .before .before .before in
     served-answered (a .bundle .now) (a .token) (a .device) (a .staging .now) _ (premise e)
     (ap (λ (x : Reported). record { row = served; report = x; device = k .result .device; staging = k .last .1 .1 .1 .1 .0 }) (c .report .ensures) ∙ ap ended (sym (k .ensures .1)))
     (no-row (a .bundle .now) (a .token) (a .device) (a .staging .now) (served-is (e .before .before .before .before)) (fine (e .before .before)) (eq-eqb _ _ (e .if3 .left)))
-
-returns-4 : tie.Need-returns-4
-returns-4 c =
-    let a = c .before .before .before .before .before .before .args in
-    let k = c .before .before .before .check in
-    refused-answered (a .bundle .now) (a .token) (a .device) (a .staging .now) _ (B _ _) tt (c .refused3 .ensures (a .staging .now))
-    (bundle-refuses (a .bundle .now) (a .token) (a .device) (a .staging .now) _ _ (row-is (c .before .before .before) ∙ bad-row (k .result .verdict) (k .result .place) (λ z. c .before .if1 .left (c .before .before .row-number .ensures ∙ z))))
 
 pub run-spec : {M : Type 1} → statement M
 run-spec =
@@ -89,14 +92,14 @@ run-spec =
     (λ c κs. search needs)
     (λ c κs. search needs)
     (λ c κs. search needs)
-    (λ c κs. search needs)
     returns
-    (λ c. search needs)
+    (λ c κs. search needs)
     (λ c κs. search needs)
     returns-2
+    (λ c. search needs)
+    (λ c κs. search needs)
+    returns-3
     run-to-end-requires
     (λ c κs. search needs)
-    (λ c κs. search needs)
     (λ c. search needs)
-    returns-3
     returns-4)

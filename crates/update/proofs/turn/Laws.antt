@@ -1,5 +1,5 @@
 -- One turn of both ends is one exchange of the run, and the run is at its last where the host has ended. Assumes nothing.
-use Prim.Native.Nat.{ℕ, suc, _+_, _-_, _<_}
+use Prim.Native.Nat.{ℕ, suc, _+_, _-_, _≤_, _<_}
 use mathlib.Core.Path.{_≡_, refl, sym, ap, subst, _∙_}
 use mathlib.Core.Logic.{_⊎_, inl, inr}
 use mathlib.Core.Bool.{Bool, true, false, cond, true≢false}
@@ -7,6 +7,7 @@ use mathlib.Core.List.{List, [], _∷_}
 use native.Mathlib.Omega.{arith}
 use lib.Dec.{eqb, leb}
 use lib.ListN.{length, take, drop, length-take}
+use lib.Seq.{take-all}
 use Rattle.wire.specs.Bytes.{Bytes}
 use Rattle.wire.specs.Codes.{NOTIFY-ON-READY, INFO-START-ENTIRE-TRANSACTION, INFO-END-OFFER-LIST}
 use Rattle.wire_offer.specs.Kind.{Kind, offer, information, extended, kindIn}
@@ -14,15 +15,18 @@ use Rattle.wire_content.specs.Head.{headIn}
 use Rattle.wire_content.specs.declared.head.ContentHead.{ContentHead}
 use Rattle.bundle_layout.specs.Layout.{countIn}
 use Rattle.bundle_layout.specs.Rows as rows
-use Rattle.bundle.specs.Contents.{checkOf}
+use Rattle.bundle_layout.specs.declared.Checked.{Checked}
+use Rattle.bundle.specs.Contents.{Contents, checkOf, toldChecked}
 use Rattle.bundle.proofs.Accepted.{accepted}
+use Rattle.bundle.proofs.Told.{check-row}
 use Rattle.device_session.specs.Stage.{isOpen}
+use Rattle.device_session.specs.Effect.{noReplies}
+use Rattle.device_session.specs.declared.effect.Replies.{Replies}
 use Rattle.device_session.specs.declared.effect.Effect.{Effect}
 use Rattle.device_offering.specs.Offer.{onOffer}
 use Rattle.device_offering.specs.Signal.{onInformation, onNotify, onExtended}
 use Rattle.device_receiving.specs.Content.{isLast}
 use Rattle.device_receiving.specs.Receive.{onBlock, onVerdict}
-use Rattle.device.specs.Record.{sessionOf}
 use Rattle.device.specs.Refusals.{Row, served, D, Outcome, told, refusalOf, unlessRefused, servedWith}
 use Rattle.device.specs.Offer.{onKind, offerEntry}
 use Rattle.device.specs.Content.{sessionComponent, contentVerdict, received, contentEntry}
@@ -38,11 +42,15 @@ use Rattle.device_receiving.specs.declared.checks.ContentVerdict.the-variants.{
 use Rattle.device_receiving.specs.declared.content.Taken.{Taken}
 use Rattle.wire.proofs.Chain.{either}
 use Rattle.host_record.specs.Record.{freshHost, hasEnded}
+use Rattle.host_record.specs.Fits.{bodyOf, inHand}
 use Rattle.host_decide.specs.Decide.{decideOf}
+use Rattle.host_packet.specs.Packet.{PACKET-SIZE}
 use Rattle.host_packet.specs.Answer.{Step}
+use Rattle.host_packet.specs.Made.{InnerStep}
 use Rattle.host.specs.Step.{lastIn, stepOf}
-use Rattle.host.specs.Inner.{CursorIn}
+use Rattle.host.specs.Inner.{innerOf, lent, CursorIn}
 use Rattle.host_record.specs.declared.record.Host.{Host}
+use Rattle.host_record.specs.declared.fits.Body.{Body}
 use Rattle.host_decide.specs.declared.Move.{Move}
 use Rattle.host.proofs.inner.IsStep.{inner-is-step}
 use Rattle.update.specs.declared.turn.BothEnds.{BothEnds}
@@ -54,7 +62,7 @@ use Rattle.update.proofs.Talks.{deliver-host, run-next, ended-last}
 
 -- the first that is sent is the reply, where one is due; a READY follows only a reply
 abbrev First : Outcome → Type 0
-First a = heard (a .sent) ≡ cond (a .due) (a .reply) []
+First a = heard (a .sent) ≡ cond (a .replies .due) (a .replies .reply) []
 
 module _ (d : Device) where
   -- of what a packet on the offer channel does
@@ -62,7 +70,7 @@ module _ (d : Device) where
   EffectFirst e = First (servedWith d (d .components) e)
 
   -- of a notify on ready
-  notify-first : (token : ℕ) (b : Bool) (o : Owed) → EffectFirst (onNotify (sessionOf d) token b o)
+  notify-first : (token : ℕ) (b : Bool) (o : Owed) → EffectFirst (onNotify (d .session) token b o)
   notify-first token false o = refl
   notify-first token true owed.Nothing = refl
   notify-first token true (owed.Token t) = refl
@@ -73,10 +81,10 @@ module _ (d : Device) where
   kind-first (offer o) = refl
   kind-first (information s) =
       either EffectFirst (eqb (s .code) INFO-START-ENTIRE-TRANSACTION) _ _ refl (either EffectFirst (leb (s .code) INFO-END-OFFER-LIST) _ _ refl refl)
-  kind-first (extended s) = either EffectFirst (eqb (s .code) NOTIFY-ON-READY) _ _ (notify-first (s .token) (isOpen (d .stage)) (d .owed)) refl
+  kind-first (extended s) = either EffectFirst (eqb (s .code) NOTIFY-ON-READY) _ _ (notify-first (s .token) (isOpen (d .session .stage)) (d .session .owed)) refl
 
   -- of a content packet
-  content-first : (c : ContentHead) (bytes s : List ℕ) (v : ContentVerdict) → First (received d (onVerdict (sessionComponent d) (sessionOf d) c bytes s v))
+  content-first : (c : ContentHead) (bytes s : List ℕ) (v : ContentVerdict) → First (received d (onVerdict (sessionComponent d) (d .session) c bytes s v))
   unfolding onBlock
   content-first c bytes s (Refuse status) = refl
   content-first c bytes s (Take k) = either (λ (t : Taken). First (received d t)) (isLast c) _ _ refl refl
@@ -92,22 +100,38 @@ module _ (d : Device) where
   serve-first Offer staging p = unless-first (refusalOf 16 d (length staging) (length p)) (onKind d (kindIn p)) (kind-first (kindIn p))
   serve-first Content staging p =
       let v = contentVerdict d (headIn p) in
-      unless-first (refusalOf 60 d (length staging) (length p)) (received d (onVerdict (sessionComponent d) (sessionOf d) (headIn p) (drop 8 p) staging v)) (content-first (headIn p) (drop 8 p) staging v)
+      unless-first (refusalOf 60 d (length staging) (length p)) (received d (onVerdict (sessionComponent d) (d .session) (headIn p) (drop 8 p) staging v)) (content-first (headIn p) (drop 8 p) staging v)
 
--- the first 16 bytes of a packet
-pub first-16 : (p : List ℕ) → length p ≡ 60 → 16 ≡ length (take 16 p)
-first-16 p l = simp length-take (omega arith)
+-- the first n bytes of a list
+pub first-length : (n : ℕ) (p : List ℕ) → n ≤ length p → n ≡ length (take n p)
+first-length n p l = simp length-take (omega arith)
+
+-- what is heard of a reply of 16 bytes
+pub heard-most : (due : Bool) (reply : List ℕ) → length reply ≡ 16 → cond due 16 0 ≤ length reply
+heard-most true reply l = omega arith
+heard-most false reply l = omega arith
+
+heard-is : (due : Bool) (reply : List ℕ) → length reply ≡ 16 → take (cond due 16 0) reply ≡ cond due reply []
+heard-is true reply l = take-all 16 reply (omega arith)
+heard-is false reply l = refl
+
+-- the step on it, laid into 60 lent bytes
+pub stepped : (b p : List ℕ) (count : ℕ) (hand : Body) (e : BothEnds) (n : ℕ) (i : InnerStep) → length p ≡ PACKET-SIZE → length (e .replies .reply) ≡ 16
+    → n ≡ cond (e .replies .due) 16 0
+    → i ≡ lent p (e .host) (e .cursor) (innerOf b rows.served count hand (e .cursor) (e .host) (take n (e .replies .reply)))
+    → i ≡ stepFrom b count hand e
+stepped b p count hand e n i l m z h = h ∙ rw (l, z, heard-is (e .replies .due) (e .replies .reply) m)
 
 module _ (h : Host) (cursor : ℕ) (e : BothEnds) where
   -- nothing is sent
   pub nothing-delivered : (staging : List ℕ)
-      → Delivered [] h cursor e staging (record { host = h; device = e .device; due = e .due; reply = e .reply; cursor = cursor }) staging
+      → Delivered [] h cursor e staging (record { host = h; device = e .device; replies = e .replies; cursor = cursor }) staging
   unfolding deliver
   nothing-delivered staging = (refl, λ trace. (trace, refl))
 
   -- both ends after an answer
   abbrev afterOf : Answer → BothEnds
-  afterOf a = record { host = h; device = a .device; due = a .due; reply = a .reply; cursor = cursor }
+  afterOf a = record { host = h; device = a .device; replies = a .replies; cursor = cursor }
 
   -- a packet on its channel is answered
   pub answer-delivered : (p staging staging′ : List ℕ) (channel : Channel) (a : Answer) (r : BothEnds) → channelOf p ≡ channel
@@ -130,6 +154,22 @@ module _ (h : Host) (cursor : ℕ) (e : BothEnds) where
                 ∙ rw (serve-first (e .device) channel staging p, ← t, ← s),
           )
 
+-- the host's step and a turn, with the count and the body in hand that the check answers
+module _ (b : List ℕ) (e : BothEnds) where
+  abbrev handOf : Contents → Body
+  handOf c = bodyOf c (inHand (e .host .stage))
+
+  abbrev stepOn : InnerStep
+  stepOn = stepFrom b (checkOf b .count) (handOf (checkOf b)) e
+
+  abbrev pub TurnedOn : (s : List ℕ) → BothEnds → (s : List ℕ) → Type 0
+  TurnedOn s e′ s′ = Turned b (checkOf b .count) (handOf (checkOf b)) e s e′ s′
+
+  pub turned-on : (c : Checked) (hand : Body) (s : List ℕ) (e′ : BothEnds) (s′ : List ℕ) → toldChecked c ≡ checkOf b → hand ≡ handOf (toldChecked c)
+      → Turned b (c .count) hand e s e′ s′ → TurnedOn s e′ s′
+  turned-on c hand s e′ s′ z h t =
+      subst (λ (x : Contents). Turned b (x .count) (handOf x) e s e′ s′) z (subst (λ (y : Body). Turned b (c .count) y e s e′ s′) h t)
+
 -- what the turns keep: a run has come to these ends, the host is ready, and its cursor is right
 pub record Reached (b : List ℕ) (token : ℕ) (d : Device) (staging : List ℕ) (e : BothEnds) (staging′ : List ℕ) : Type 0 where
   pub turns : ℕ
@@ -138,26 +178,29 @@ pub record Reached (b : List ℕ) (token : ℕ) (d : Device) (staging : List ℕ
   pub cursor : CursorIn b (e .host .stage) (e .cursor)
 
 -- the turns that are left, and one more until the host has ended
-abbrev pub leftOf : (b : List ℕ) → (ended : Bool) → Host → ℕ
-leftOf b ended h = cond ended 0 (suc (boundOf b - h .packets))
+abbrev pub leftOf : (b : List ℕ) → Host → ℕ
+leftOf b h = cond (hasEnded (h .stage)) 0 (suc (boundOf b - h .packets))
 
 module _ (b : List ℕ) (token : ℕ) (d : Device) (staging : List ℕ) (bytes : Bytes b) (accept : rows.bundleRow b ≡ rows.served) (small : token < 256) where
   -- at the start
-  pub reached-start : (h : Host) (reply : List ℕ) (cursor : ℕ) → h ≡ freshHost token
-      → Reached b token d staging (record { host = h; device = d; due = false; reply = reply; cursor = cursor }) staging
+  pub reached-start : (h : Host) (replies : Replies) (cursor : ℕ) → h ≡ freshHost token → replies ≡ noReplies
+      → Reached b token d staging (record { host = h; device = d; replies = replies; cursor = cursor }) staging
   unfolding run
-  reached-start h reply cursor z =
+  reached-start h replies cursor z n =
       record {
         turns = 0;
-        comes = ([], rw z);
+        comes = ([], rw (z, n));
         ready = rw z (fresh-ready b (accepted b bytes accept) token small);
         cursor = rw z tt;
       }
 
-  module _ (e e′ : BothEnds) (s s′ : List ℕ) (ready : Ready b (e .host)) (place : CursorIn b (e .host .stage) (e .cursor)) (t : Turned b (checkOf b) e s e′ s′) where
+  module _ (e e′ : BothEnds) (s s′ : List ℕ) (ready : Ready b (e .host)) (place : CursorIn b (e .host .stage) (e .cursor)) (t : TurnedOn b e s e′ s′) where
     -- the inner step is the step
-    inner : (stepFrom b (checkOf b) e .step ≡ stepOf b (e .host) (replyOf e)) × CursorIn b (stepOf b (e .host) (replyOf e) .host .stage) (stepFrom b (checkOf b) e .cursor)
-    inner = inner-is-step b (e .host) (e .cursor) (replyOf e) bytes place
+    inner : (stepOn b e .step ≡ stepOf b (e .host) (replyOf e)) × CursorIn b (stepOf b (e .host) (replyOf e) .host .stage) (stepOn b e .cursor)
+    inner =
+        subst (λ (row : rows.Row). let i = innerOf b row (checkOf b .count) (handOf b e (checkOf b)) (e .cursor) (e .host) (replyOf e) in
+        (i .step ≡ stepOf b (e .host) (replyOf e)) × CursorIn b (stepOf b (e .host) (replyOf e) .host .stage) (i .cursor)) (check-row b ∙ accept)
+        (inner-is-step b (e .host) (e .cursor) (replyOf e) bytes place)
 
     -- so a turn is an exchange
     turn-comes : (trace : List Exchange) → Comes (exchange b (systemOf e s trace)) e′ s′
@@ -168,7 +211,7 @@ module _ (b : List ℕ) (token : ℕ) (d : Device) (staging : List ℕ) (bytes :
     host-is : e′ .host ≡ stepOf b (e .host) (replyOf e) .host
     host-is =
         sym (ap (λ (x : System). x .host) (t .1 [] .1))
-        ∙ deliver-host (stepFrom b (checkOf b) e .step .sent) (stepFrom b (checkOf b) e .step .host) (systemOf e s [])
+        ∙ deliver-host (stepOn b e .step .sent) (stepOn b e .step .host) (systemOf e s [])
         ∙ ap (λ (x : Step). x .host) (inner .0)
 
     -- the host's move
@@ -184,18 +227,17 @@ module _ (b : List ℕ) (token : ℕ) (d : Device) (staging : List ℕ) (bytes :
     went = goes b (accepted b bytes accept) (e .host) (replyOf e) ready
 
     -- so a turn leaves less to do
-    pub turn-less : (ended ended′ : Bool) → ended ≡ false → ended ≡ hasEnded (e .host .stage) → ended′ ≡ hasEnded (e′ .host .stage)
-        → leftOf b ended′ (e′ .host) < leftOf b ended (e .host)
-    turn-less ended ended′ f z q = rw f (go ended′ q (subst Counts (sym moved-is) (went .counted)))
+    pub turn-less : hasEnded (e .host .stage) ≡ false → leftOf b (e′ .host) < leftOf b (e .host)
+    turn-less f = rw f (go (hasEnded (e′ .host .stage)) refl (subst Counts (sym moved-is) (went .counted)))
       where
         Counts : Host → Type 0
         Counts h = (hasEnded (h .stage) ≡ true) ⊎ (h .packets ≡ e .host .packets + 1)
 
         go : (x : Bool) → x ≡ hasEnded (e′ .host .stage) → (hasEnded (e′ .host .stage) ≡ true) ⊎ (e′ .host .packets ≡ e .host .packets + 1)
-            → leftOf b x (e′ .host) < leftOf b false (e .host)
+            → cond x 0 (suc (boundOf b - e′ .host .packets)) < suc (boundOf b - e .host .packets)
         go true q k = omega arith
         go false q (inl k) = absurd (true≢false (sym k ∙ sym q))
-        go false q (inr k) = omega (arith, ready .room, owed-step b (accepted b bytes accept) (e .host .stage) (sym z ∙ f))
+        go false q (inr k) = omega (arith, ready .room, owed-step b (accepted b bytes accept) (e .host .stage) f)
 
     -- the next record is ready
     next-ready : Ready b (e′ .host)
@@ -203,10 +245,10 @@ module _ (b : List ℕ) (token : ℕ) (d : Device) (staging : List ℕ) (bytes :
 
     -- and its cursor is right
     next-cursor : CursorIn b (e′ .host .stage) (e′ .cursor)
-    next-cursor = rw (t .0) (subst (λ (x : Host). CursorIn b (x .stage) (stepFrom b (checkOf b) e .cursor)) (sym host-is) (inner .1))
+    next-cursor = rw (t .0) (subst (λ (x : Host). CursorIn b (x .stage) (stepOn b e .cursor)) (sym host-is) (inner .1))
 
   -- after a turn
-  pub reached-turn : (e e′ : BothEnds) (s s′ : List ℕ) → Reached b token d staging e s → Turned b (checkOf b) e s e′ s′ → Reached b token d staging e′ s′
+  pub reached-turn : (e e′ : BothEnds) (s s′ : List ℕ) → Reached b token d staging e s → TurnedOn b e s e′ s′ → Reached b token d staging e′ s′
   reached-turn e e′ s s′ r t =
       let w = turn-comes e e′ s s′ (r .ready) (r .cursor) t (r .comes .0) in
       record {

@@ -21,7 +21,7 @@ parts v =
     ap (λ (x : ℕ). record { 0 = x }) e
 
 -- the minor stands above the variant and below the major
-minor-of : (major minor variant : ℕ) → variant < 256 → minor < 65536 → minorOf (versionOf major minor variant) ≡ minor
+pub minor-of : (major minor variant : ℕ) → variant < 256 → minor < 65536 → minorOf (versionOf major minor variant) ≡ minor
 minor-of major minor variant h k =
     let e : (variant + minor * 256 + major * 16777216) / 256 ≡ minor + major * 65536 = omega arith in omega arith
 

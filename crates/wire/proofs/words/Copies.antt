@@ -1,11 +1,11 @@
--- A copy, byte by byte. Assumes nothing.
+-- A copy and a fill, byte by byte. Assumes nothing.
 use mathlib.Core.Path.{_≡_, refl, ap, _∙_}
 use mathlib.Core.List.{List, [], _∷_, _++_, append-nil}
 use Prim.Native.Nat.{ℕ, zero, suc, _+_, _<_}
 use native.Mathlib.Nat.{not-suc-le-zero, le-of-suc-le-suc}
 use native.Mathlib.Numerals.{add-one}
 use borrow.Author.Tests.{eq-eqb}
-use lib.ListN.{length, getD, set, take, drop}
+use lib.ListN.{length, getD, set, take, drop, replicate}
 use lib.Seq.{drop-length, take-length}
 use Rattle.wire.specs.Bytes.{copyOf}
 
@@ -28,3 +28,7 @@ copied s d l i e p q =
 -- between equally long ones a copy leaves the source
 pub copy-same : (d s : List ℕ) → length d ≡ length s → copyOf d s ≡ s
 copy-same d s h = rw (eq-eqb (length d) (length s) h)
+
+-- all of them are filled with v
+pub filled : (v : ℕ) (d l : List ℕ) (i : ℕ) → l ≡ replicate i v ++ drop i d → i ≡ length d → l ≡ replicate (length d) v
+filled v d l i e p = rw (p, drop-length) at e ∙ append-nil _

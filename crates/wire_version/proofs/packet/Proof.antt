@@ -3,15 +3,16 @@ use mathlib.Core.Path.{_≡_, refl, ap, _∙_}
 use Prim.Native.Nat.{_+_, _*_, _≤_, _-_}
 use native.Mathlib.Omega.{arith}
 use lib.ListN.{length, take, drop, length-take, length-drop}
+use Rattle.wire.specs.Codes.{COMPONENT-LIMIT}
 use Rattle.wire.proofs.words.Copies.{copy-same}
-use Rattle.wire_version.specs.Reply.{flat, replyBytes}
+use Rattle.wire_version.specs.Reply.{REPLY-SIZE, flat, replyBytes}
 use Rattle.wire_version.proofs.Entries.{sofar, sofar-more, length-sofar}
 use borrow.Author.Needs.{needs}
 use Rattle.wire_version.proofs.packet.Statement.{statement}
 use Rattle.wire_version.proofs.packet.Tie as tie
 
 abbrev Inv-loop : tie.InvT-loop
-Inv-loop count protocol components n p₀ i₀ p i = (p ≡ sofar count protocol components i) × (length p ≡ 60) × (i ≤ n) × (n ≡ count)
+Inv-loop count protocol components n p₀ i₀ p i = (p ≡ sofar count protocol components i) × (length p ≡ REPLY-SIZE) × (i ≤ n) × (n ≡ count)
 
 abbrev μ-loop : tie.MeasureT-loop
 μ-loop count protocol components n p₀ i₀ p i = n - i
@@ -24,7 +25,7 @@ loop-again : tie.Need-loop-again Inv-loop μ-loop
 loop-again c =
     let a = c .before .before .before .before .before .before .before .before .args in
     let l = c .before .before .before .before .before .before .before .loop in
-    let n : length (a .t3) ≡ 7 = search needs in
+    let n : length (a .t3) ≡ COMPONENT-LIMIT = search needs in
     let b = c .before .before .before .before .entry-bytes in
     let d = take (4 + 8 * l .i + 8 - (4 + 8 * l .i)) (drop (4 + 8 * l .i) (l .p)) in
     let m : length d ≡ length (b .result) = simp (length-take, length-drop, b .ensures) (omega arith) in

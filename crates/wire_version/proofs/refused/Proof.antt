@@ -4,7 +4,7 @@ use Rattle.wire_version.proofs.refused.Statement.{statement}
 use Rattle.wire_version.proofs.refused.Tie as tie
 
 returns : tie.Need-returns
-returns c = simp (c .new .ensures)
+returns c = rw (c .no-component .ensures)
 
 pub refused-spec : {M : Type 1} → statement M
 refused-spec = tie.close (tie.spec (λ c κs. search needs) returns)

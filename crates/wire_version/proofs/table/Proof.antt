@@ -4,6 +4,7 @@ use mathlib.Core.List.{_++_}
 use Prim.Native.Nat.{_≤_, _-_}
 use native.Mathlib.Omega.{arith}
 use lib.ListN.{length, drop, replicate, length-set}
+use Rattle.wire.specs.Codes.{COMPONENT-LIMIT}
 use Rattle.wire_version.specs.Reply.{none, entries, tableIn}
 use Rattle.wire_version.proofs.Entries.{entries-more, entry-part}
 use borrow.Author.Needs.{needs}
@@ -11,14 +12,14 @@ use Rattle.wire_version.proofs.table.Statement.{statement}
 use Rattle.wire_version.proofs.table.Tie as tie
 
 abbrev Inv-loop : tie.InvT-loop
-Inv-loop p count n es₀ i₀ es i = (es ≡ entries i (drop 4 p) ++ replicate (7 - i) none) × (length es ≡ 7) × (i ≤ n) × (n ≡ count)
+Inv-loop p count n es₀ i₀ es i = (es ≡ entries i (drop 4 p) ++ replicate (COMPONENT-LIMIT - i) none) × (length es ≡ COMPONENT-LIMIT) × (i ≤ n) × (n ≡ count)
 
 abbrev μ-loop : tie.MeasureT-loop
 μ-loop p count n es₀ i₀ es i = n - i
 
 loop-holds : tie.Need-loop-holds Inv-loop μ-loop
 unfolding entries
-loop-holds c = (simp (c .new .ensures), refl, search needs, refl)
+loop-holds c = (rw (c .no-component .ensures), refl, search needs, refl)
 
 loop-again : tie.Need-loop-again Inv-loop μ-loop
 loop-again c =

@@ -19,11 +19,11 @@ abbrev μ-loop : tie.MeasureT-loop
 μ-loop b count at₀ i₀ at i = count - i
 
 -- where the body of this turn's entry starts, and its length
-starts : (c : tie.After-wide Inv-loop μ-loop) → c .wide .result ≡ offsetIn (entryAt (c .before .before .before .before .before .before .before .before .args .b .now) (c .before .before .before .before .loop .i))
-starts c = c .wide .ensures ∙ c .before .offset-in .ensures ∙ ap offsetIn (c .before .before .entry-at .ensures .0)
+starts : (c : tie.After-offset-in Inv-loop μ-loop) → c .offset-in .result ≡ offsetIn (entryAt (c .before .before .before .before .before .before .before .args .b .now) (c .before .before .before .loop .i))
+starts c = c .offset-in .ensures ∙ ap offsetIn (c .before .entry-at .ensures .0)
 
-ends : (c : tie.After-wide2 Inv-loop μ-loop) → c .wide2 .result ≡ lengthIn (entryAt (c .before .before .before .before .before .before .before .before .before .before .before .args .b .now) (c .before .before .before .before .before .before .before .loop .i))
-ends c = c .wide2 .ensures ∙ c .before .length-in .ensures ∙ ap lengthIn (c .before .before .before .before .before .entry-at .ensures .0)
+ends : (c : tie.After-length-in Inv-loop μ-loop) → c .length-in .result ≡ lengthIn (entryAt (c .before .before .before .before .before .before .before .before .before .args .b .now) (c .before .before .before .before .before .loop .i))
+ends c = c .length-in .ensures ∙ ap lengthIn (c .before .before .before .entry-at .ensures .0)
 
 loop-holds : tie.Need-loop-holds Inv-loop μ-loop
 unfolding rowB7
@@ -31,15 +31,15 @@ loop-holds c = (rw (c .table-end .ensures), omega arith)
 
 returns : tie.Need-returns Inv-loop μ-loop
 returns c =
-    let l = c .before .before .before .before .before .loop in
+    let l = c .before .before .before .before .loop in
     gap-here _ _ (l .at) (l .i) (omega arith) (rw (← starts (c .before)) (ne-eqb _ _ (c .if1 .taken))) ∙ l .inv .0
 
 loop-again : tie.Need-loop-again Inv-loop μ-loop
 loop-again c =
-    let l = c .before .before .before .before .before .before .before .loop in
-    let s = starts (c .before .before .before) in
+    let l = c .before .before .before .before .before .loop in
+    let s = starts (c .before .before) in
     let z = ends c in
-    (rw (s, z) (gap-on _ _ (l .at) (l .i) (omega arith) (rw (← s) (eq-eqb _ _ (c .before .before .if1 .left)))) ∙ l .inv .0, omega arith)
+    (rw (s, z) (gap-on _ _ (l .at) (l .i) (omega arith) (rw (← s) (eq-eqb _ _ (c .before .if1 .left)))) ∙ l .inv .0, omega arith)
 
 returns-2 : tie.Need-returns-2 Inv-loop μ-loop
 returns-2 c =
@@ -64,11 +64,11 @@ gap-place-spec =
     loop-holds
     (λ c κs. omega arith)
     (λ c κs. search needs)
-    (λ c κs. search needs)
+    (λ c. search needs)
     (λ c. search needs)
     returns
     (λ c κs. search needs)
-    (λ c κs. search needs)
+    (λ c. search needs)
     (λ c. search needs)
     (λ c. search needs)
     (λ c. search needs)

@@ -1,4 +1,4 @@
--- `blank::no_entries`: seven times no entry. Assumes nothing.
+-- `blank::no_entries`: no entry, as often as the limit. Assumes nothing.
 use borrow.Author.Needs.{needs}
 use Rattle.bundle_layout.proofs.blank.no_entries.Statement.{statement}
 use Rattle.bundle_layout.proofs.blank.no_entries.Tie as tie

@@ -1,16 +1,13 @@
--- `numbers::bundle_number` meets its contract: by the number of the row. Assumes nothing.
-use Rattle.c_types.proofs.numbers.Laws.{number-of}
-use borrow.Author.Tests.{eq-eqb, ne-eqb}
+-- `numbers::bundle_number` meets its contract: the letter and the row's own number. Assumes nothing.
+use mathlib.Core.Path.{_∙_, ap}
 use borrow.Author.Needs.{needs}
+use Rattle.c_types.specs.Numbers.{letteredOf, ROW-B}
+use Rattle.c_types.proofs.numbers.Laws.{of-bundle}
 use Rattle.c_types.proofs.numbers.bundle_number.Statement.{statement}
 use Rattle.c_types.proofs.numbers.bundle_number.Tie as tie
 
 returns : tie.Need-returns
-returns c = let a = c .before .before .args in rw (eq-eqb _ _ (c .if1 .taken)) at (number-of (a .v) (a .entry) (c .before .row-number .ensures))
-
-returns-2 : tie.Need-returns-2
-returns-2 c = let a = c .before .before .args in rw (ne-eqb _ _ (c .if1 .left)) at (number-of (a .v) (a .entry) (c .before .row-number .ensures))
+returns c = c .lettered .ensures ∙ ap (letteredOf ROW-B) (c .before .number .ensures) ∙ of-bundle (c .before .before .args .v) (c .before .before .args .entry)
 
 pub bundle-number-spec : {M : Type 1} → statement M
-bundle-number-spec =
-    tie.close (tie.spec (λ c κs. search needs) (λ c. search needs) (λ c. search needs) returns returns-2)
+bundle-number-spec = tie.close (tie.spec (λ c κs. search needs) (λ c κs. search needs) returns)

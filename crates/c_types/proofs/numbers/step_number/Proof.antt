@@ -4,7 +4,7 @@ use Rattle.c_types.proofs.numbers.step_number.Statement.{statement}
 use Rattle.c_types.proofs.numbers.step_number.Tie as tie
 
 returns-2 : tie.Need-returns-2
-returns-2 c = rw (c .before .before .refusal .given .1, ← c .row-number .ensures)
+returns-2 c = rw (c .before .before .refusal .given .1, ← c .number .ensures)
 
 pub step-number-spec : {M : Type 1} → statement M
 step-number-spec =

@@ -16,20 +16,20 @@ unfolding setUpOf
 returns c =
     let v = c .before .before .before .setup-verdict in
     rw (← (c .before .before .before .before .components-of .ensures), ← (v .ensures), c .blank .ensures)
-    (sym (refused-set-up (v .result) _ (by (c .before .before .refuses-setup .ensures) (c .before .if1 .taken))))
+    (sym (refused-set-up (v .result) _ (by (c .before .before .is-refused .ensures) (c .before .if1 .taken))))
 
-cast-t11 : tie.Need-cast-t11
-cast-t11 c =
-    let n = length (c .before .before .before .before .before .args .staging .now) in
-    let h = rw (c .before .before .setup-verdict .ensures) at (by (c .before .refuses-setup .ensures) (c .if1 .left)) in
+cast-t12 : tie.Need-cast-t12
+cast-t12 c =
+    let n = length (c .before .before .before .before .before .before .args .staging .now) in
+    let h = rw (c .before .before .before .setup-verdict .ensures) at (by (c .before .before .is-refused .ensures) (c .before .if1 .left)) in
     record { fits = omega (arith, fine-staging n _ _ (fine _ h)) }
 
 returns-2 : tie.Need-returns-2
 unfolding setUpOf
 returns-2 c =
-    let v = c .before .before .setup-verdict in
-    rw (← (c .before .before .before .components-of .ensures), ← (v .ensures))
-    (sym (made-set-up (v .result) _ (by (c .before .refuses-setup .ensures) (c .if1 .left))))
+    let v = c .before .before .before .setup-verdict in
+    rw (← (c .before .before .before .before .components-of .ensures), ← (v .ensures), c .idle .ensures)
+    (sym (made-set-up (v .result) _ (by (c .before .before .is-refused .ensures) (c .before .if1 .left))))
 
 pub set-up-spec : {M : Type 1} → statement M
 set-up-spec =
@@ -40,5 +40,6 @@ set-up-spec =
     (λ c κs. search needs)
     (λ c κs. search needs)
     returns
-    cast-t11
+    (λ c κs. search needs)
+    cast-t12
     returns-2)

@@ -4,8 +4,8 @@ use Rattle.device_bytes.proofs.list.listed_in.Statement.{statement}
 use Rattle.device_bytes.proofs.list.listed_in.Tie as tie
 
 returns : tie.Need-returns
-returns c = rw (c .byte-at .ensures, c .before .region-in .ensures, c .before .before .version-at .ensures)
+returns c = rw (c .read-at .ensures, c .before .fixed-in .ensures)
 
 pub listed-in-spec : {M : Type 1} → statement M
 listed-in-spec =
-    tie.close (tie.spec (λ c κs. search needs) (λ c κs. search needs) (λ c κs. search needs) returns)
+    tie.close (tie.spec (λ c κs. search needs) (λ c. search needs) (λ c κs. search needs) returns)

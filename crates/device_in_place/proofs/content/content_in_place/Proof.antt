@@ -1,17 +1,22 @@
 -- `content::content_in_place` meets its contract: D1 to D3, or the answer to a block. Assumes nothing.
-use mathlib.Core.Path.{_≡_, sym, ap, _∙_}
+use mathlib.Core.Path.{_≡_, sym, _∙_}
+use mathlib.Core.Bool.{true}
 use denote.Ref.{now}
 use lib.ListN.{length, drop}
 use Rattle.wire.proofs.Chain.{by}
 use Rattle.wire_content.specs.Head.{headIn}
+use Rattle.device_session.specs.Stage.{atSlot}
 use Rattle.device_receiving.specs.Receive.{onContent, stagingAfter}
-use Rattle.device.specs.Record.{sessionOf}
-use Rattle.device.specs.Refusals.{Row, served, refusalOf, refusedBy}
+use Rattle.device.specs.Refusals.{served, refusalOf}
 use Rattle.device.specs.Content.{sessionComponent, received, contentEntry, contentStaging}
 use Rattle.device.proofs.Passes.{serves}
 use Rattle.device.proofs.answer.Laws.{none-refuses, one-keeps}
-use Rattle.device_bytes.specs.Layout.{readDevice}
-use Rattle.device_in_place.proofs.Stands.{Stands, stands, refused-leaves}
+use Rattle.device_bytes.specs.Layout.{deviceIn, isRecord, readDevice, withSessionBytes}
+use Rattle.device_bytes.proofs.Flags.{record-sized}
+use Rattle.device_in_place.specs.InPlace.{contentBy}
+use Rattle.device_in_place.proofs.Stands.{stands, refused-answers, refused-leaves}
+use Rattle.device_bytes.proofs.Fields.{full-in, same-slot}
+use Rattle.device_in_place.proofs.sound.Rows.{read-in}
 use borrow.Author.Needs.{needs}
 use Rattle.device_in_place.proofs.content.content_in_place.Statement.{statement}
 use Rattle.device_in_place.proofs.content.content_in_place.Tie as tie
@@ -20,32 +25,42 @@ returns : tie.Need-returns
 unfolding contentEntry contentStaging
 returns c =
     let a = c .before .before .before .before .before .before .before .before .args in
-    let d = readDevice (now (a .bytes)) in
+    let b = now (a .bytes) in
+    let d = readDevice b in
     let s = now (a .staging) in
     let p = now (a .report) in
     let row = refusalOf 60 d (length s) (length p) in
+    let answer = received d (onContent (sessionComponent d) (d .session) (headIn p) (drop 8 p) s) in
     let q = c .before .before .before .refusal-in .ensures in
-    let t = rw q at (by (c .before .before .is-refused .ensures) (c .before .if1 .taken)) in
-    let k = refused-leaves row d (c .refused .result) (received d (onContent (sessionComponent d) (sessionOf d) (headIn p) (drop 8 p) s)) (now (a .bytes)) t
-    (λ e. c .refused .ensures e ∙ ap (λ (r : Row). refusedBy r e) q) in
-    (k .0, k .1, sym (one-keeps row s (stagingAfter (sessionComponent d .region) (d .stage) (headIn p) (drop 8 p) s) t))
+    let t = rw q at (by (c .before .before .is-refused .ensures) (c .before .if1 .taken)) in (
+      rw (c .refused .ensures) (refused-answers (c .before .before .before .refusal-in .result) row d answer q t),
+      refused-leaves row d answer b _ t,
+      sym (one-keeps row s (stagingAfter (sessionComponent d .fixed .region) (d .session .stage) (headIn p) (drop 8 p) s) t),
+    )
 
--- no row refuses the call, so the bytes are a record's, and the report has 60
+-- no row refuses the call, so the bytes are a record, and the report has 60
 serves-it : (c : tie.Else1) → let a = c .before .before .before .before .before .before .before .args in refusalOf 60 (readDevice (now (a .bytes))) (length (now (a .staging))) (length (now (a .report))) ≡ served
 serves-it c = none-refuses _ (rw (c .before .before .refusal-in .ensures) at (by (c .before .is-refused .ensures) (c .if1 .left)))
 
-stands-it : (c : tie.Else1) → Stands (now (c .before .before .before .before .before .before .before .args .bytes))
+stands-it : (c : tie.Else1) → isRecord (now (c .before .before .before .before .before .before .before .args .bytes)) ≡ true
 stands-it c = stands 60 (now (c .before .before .before .before .before .before .before .args .bytes)) _ _ (serves-it c)
 
 on-content-requires : tie.Need-on-content-requires
-on-content-requires c κs = let v = stands-it (c .before .before) in (v .whole, v .written, serves 60 _ _ _ (serves-it (c .before .before)) .report)
+on-content-requires c κs = (record-sized _ (stands-it (c .before .before)), serves 60 _ _ _ (serves-it (c .before .before)) .report)
 
 returns-2 : tie.Need-returns-2
 unfolding contentEntry contentStaging
 returns-2 c =
-    let v = stands-it (c .before .before .before .before .before .before .before) .read in
-    let r = rw v at (serves-it (c .before .before .before .before .before .before .before)) in
-    let o = c .before .before .before .before .on-content .ensures in (rw (v, r) (o .0), rw (v, r) (o .1), rw (v, r) (o .2))
+    let at = c .before .before .before .before .before .before .before in
+    let a = at .before .before .before .before .before .before .before .args in
+    let b = now (a .bytes) in
+    let d = deviceIn b in
+    let v = read-in b (stands-it at) in
+    let r = rw v at (serves-it at) in
+    let t = onContent (sessionComponent d) (d .session) (headIn (now (a .report))) (drop 8 (now (a .report))) (now (a .staging)) in
+    let left = withSessionBytes (contentBy b (now (a .staging)) (now (a .report)) .device .session) b in
+    let o = c .before .before .before .before .on-content .ensures in
+    (rw (v, r) (o .0), rw (v, r) (o .1 ∙ sym (same-slot (atSlot (d .session .stage)) (t .component) (d .components) left (full-in b))), rw (v, r) (o .2))
 
 pub content-in-place-spec : {M : Type 1} → statement M
 content-in-place-spec =

@@ -1,38 +1,21 @@
 -- `content::on_content` meets its contract: what the packet does to the session and to the component in its slot, each stored over its own bytes. Assumes nothing.
-use mathlib.Core.Path.{_≡_, sym, ap, _∙_}
-use Prim.Native.Nat.{_-_}
+use mathlib.Core.Path.{_≡_, ap, ap₂, _∙_}
+use Prim.Native.Nat.{ℕ, _-_}
 use native.Mathlib.Omega.{arith}
 use denote.Ref.{now}
-use lib.ListN.{length, take, drop, set, length-drop}
+use lib.ListN.{length, take, drop, length-drop}
 use lib.Seq.{take-all}
-use Rattle.wire.proofs.words.Sames.{same-eq}
 use Rattle.wire_content.specs.Head.{headIn}
-use Rattle.device_session.specs.Stage.{atSlot}
 use Rattle.device_receiving.specs.Receive.{onContent}
-use Rattle.device.specs.Record.{sessionOf, withSession}
-use Rattle.device.specs.Content.{sessionComponent}
-use Rattle.device_bytes.specs.Layout.{deviceBytes, deviceIn}
-use Rattle.device_bytes.proofs.Record.{device-length}
-use Rattle.device_in_place.proofs.fields.Laws.{seven-in}
+use Rattle.device_receiving.specs.declared.content.Taken.{Taken}
+use Rattle.device.specs.Content.{sessionComponent, received}
+use Rattle.device_bytes.specs.Layout.{deviceIn, withSessionBytes, withComponentBytes}
+use Rattle.device_in_place.specs.InPlace.{outcomeOf, servedReply}
+use Rattle.device_in_place.specs.declared.Reply.{Reply}
+use Rattle.device_bytes.proofs.Fields.{session-read}
 use borrow.Author.Needs.{needs}
 use Rattle.device_in_place.proofs.content.on_content.Statement.{statement}
 use Rattle.device_in_place.proofs.content.on_content.Tie as tie
-
-store-session-requires : tie.Need-store-session-requires
-store-session-requires c κs = c .before .before .before .before .before .before .before .before .before .before .before .before .before .before .before .before .before .before .before .pre .0
-
--- the bytes with the next session
-session-stored : (c : tie.After-store-session) → let d = deviceIn (now (c .before .before .before .before .before .before .before .before .before .before .before .before .before .before .before .before .before .before .before .before .args .bytes)) in
-    c .store-session .last .0 ≡ deviceBytes (withSession d (d .components) (c .before .before .before .before .before .before .before .on-content .result .effect .session))
-session-stored c =
-    let s = c .before .before .before .before .before .before .before .before .before .before .before .before .before .before .before .before .before .before .before .before in
-    let b = now (s .args .bytes) in
-    c .store-session .ensures (deviceIn b) (seven-in b) (sym (same-eq (deviceBytes (deviceIn b)) b (s .pre .1)))
-
-store-component-requires : tie.Need-store-component-requires
-store-component-requires c κs =
-    let d = deviceIn (now (c .before .before .before .before .before .before .before .before .before .before .before .before .before .before .before .before .before .before .before .before .before .before .before .args .bytes)) in
-    ap length (session-stored (c .before .before .before)) ∙ device-length (withSession d (d .components) (c .before .before .before .before .before .before .before .before .before .before .on-content .result .effect .session)) (seven-in (now (c .before .before .before .before .before .before .before .before .before .before .before .before .before .before .before .before .before .before .before .before .before .before .before .args .bytes)))
 
 returns : tie.Need-returns
 returns c =
@@ -49,11 +32,13 @@ returns c =
     let p = now (start .args .report) in
     let d = deviceIn b in
     let e : take (length p - 8) (drop 8 p) ≡ drop 8 p = take-all (length p - 8) (drop 8 p) (simp length-drop (omega arith)) in
-    let k = rw (opened .open-slot .ensures, read .session-in .ensures) at (slot .slot-of .ensures) in
-    let o = rw (component .component-at .ensures, k, read .session-in .ensures, head .read-head .ensures, e) at (taken .on-content .ensures) in
-    let r = onContent (sessionComponent d) (sessionOf d) (headIn p) (drop 8 p) (now (start .args .staging)) in (
-      rw (o .0) at (c .served .ensures d (set (d .components) (atSlot (d .stage)) (r .component))),
-      rw (o .0, k) at (stored .store-component .ensures (withSession d (d .components) (taken .on-content .result .effect .session)) (seven-in b) (session-stored session)),
+    let s = read .session-in .ensures ∙ session-read b in
+    let k = rw (opened .open-slot .ensures, s) at (slot .slot-of .ensures) in
+    let o = rw (component .component-at .ensures, k, s, head .read-head .ensures, e) at (taken .on-content .ensures) in
+    let r = onContent (sessionComponent d) (d .session) (headIn p) (drop 8 p) (now (start .args .staging)) in (
+      ap (λ (x : Reply). outcomeOf x (received d r .device)) (c .served .ensures ∙ ap (λ (t : Taken). servedReply (t .effect)) (o .0)),
+      stored .store-component .ensures ∙ ap (withComponentBytes (slot .slot-of .result) (taken .on-content .result .component)) (session .store-session .ensures)
+          ∙ ap₂ (λ (n : ℕ) (t : Taken). withComponentBytes n (t .component) (withSessionBytes (t .effect .session) b)) k (o .0),
       o .1,
     )
 
@@ -70,8 +55,8 @@ on-content-spec =
     (λ c. search needs)
     (λ c. search needs)
     (λ c κs. search needs)
-    store-session-requires
-    store-component-requires
+    (λ c κs. search needs)
+    (λ c κs. search needs)
     (λ c κs. search needs)
     (λ c. search needs)
     (λ c. search needs)

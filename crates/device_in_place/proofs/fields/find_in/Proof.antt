@@ -13,13 +13,13 @@ use Rattle.device_component.specs.declared.record.Component.{Component}
 use Rattle.device_component.proofs.list.Loops.{ends, first-here, first-on, first-end}
 use Rattle.device_bytes.specs.Layout.{deviceIn}
 use borrow.Author.Needs.{needs}
-use Rattle.device_in_place.proofs.fields.Laws.{seven-in}
+use Rattle.device_bytes.proofs.Fields.{full-in}
 use Rattle.device_in_place.proofs.fields.find_in.Statement.{statement}
 use Rattle.device_in_place.proofs.fields.find_in.Tie as tie
 
 -- a component has this id
 abbrev named : ℕ → Component → Bool
-named id c = eqb id (c .id)
+named id c = eqb id (c .fixed .id)
 
 abbrev Inv-loop : tie.InvT-loop
 Inv-loop b count id end i₀ i =
@@ -31,7 +31,7 @@ abbrev μ-loop : tie.MeasureT-loop
 -- the loop ends where the components in use do
 last : (c : tie.After-within-slots Inv-loop μ-loop)
     → let a = c .before .before .args in c .within-slots .result ≡ length (take (a .count) (deviceIn (now (a .b)) .components))
-last c = let a = c .before .before .args in ends (a .count) (deviceIn (now (a .b)) .components) (seven-in (now (a .b))) (c .within-slots .ensures)
+last c = let a = c .before .before .args in ends (a .count) (deviceIn (now (a .b)) .components) (full-in (now (a .b))) (c .within-slots .ensures)
 
 loop-holds : tie.Need-loop-holds Inv-loop μ-loop
 unfolding find

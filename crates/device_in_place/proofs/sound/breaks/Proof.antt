@@ -10,29 +10,20 @@ returns c =
     let w = o .before in
     let d = w .before in
     let l = d .before in
-    let t = l .before in
-    let p = t .before in
+    let p = l .before in
     let k = p .before in
     let s = k .before in
     let r = s .before in
-    let n = r .before .before in
-    let b = n .before .before .before .before .before .before .args .b .now in
-    broken b (t .is-tidy .result) (l .staging-too-long .result) (d .bad-count .result) (w .wrong-slot .result) (o .owes-on .result) (c .some-unsound .result)
-    (n .word32 .result) (k .slot-of .result) (r .session-in .result) (s .open-slot .result) (p .component-at .result) (t .is-tidy .ensures) (n .word32 .ensures)
-    (r .session-in .ensures) (s .open-slot .ensures) (k .slot-of .ensures) (p .component-at .ensures) (l .staging-too-long .ensures) (d .bad-count .ensures)
-    (w .wrong-slot .ensures) (o .owes-on .ensures) (c .some-unsound .ensures)
+    let n = r .before in
+    let a = n .before .before .args in
+    broken (a .b .now) (a .n) (k .slot-of .result) (n .count-in .result) (l .staging-too-long .result) (d .bad-count .result) (w .wrong-slot .result) (o .owes-on .result) (c .some-unsound .result)
+    (r .session-in .result) (s .open-slot .result) (p .component-at .result) (n .count-in .ensures) (r .session-in .ensures) (s .open-slot .ensures) (k .slot-of .ensures) (p .component-at .ensures)
+    (l .staging-too-long .ensures) (d .bad-count .ensures) (w .wrong-slot .ensures) (o .owes-on .ensures) (c .some-unsound .ensures)
 
 pub breaks-spec : {M : Type 1} → statement M
 breaks-spec =
     tie.close
     (tie.spec
-    (λ c. search needs)
-    (λ c. search needs)
-    (λ c. search needs)
-    (λ c. search needs)
-    (λ c κs. search needs)
-    (λ c. search needs)
-    (λ c. search needs)
     (λ c κs. search needs)
     (λ c κs. search needs)
     (λ c κs. search needs)

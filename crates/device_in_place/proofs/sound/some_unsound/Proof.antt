@@ -9,7 +9,7 @@ use Rattle.wire.specs.Checks.{any, pairs}
 use Rattle.device_component.specs.Rules.{flawed, clash, unsound}
 use Rattle.device_component.proofs.list.Loops.{ends, each-here, each-on, each-end}
 use Rattle.device_bytes.specs.Layout.{deviceIn}
-use Rattle.device_in_place.proofs.fields.Laws.{seven-in}
+use Rattle.device_bytes.proofs.Fields.{full-in}
 use Rattle.device_in_place.proofs.sound.some_unsound.Statement.{statement}
 use Rattle.device_in_place.proofs.sound.some_unsound.Tie as tie
 
@@ -23,7 +23,7 @@ abbrev μ-loop : tie.MeasureT-loop
 -- the loop ends where the list does
 last : (c : tie.After-within-slots Inv-loop μ-loop) → c .within-slots .result ≡ length (take (c .before .before .args .count) (deviceIn (c .before .before .args .b .now) .components))
 last c =
-    let a = c .before .before .args in ends (a .count) (deviceIn (a .b .now) .components) (seven-in (a .b .now)) (c .within-slots .ensures)
+    let a = c .before .before .args in ends (a .count) (deviceIn (a .b .now) .components) (full-in (a .b .now)) (c .within-slots .ensures)
 
 loop-holds : tie.Need-loop-holds Inv-loop μ-loop
 unfolding unsound

@@ -11,7 +11,7 @@ use Rattle.device_receiving.proofs.block.take_block.Tie as tie
 returns : tie.Need-returns
 unfolding takeBlock
 returns c =
-    let n = c .before .before .before .before .before .before .before .before .before .before .counted in
+    let n = c .before .before .before .before .before .before .before .before .before .before .least in
     let z : n .result - 0 ≡ n .result = omega arith in
     c .before .before .write .ensures ∙ rw (z, n .ensures, counts, c .before .before .before .before .before .before .before .erase-on-first .ensures, c .before .before .before .before .before .before .before .before .before .is-first .ensures)
 
@@ -19,6 +19,7 @@ pub take-block-spec : {M : Type 1} → statement M
 take-block-spec =
     tie.close
     (tie.spec
+    (λ c. search needs)
     (λ c κs. search needs)
     (λ c κs. search needs)
     (λ c κs. search needs)

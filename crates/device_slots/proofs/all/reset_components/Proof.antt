@@ -8,7 +8,7 @@ use Rattle.device_component.specs.Record.{blankComponent}
 use Rattle.device_component.specs.declared.record.Component.{Component}
 use Rattle.device_slots.proofs.Turns.{turned, turn, still, first-turned}
 use Rattle.device_component.proofs.list.Loops.{ends}
-use Rattle.device_component.specs.Setup.{COMPONENT-LIMIT}
+use Rattle.wire.specs.Codes.{COMPONENT-LIMIT}
 use Rattle.device_component.specs.Record.{afterReset}
 use borrow.Author.Needs.{needs}
 use Rattle.device_slots.proofs.all.reset_components.Statement.{statement}
@@ -27,7 +27,7 @@ loop-again : tie.Need-loop-again Inv-loop μ-loop
 loop-again c =
     let s = c .before .before .before .before .before .args in
     let l = c .before .before .before .loop in
-    let n : length (s .t1) ≡ 7 = search needs in
+    let n : length (s .t1) ≡ COMPONENT-LIMIT = search needs in
     let e : c .after-reset .result ≡ afterReset (getD (s .t1) (l .i) blankComponent)
     = c .after-reset .ensures ∙ ap (λ (p : List Component). afterReset (getD p (l .i) blankComponent)) (l .inv .0)
     ∙ ap afterReset (still afterReset (s .t1) (s .t1) refl (l .i) (omega arith) blankComponent) in
@@ -37,7 +37,7 @@ returns : tie.Need-returns Inv-loop μ-loop
 returns c =
     let s = c .before .before .before .args in
     let l = c .before .loop in
-    let n : length (s .t1) ≡ 7 = search needs in
+    let n : length (s .t1) ≡ COMPONENT-LIMIT = search needs in
     let e : l .i ≡ length (take (s .count) (s .t1)) = ends (s .count) (s .t1) n (omega (arith, l .inv .2)) in
     l .inv .0 ∙ first-turned afterReset (s .t1) (s .count) (l .i) e
 

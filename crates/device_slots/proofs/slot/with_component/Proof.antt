@@ -1,4 +1,4 @@
--- `slot::with_component` meets its contract: past the seven, setting changes nothing. Assumes nothing.
+-- `slot::with_component` meets its contract: past the last slot, setting changes nothing. Assumes nothing.
 use mathlib.Core.Path.{sym}
 use native.Mathlib.Omega.{arith}
 use lib.Seq.{set-out}

@@ -4,7 +4,7 @@ use Rattle.host_packet.proofs.action.none.Statement.{statement}
 use Rattle.host_packet.proofs.action.none.Tie as tie
 
 returns : tie.Need-returns
-returns c = rw (c .before .before .clear .ensures)
+returns c = rw (c .before .before .fill .ensures)
 
 pub none-spec : {M : Type 1} → statement M
 none-spec = tie.close (tie.spec (λ c κs. search needs) (λ c. search needs) returns)

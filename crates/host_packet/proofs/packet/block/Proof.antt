@@ -25,7 +25,7 @@ returns c =
     let w = put-more (a .packet .now) (h .head .result) (j .copy .last .0) 0 8 8 refl (ap length (h .head .ensures)) (omega arith) (j .copy .ensures) in
     let m : a .start + n - a .start ≡ n = omega arith in
     let v = put-more q d (k .copy2 .last .0) 8 n (8 + n - 8) (omega arith) l (omega (arith, w .0)) (rw m at (k .copy2 .ensures)) in
-    clear-rest (take 8 q ++ (k .copy2 .last .0 ++ drop (8 + n - 8) (drop 8 q))) (take 8 q ++ d) (c .before .before .clear .last .0) (8 + n) (52 - n) (60 - (8 + n)) (omega arith) (omega (arith, v .0, w .0)) (v .1) (c .before .before .clear .ensures)
+    clear-rest (take 8 q ++ (k .copy2 .last .0 ++ drop (8 + n - 8) (drop 8 q))) (take 8 q ++ d) (c .before .before .fill .last .0) (8 + n) (52 - n) (60 - (8 + n)) (omega arith) (omega (arith, v .0, w .0)) (v .1) (c .before .before .fill .ensures)
     ∙ ap (λ (f : List ℕ). (f ++ d) ++ replicate (52 - n) 0)
     (w .1 ∙ h .head .ensures ∙ ap₂ (λ (f s : ℕ). headOf f n s (a .address)) (h .before .before .flags .ensures) (h .before .sequence .ensures))
     ∙ block-laid (a .k) (a .last) (a .address) d n (52 - n) l refl

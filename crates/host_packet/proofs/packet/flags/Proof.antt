@@ -1,4 +1,4 @@
--- `make::flags`: each of the four. Assumes nothing.
+-- `packet::flags`: each of the four. Assumes nothing.
 use borrow.Author.Needs.{needs}
 use Rattle.host_packet.proofs.packet.flags.Statement.{statement}
 use Rattle.host_packet.proofs.packet.flags.Tie as tie

@@ -15,7 +15,7 @@ returns c =
     let s = k .before .before .before .before in
     let p = s .args .packet .now in
     let w = put-more p (s .args .t2) (k .copy .last .0) 0 16 16 refl (search needs) (omega arith) (k .copy .ensures) in
-    clear-rest (k .copy .last .0 ++ drop 16 p) (s .args .t2) _ 16 44 44 refl (w .0 ∙ s .pre) (w .1) (c .before .before .clear .ensures)
+    clear-rest (k .copy .last .0 ++ drop 16 p) (s .args .t2) _ 16 44 44 refl (w .0 ∙ s .pre) (w .1) (c .before .before .fill .ensures)
 
 pub lay-spec : {M : Type 1} → statement M
 lay-spec =

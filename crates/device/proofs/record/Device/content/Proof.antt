@@ -19,7 +19,7 @@ returns c =
     let a = c .before .before .before .before .before .before .args in
     let q = c .before .before .before .refusal .ensures in
     let t = rw q at (by (c .before .before .is-refused .ensures) (c .before .if1 .taken)) in
-    (c .refused .ensures ∙ rw q (sym (one-refuses _ _ _ t)), sym (one-keeps (refusalOf 60 (a .self) (length (now (a .staging))) (length (now (a .report)))) (now (a .staging)) (stagingAfter (sessionComponent (a .self) .region) (a .self .stage) (headIn (now (a .report))) (drop 8 (now (a .report))) (now (a .staging))) t))
+    (c .refused .ensures ∙ rw q (sym (one-refuses _ _ _ t)), sym (one-keeps (refusalOf 60 (a .self) (length (now (a .staging))) (length (now (a .report)))) (now (a .staging)) (stagingAfter (sessionComponent (a .self) .fixed .region) (a .self .session .stage) (headIn (now (a .report))) (drop 8 (now (a .report))) (now (a .staging))) t))
 
 -- no row refuses the call, so the report has 60 bytes
 serves-it : (c : tie.Else1) → let a = c .before .before .before .before .before .args in refusalOf 60 (a .self) (length (now (a .staging))) (length (now (a .report))) ≡ served

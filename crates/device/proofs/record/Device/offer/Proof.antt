@@ -8,7 +8,6 @@ use Rattle.wire.specs.Rows.{Told}
 use Rattle.wire.proofs.Chain.{by}
 use Rattle.wire_offer.specs.Kind.{Kind, kindIn, readOf, toldRead}
 use Rattle.device_offering.proofs.packet.Laws.{read-packet}
-use Rattle.device.specs.Record.{sessionOf}
 use Rattle.device.specs.Refusals.{served, refusalOf, servedWith}
 use Rattle.device.specs.Offer.{onKind, offerEntry}
 use Rattle.device.proofs.Passes.{serves}
@@ -38,7 +37,7 @@ returns-2 c =
     let p = read (c .before) in
     rw (serves-it (c .before .before))
     (c .on-packet .ensures
-    ∙ ap (servedWith d (d .components)) (read-packet (d .platform) (d .count) (d .components) (sessionOf d) (c .before .read-offer-packet .result) (ap (λ (t : Told Kind). t .row) p))
+    ∙ ap (servedWith d (d .components)) (read-packet (d .platform) (d .count) (d .components) (d .session) (c .before .read-offer-packet .result) (ap (λ (t : Told Kind). t .row) p))
     ∙ ap (λ (t : Told Kind). onKind d (t .value)) p)
 
 pub offer-spec : {M : Type 1} → statement M

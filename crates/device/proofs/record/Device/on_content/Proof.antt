@@ -11,7 +11,7 @@ use Rattle.device.proofs.record.Device.on_content.Tie as tie
 
 returns : tie.Need-returns
 returns c =
-    let p = now (c .before .before .before .before .before .before .before .before .before .before .before .before .before .before .before .before .args .report) in
+    let p = now (c .before .before .before .before .before .before .before .before .before .before .before .before .before .before .before .before .before .args .report) in
     let e : take (length p - 8) (drop 8 p) ≡ drop 8 p = take-all (length p - 8) (drop 8 p) (simp length-drop (omega arith)) in
     let k = c .before .before .before .before .before .before .before .before .before .before .before .slot-of .ensures in
     let q = c .before .before .before .before .before .before .before .before .before .before .before .before .open-slot .ensures in

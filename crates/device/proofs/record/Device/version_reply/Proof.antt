@@ -1,8 +1,9 @@
--- `Device::version_reply` meets its contract: D1, or the reply, whose count is at most seven. Assumes nothing.
+-- `Device::version_reply` meets its contract: D1, or the reply, whose count is at most the limit. Assumes nothing.
 use mathlib.Core.Path.{ap}
 use mathlib.Core.List.{List}
 use Prim.Native.Nat.{ℕ}
 use borrow.Author.Tests.{le-leb}
+use Rattle.wire.specs.Codes.{COMPONENT-LIMIT}
 use Rattle.wire.specs.Rows.{Told}
 use Rattle.wire_version.specs.Reply.{buildOf}
 use Rattle.device.specs.Entries.{versionEntry}
@@ -22,7 +23,7 @@ returns-2 c =
     let d = c .before .before .before .before .before .before .args .self in
     let h = by (c .before .before .before .before .before .breaks-d1 .ensures) (c .before .before .before .before .if1 .left) in
     let m = count-most (passes h) in
-    let e = ap (λ (t : Told (List ℕ)). t .value) (rw (le-leb (d .count) 7 m) at (c .before .build-version-reply .ensures)) in
+    let e = ap (λ (t : Told (List ℕ)). t .value) (rw (le-leb (d .count) COMPONENT-LIMIT m) at (c .before .build-version-reply .ensures)) in
     rw (h, e, c .before .before .all-running .ensures)
 
 pub version-reply-spec : {M : Type 1} → statement M

@@ -4,7 +4,7 @@ use Rattle.device_component.proofs.record.Component.after_reset.Stateme
 use Rattle.device_component.proofs.record.Component.after_reset.Tie as tie
 
 returns : tie.Need-returns
-returns c = rw (c .before .effective .ensures)
+returns c = rw (c .effective .ensures)
 
 pub after-reset-spec : {M : Type 1} → statement M
 after-reset-spec = tie.close (tie.spec (λ c κs. search needs) returns)

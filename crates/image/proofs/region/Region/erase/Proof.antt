@@ -20,7 +20,7 @@ part-fill-end c =
     omega (arith, inside (a .self) (length (a .staging .now)) (guard c))
 
 returns : tie.Need-returns
-unfolding regionBytes
+unfolding regionBytes blank
 returns c =
     let a = c .before .before .before .before .before .before .before .before .before .before .args in
     let g = guard (c .before .before .before .before) in

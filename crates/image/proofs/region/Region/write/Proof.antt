@@ -6,7 +6,8 @@ use native.Mathlib.Omega.{arith}
 use borrow.Author.Tests.{leb-true}
 use lib.ListN.{length}
 use Rattle.image.specs.Region.{isInside, holds, writeOf}
-use Rattle.image.proofs.region.Within.{both, inside-end, write-put, write-fits}
+use Rattle.wire.proofs.Tests.{both}
+use Rattle.image.proofs.region.Within.{inside-end, write-put, write-fits}
 use borrow.Author.Needs.{needs}
 use Rattle.image.proofs.region.Region.write.Statement.{statement}
 use Rattle.image.proofs.region.Region.write.Tie as tie

@@ -19,9 +19,9 @@ from concurrent.futures import ThreadPoolExecutor
 HERE = os.path.dirname(os.path.abspath(__file__))
 TOP = os.path.dirname(os.path.dirname(HERE))
 CRATES = ['wire', 'wire_offer', 'wire_content', 'wire_version', 'crc16', 'image', 'device_component', 'device_slots', 'device_session', 'device_offering',
-          'device_receiving', 'device', 'bundle_records', 'bundle_layout', 'bundle', 'host_record', 'host_table', 'host_decide', 'host_packet', 'host', 'update']
+          'device_receiving', 'device', 'bundle_records', 'bundle_layout', 'bundle', 'host_record', 'host_table', 'host_decide', 'host_packet', 'host', 'update_passes', 'update']
 # the statements that compute, and what they stand on
-PROOFS = {'wire': ['Tests'], 'device': ['Bench'], 'update': ['Fitting', 'Goodness', 'Bench', 'Cases']}
+PROOFS = {'wire': ['Tests'], 'device_session': ['effect/Laws'], 'device': ['Bench'], 'update': ['Fitting', 'Goodness', 'Bench', 'Cases']}
 
 
 def types_only(text):
@@ -32,7 +32,7 @@ def types_only(text):
         if re.match(r'(pub(\(crate\))? )?fn |impl ', line):
             while not lines[i].startswith('}'):
                 i += 1
-        elif line.startswith('ghost use') or re.match(r'use .*::[a-z_]\w*;', line) or re.match(r'use .*::[A-Z_]+;', line) or re.match(r'const ', line):
+        elif line.startswith('ghost use') or re.match(r'use .*::[a-z_]\w*;', line):
             while not lines[i].rstrip().endswith(';'):
                 i += 1
         else:
@@ -57,11 +57,16 @@ def definitions(folder):
             with open(os.path.join(target, 'src', os.path.basename(path)), 'w', encoding='utf-8') as out:
                 out.write(types_only(open(path, encoding='utf-8').read()))
         if crate in PROOFS:
-            os.makedirs(os.path.join(target, 'proofs'))
+            proofs = os.path.join(target, 'proofs')
             for name in PROOFS[crate]:
-                shutil.copy(os.path.join(source, 'proofs', name + '.antt'), os.path.join(target, 'proofs'))
-            with open(os.path.join(target, 'proofs', 'Lib.antt'), 'w', encoding='utf-8') as out:
-                out.write(''.join(f'pub mod {name}\n' for name in PROOFS[crate]))
+                os.makedirs(os.path.dirname(os.path.join(proofs, name)), exist_ok=True)
+                shutil.copy(os.path.join(source, 'proofs', name + '.antt'), os.path.join(proofs, name + '.antt'))
+                if '/' in name:  # of a module of the code, which names its own
+                    shutil.copy(os.path.join(source, 'proofs', os.path.dirname(name) + '.antt'), proofs)
+            own = [name for name in PROOFS[crate] if '/' not in name]
+            if own:
+                with open(os.path.join(proofs, 'Lib.antt'), 'w', encoding='utf-8') as out:
+                    out.write(''.join(f'pub mod {name}\n' for name in own))
     subprocess.run(['git', 'init', '-q', folder], check=True)
 
 

@@ -1,5 +1,5 @@
 #!/usr/bin/env python3
-"""Tries tools/rust_crate on forms that few rooms have: two small rooms, beside a program and what it prints with, made into a crate that rustc
+"""Tries tools/rust_crate on forms that few crates have: two small crates, beside a program and what it prints with, made into a crate that rustc
 compiles without a warning; then each thing that the script does not know, which it must name with its file and line. Status 1 where one goes
 otherwise."""
 import os
@@ -10,8 +10,8 @@ import tempfile
 
 SCRIPT = os.path.join(os.path.dirname(os.path.abspath(__file__)), '..', '..', 'tools', 'rust_crate')
 
-CRATES = '# rooms\nlow:\nhigh: low\n\n# programs, and what they print with\nrun_print: io\ntool: run_print high low io\n'
-LOW = '''// The low room: [brackets] and <signs> in words, `a[0]` as code.
+CRATES = '# crates\nlow:\nhigh: low\n\n# programs, and what they print with\nrun_print: io\ntool: run_print high low io\n'
+LOW = '''// The low crate: [brackets] and <signs> in words, `a[0]` as code.
 ghost use mathlib.Core.Path.{_≡_};
 ghost use lib.ListN.{length,
     take};
@@ -35,7 +35,7 @@ pub enum Found {
     At { place: usize },
 }
 '''
-PART = '''// A module whose name the high room has too.
+PART = '''// A module whose name the high crate has too.
 use crate::Found;
 use crate::Pair;
 use std::num::wrapping_sub_u8;
@@ -92,7 +92,7 @@ pub fn kept(a: u16) -> u16
     a
 }
 '''
-ROOMS = {
+SOURCES = {
     'crates.txt': CRATES,
     'crates/low/src/lib.rt': LOW,
     'crates/low/src/part.rt': PART,
@@ -105,7 +105,7 @@ ROOMS = {
 # What must stand in the made crate.
 MADE = {
     'src/lib.rs': ['pub mod low;\npub mod high;\n'],
-    'src/low/mod.rs': ['//! The low room: \\[brackets\\] and \\<signs\\> in words, `a[0]` as code.\npub mod part; // part.rt: a module\n',
+    'src/low/mod.rs': ['//! The low crate: \\[brackets\\] and \\<signs\\> in words, `a[0]` as code.\npub mod part; // part.rt: a module\n',
                        '/// A pair.\n#[repr(C)]\n#[derive(Clone, Copy, Debug, PartialEq, Eq)]\npub struct Pair {\n    /// The left one.\n',
                        '#[derive(Debug, PartialEq, Eq)]\npub struct Lent', '    /// Nothing.\n    Nothing,\n'],
     'src/low/part.rs': ['use crate::low::Pair;\n\n/// For C.\n#[inline]\npub fn next(a: u16) -> u16 {\n    u16::wrapping_add(a, 1)\n}\n',
@@ -145,7 +145,7 @@ def run(files, top):
 def main():
     with tempfile.TemporaryDirectory() as place:
         top = os.path.join(place, 'top')
-        told, status = run(ROOMS, top)
+        told, status = run(SOURCES, top)
         if status != 0:
             print(f'forms: no crate is made: {told}')
             return 1
@@ -162,7 +162,7 @@ def main():
             return 1
         opened = ('crates/high/src/lib.rt', 'mod part;', 'pub mod part;', 'crates/high/src/part.rt:3: a `requires` on a public function')
         for path, old, new, expected in [('crates/high/src/part.rt', *case) for case in UNKNOWN] + [opened]:
-            told, status = run({**ROOMS, path: ROOMS[path].replace(old, new)}, top)
+            told, status = run({**SOURCES, path: SOURCES[path].replace(old, new)}, top)
             if status != 1 or not told.startswith(f'tools/rust_crate: {expected}') or os.path.exists(os.path.join(top, 'out')):
                 print(f'forms: expected {expected}\nand came {told}')
                 return 1

@@ -67,13 +67,13 @@ listedAt c i = getD (c .table) i blankEntry
 abbrev pub recordsOn : Contents → ℕ → ℕ
 recordsOn c i = listedAt c i .records
 
--- the body of an entry of a table: where it starts and ends, and how many records it has; past the table it is empty
+-- the body of an entry: where it starts and ends, and how many records it has
+abbrev pub entryBody : Entry → Body
+entryBody e = record { start = e .offset; end = e .offset + e .length; records = e .records }
+
+-- .. of the entry at a place of a table; past the table it is empty
 abbrev pub bodyOn : List Entry → ℕ → Body
-bodyOn table i = record {
-  start = getD table i blankEntry .offset;
-  end = getD table i blankEntry .offset + getD table i blankEntry .length;
-  records = getD table i blankEntry .records;
-}
+bodyOn table i = entryBody (getD table i blankEntry)
 
 abbrev pub bodyOf : Contents → ℕ → Body
 bodyOf c i = bodyOn (c .table) i

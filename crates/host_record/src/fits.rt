@@ -1,9 +1,9 @@
 // Row N1: a record that does not fit the bundle, told in constant time by how many offers it has and how many records the body in hand has. And whether a
 // block is the last of its body.
 ghost use mathlib.Core.Path.{_≡_};
-ghost use Prim.Native.Nat.{_+_, _^_};
+ghost use Prim.Native.Nat.{_^_};
 ghost use lib.Dec.{leb};
-ghost use Rattle.host_record.specs.Fits.{turnBreaks, placeBreaks, stageBreaks, recordBreaks, isLastOf, lastOf, bodyOn, inHand};
+ghost use Rattle.host_record.specs.Fits.{turnBreaks, placeBreaks, stageBreaks, recordBreaks, isLastOf, lastOf, entryBody, bodyOn, inHand};
 use crate::record::Host;
 use crate::record::HostStage;
 use crate::record::PACKET_LIMIT;
@@ -22,8 +22,8 @@ pub struct Body {
     pub records: u32,
 }
 
-fn body_of(e: Entry) -> Body
-    ensures { λ r. ⌜ r ≡ record { start = e .offset; end = e .offset + e .length; records = e .records } ⌝ }
+pub fn body_of(e: Entry) -> Body
+    ensures { λ r. ⌜ r ≡ entryBody e ⌝ }
 {
     Body {
         start: e.offset as usize,

@@ -8,6 +8,7 @@ use Rattle.host_packet.specs.Made.{InnerStep}
 use Rattle.host.specs.Inner.{innerOf}
 use Rattle.host_record.specs.declared.record.Host.{Host}
 use Rattle.host_record.specs.declared.fits.Body.{Body}
+use Rattle.device.specs.declared.answer.Answer.{Answer}
 use Rattle.update.specs.declared.turn.BothEnds.{BothEnds}
 use Rattle.update.specs.Trace.{Exchange}
 use Rattle.update.specs.Run.{System, deliver}
@@ -28,12 +29,17 @@ Comes s e staging = (trace : List Exchange) × (s ≡ systemOf e staging trace)
 abbrev pub stepFrom : (b : List ℕ) → (count : ℕ) → (hand : Body) → BothEnds → InnerStep
 stepFrom b count hand e = innerOf b bundle.served count hand (e .cursor) (e .host) (replyOf e)
 
--- what a step of the host leaves: it takes effect, and the cursor is kept
-abbrev pub Delivered : List (List ℕ) → Host → (cursor : ℕ) → BothEnds → (staging : List ℕ) → BothEnds → (staging : List ℕ) → Type 0
-Delivered sent host cursor e staging e′ staging′ =
-    (e′ .cursor ≡ cursor) × ((trace : List Exchange) → Comes (deliver sent host (systemOf e staging trace)) e′ staging′)
+-- both ends after a step of the host that came to this record and cursor, and the device's answer to it
+abbrev pub afterOf : Host → (cursor : ℕ) → Answer → BothEnds
+afterOf host cursor a = record { host = host; device = a .device; replies = a .replies; cursor = cursor }
 
--- one turn: the host's step, and what it sends is answered
+-- what was sent takes effect, whichever record and cursor the step came to
+abbrev pub Delivered : List (List ℕ) → BothEnds → (staging : List ℕ) → Answer → (staging : List ℕ) → Type 0
+Delivered sent e staging a staging′ =
+    (host : Host) → (cursor : ℕ) → (trace : List Exchange) → Comes (deliver sent host (systemOf e staging trace)) (afterOf host cursor a) staging′
+
+-- one turn: the host's step, what it sends is answered, and the cursor is kept
 abbrev pub Turned : (b : List ℕ) → (count : ℕ) → (hand : Body) → BothEnds → (staging : List ℕ) → BothEnds → (staging : List ℕ) → Type 0
 Turned b count hand e staging e′ staging′ =
-    Delivered (stepFrom b count hand e .step .sent) (stepFrom b count hand e .step .host) (stepFrom b count hand e .cursor) e staging e′ staging′
+    (e′ .cursor ≡ stepFrom b count hand e .cursor)
+    × ((trace : List Exchange) → Comes (deliver (stepFrom b count hand e .step .sent) (stepFrom b count hand e .step .host) (systemOf e staging trace)) e′ staging′)

@@ -13,13 +13,14 @@ ghost use Rattle.update.specs.Turn.{Comes, Delivered, Turned};
 use bundle_layout::BundleVerdict;
 use bundle_layout::Checked;
 use device::answer::Answer;
+use device::answer::Refusal;
 use device::record::Device;
 use device_session::effect::Replies;
 use host::inner::inner_step;
 use host_packet::answer::Sent;
 use host_packet::packet::PACKET_SIZE;
 use host_record::fits::Body;
-use host_record::fits::body_at;
+use host_record::fits::body_of;
 use host_record::fits::in_hand;
 use host_record::record::Host;
 use host_record::record::HostStage;
@@ -57,51 +58,23 @@ fn heard(due: bool) -> usize
     if due { 16 } else { 0 }
 }
 
-// What a packet leaves, once it is answered.
-fn after(host: Host, next: usize, a: Answer) -> BothEnds
-    ensures { λ r. ⌜ r ≡ record { host = host; device = a .device; replies = a .replies; cursor = next } ⌝ }
-{
-    let device = a.device;
-    let replies = a.replies;
-    BothEnds {
-        host,
-        device,
-        replies,
-        cursor: next,
-    }
-}
-
-// What the host sent is answered, and its next record and cursor are kept.
-fn deliver(
-    sent: Sent,
-    packet: &[u8],
-    host: Host,
-    cursor: usize,
-    e: BothEnds,
-    staging: &mut [u8],
-) -> BothEnds
+// What the host sent is answered; where it sent nothing, the device and its last replies stay.
+fn deliver(sent: Sent, packet: &[u8], e: BothEnds, staging: &mut [u8]) -> Answer
     requires { ⌜ length (now packet) ≡ PACKET-SIZE ⌝ }
-    ensures { λ r. ⌜ Delivered (sentBy sent (now (packet .entry))) host cursor e (now (staging .entry)) r (now (staging .exit)) ⌝ }
+    ensures { λ r. ⌜ Delivered (sentBy sent (now (packet .entry))) e (now (staging .entry)) r (now (staging .exit)) ⌝ }
 {
     let device = e.device;
     match sent {
         Sent::Nothing => {
             let replies = e.replies;
-            BothEnds {
-                host,
-                device,
+            Answer {
+                refusal: Refusal::Served,
                 replies,
-                cursor,
+                device,
             }
         }
-        Sent::Offer => {
-            let a = device.offer(staging, &packet[..16]);
-            after(host, cursor, a)
-        }
-        Sent::Content => {
-            let a = device.content(staging, packet);
-            after(host, cursor, a)
-        }
+        Sent::Offer => device.offer(staging, &packet[..16]),
+        Sent::Content => device.content(staging, packet),
     }
 }
 
@@ -127,7 +100,15 @@ fn turn(count: u8, hand: Body, bundle: &[u8], e: BothEnds, staging: &mut [u8]) -
     );
     let sent = s.sent;
     let next = s.host;
-    deliver(sent, &packet, next, s.cursor, e, staging)
+    let a = deliver(sent, &packet, e, staging);
+    let device = a.device;
+    let after = a.replies;
+    BothEnds {
+        host: next,
+        device,
+        replies: after,
+        cursor: s.cursor,
+    }
 }
 
 // Over an accepted bundle: turn by turn, until the host has ended.
@@ -153,8 +134,8 @@ pub(crate) fn run_to_end(
     };
     let mut stage = HostStage::Fresh;
     while !has_ended(stage) {
-        let hand = body_at(table, in_hand(stage));
-        e = turn(count, hand, bundle, e, staging);
+        let entry = table[in_hand(stage) as usize];
+        e = turn(count, body_of(entry), bundle, e, staging);
         let next = e.host;
         stage = next.stage;
     }

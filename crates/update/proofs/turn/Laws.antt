@@ -13,7 +13,7 @@ use Rattle.wire.specs.Codes.{NOTIFY-ON-READY, INFO-START-ENTIRE-TRANSACTION, IN
 use Rattle.wire_offer.specs.Kind.{Kind, offer, information, extended, kindIn}
 use Rattle.wire_content.specs.Head.{headIn}
 use Rattle.wire_content.specs.declared.head.ContentHead.{ContentHead}
-use Rattle.bundle_layout.specs.Layout.{countIn}
+use Rattle.bundle_layout.specs.Layout.{OFFER-LIMIT, countIn}
 use Rattle.bundle_layout.specs.Rows as rows
 use Rattle.bundle_layout.specs.declared.Checked.{Checked}
 use Rattle.bundle.specs.Contents.{Contents, checkOf, toldChecked}
@@ -35,6 +35,7 @@ use Rattle.device.specs.declared.record.Device.{Device}
 use Rattle.device_session.specs.declared.owed.Owed.{Owed}
 use Rattle.device_session.specs.declared.owed.Owed.the-variants as owed
 use Rattle.device.specs.declared.answer.Answer.{Answer}
+use Rattle.device.specs.declared.answer.Refusal.{Refusal}
 use Rattle.device.specs.declared.answer.Channel.{Channel}
 use Rattle.device.specs.declared.answer.Channel.the-variants.{Offer, Content}
 use Rattle.device_receiving.specs.declared.checks.ContentVerdict.{ContentVerdict}
@@ -50,14 +51,16 @@ use Rattle.host_packet.specs.Made.{InnerStep}
 use Rattle.host.specs.Step.{lastIn, stepOf}
 use Rattle.host.specs.Inner.{innerOf, lent, CursorIn}
 use Rattle.host_record.specs.declared.record.Host.{Host}
+use Rattle.host_record.specs.declared.record.HostStage.{HostStage}
+use Rattle.host_record.specs.declared.record.HostStage.the-variants as stage
 use Rattle.host_record.specs.declared.fits.Body.{Body}
 use Rattle.host_decide.specs.declared.Move.{Move}
 use Rattle.host.proofs.inner.IsStep.{inner-is-step}
 use Rattle.update.specs.declared.turn.BothEnds.{BothEnds}
 use Rattle.update.specs.Trace.{Exchange}
 use Rattle.update.specs.Run.{System, channelOf, heard, flight, deliver, exchange, run, start, boundOf, lastOf}
-use Rattle.update.specs.Turn.{replyOf, systemOf, Comes, stepFrom, Delivered, Turned}
-use Rattle.update.proofs.Ready.{Ready, Goes, goes, step-moves, fresh-ready, owed-step}
+use Rattle.update.specs.Turn.{replyOf, systemOf, Comes, stepFrom, afterOf, Delivered, Turned}
+use Rattle.update.proofs.Ready.{InStage, Ready, Goes, goes, step-moves, fresh-ready, owed-step}
 use Rattle.update.proofs.Talks.{deliver-host, run-next, ended-last}
 
 -- the first that is sent is the reply, where one is due; a READY follows only a reply
@@ -122,37 +125,36 @@ pub stepped : (b p : List ℕ) (count : ℕ) (hand : Body) (e : BothEnds) (n : �
     → i ≡ stepFrom b count hand e
 stepped b p count hand e n i l m z h = h ∙ rw (l, z, heard-is (e .replies .due) (e .replies .reply) m)
 
-module _ (h : Host) (cursor : ℕ) (e : BothEnds) where
-  -- nothing is sent
-  pub nothing-delivered : (staging : List ℕ)
-      → Delivered [] h cursor e staging (record { host = h; device = e .device; replies = e .replies; cursor = cursor }) staging
-  unfolding deliver
-  nothing-delivered staging = (refl, λ trace. (trace, refl))
+-- a step, with what it sends answered
+pub step-turned : (b : List ℕ) (count : ℕ) (hand : Body) (e : BothEnds) (i : InnerStep) (staging staging′ : List ℕ) (a : Answer)
+    → i ≡ stepFrom b count hand e → Delivered (i .step .sent) e staging a staging′ → Turned b count hand e staging (afterOf (i .step .host) (i .cursor) a) staging′
+step-turned b count hand e i staging staging′ a z d =
+    subst (λ (x : InnerStep). (i .cursor ≡ x .cursor) × ((trace : List Exchange) → Comes (deliver (x .step .sent) (x .step .host) (systemOf e staging trace)) (afterOf (i .step .host) (i .cursor) a) staging′)) z
+    (refl, d (i .step .host) (i .cursor))
 
-  -- both ends after an answer
-  abbrev afterOf : Answer → BothEnds
-  afterOf a = record { host = h; device = a .device; replies = a .replies; cursor = cursor }
+module _ (e : BothEnds) where
+  -- nothing is sent
+  pub nothing-delivered : (staging : List ℕ) (refusal : Refusal) → Delivered [] e staging (record { refusal = refusal; replies = e .replies; device = e .device }) staging
+  unfolding deliver
+  nothing-delivered staging refusal host cursor trace = (trace, refl)
 
   -- a packet on its channel is answered
-  pub answer-delivered : (p staging staging′ : List ℕ) (channel : Channel) (a : Answer) (r : BothEnds) → channelOf p ≡ channel
-      → told a ≡ serveEntry (e .device) channel staging p → staging′ ≡ serveStaging (e .device) channel staging p → r ≡ afterOf a
-      → Delivered (p ∷ []) h cursor e staging r staging′
+  pub answer-delivered : (p staging staging′ : List ℕ) (channel : Channel) (a : Answer) → channelOf p ≡ channel
+      → told a ≡ serveEntry (e .device) channel staging p → staging′ ≡ serveStaging (e .device) channel staging p
+      → Delivered (p ∷ []) e staging a staging′
   unfolding deliver
-  answer-delivered p staging staging′ channel a r c t s z = rw z (refl, comes)
-    where
-      comes : (trace : List Exchange) → Comes (deliver (p ∷ []) h (systemOf e staging trace)) (afterOf a) staging′
-      comes trace =
-          let last = flight p h (e .device) staging trace .trace in (
-            last,
-            ap (λ (x : Channel). record {
-              host = h;
-              device = serveEntry (e .device) x staging p .device;
-              staging = serveStaging (e .device) x staging p;
-              reply = heard (serveEntry (e .device) x staging p .sent);
-              trace = last;
-            }) c
-                ∙ rw (serve-first (e .device) channel staging p, ← t, ← s),
-          )
+  answer-delivered p staging staging′ channel a c t s host cursor trace =
+      let last = flight p host (e .device) staging trace .trace in (
+        last,
+        ap (λ (x : Channel). record {
+          host = host;
+          device = serveEntry (e .device) x staging p .device;
+          staging = serveStaging (e .device) x staging p;
+          reply = heard (serveEntry (e .device) x staging p .sent);
+          trace = last;
+        }) c
+            ∙ rw (serve-first (e .device) channel staging p, ← t, ← s),
+      )
 
 -- the host's step and a turn, with the count and the body in hand that the check answers
 module _ (b : List ℕ) (e : BothEnds) where
@@ -176,6 +178,20 @@ pub record Reached (b : List ℕ) (token : ℕ) (d : Device) (staging : List ℕ
   pub comes : Comes (run b turns (start token d staging [])) e staging′
   pub ready : Ready b (e .host)
   pub cursor : CursorIn b (e .host .stage) (e .cursor)
+
+-- a ready host has an entry of the table in hand
+pub within-table : (b : List ℕ) → Bytes b → rows.bundleRow b ≡ rows.served → (h : Host) → Ready b h → inHand (h .stage) < OFFER-LIMIT
+within-table b bytes accept h r = go (h .stage) (r .stage)
+  where
+    go : (g : HostStage) → InStage b (h .passes) g → inHand g < OFFER-LIMIT
+    go stage.Fresh s = omega arith
+    go stage.Opening s = omega arith
+    go stage.Listing s = omega arith
+    go (stage.Offering t) s = omega (arith, s .0, accepted b bytes accept .few)
+    go (stage.Waiting t) s = omega (arith, s .0, accepted b bytes accept .few)
+    go (stage.Sending p) s = omega (arith, s .0, accepted b bytes accept .few)
+    go stage.Closing s = omega arith
+    go (stage.Ended e) s = omega arith
 
 -- the turns that are left, and one more until the host has ended
 abbrev pub leftOf : (b : List ℕ) → Host → ℕ

@@ -4,6 +4,7 @@ use native.Mathlib.Omega.{arith}
 use lib.ListN.{take}
 use Rattle.device.specs.Entries.{serveEntry, serveStaging}
 use Rattle.device.specs.declared.answer.Channel.the-variants as channel
+use Rattle.device.specs.declared.answer.Refusal.the-variants as refusal
 use Rattle.host_packet.specs.Answer.{sentBy}
 use Rattle.host_packet.specs.declared.answer.Sent.{Sent}
 use Rattle.update.specs.Run.{channelOf}
@@ -19,32 +20,29 @@ slice-aggregate-offer c = let s = c .before .before .before .before .before .bef
 returns : tie.Need-returns
 returns c =
     let a = c .before .before .before .before .before .before .args in
-    subst⁻¹ (λ (x : Sent). Delivered (sentBy x (a .packet .now)) (a .host) (a .cursor) (a .e) (a .staging .now)
-    (record { host = a .host; device = a .e .device; replies = a .e .replies; cursor = a .cursor }) (a .staging .now)) (c .before .enum-told .given .1)
-    (nothing-delivered (a .host) (a .cursor) (a .e) (a .staging .now))
+    subst⁻¹ (λ (x : Sent). Delivered (sentBy x (a .packet .now)) (a .e) (a .staging .now) (record { refusal = refusal.Served; replies = a .e .replies; device = a .e .device }) (a .staging .now))
+    (c .before .enum-told .given .1) (nothing-delivered (a .e) (a .staging .now) refusal.Served)
 
 returns-2 : tie.Need-returns-2
 unfolding serveEntry serveStaging
 returns-2 c =
-    let s = c .before .before .before .before .before .before .before .before .before in
+    let s = c .before .before .before .before .before .before .before .before in
     let a = s .args in
     let p = a .packet .now in
     let f : channelOf (take 16 p) ≡ channel.Offer = rw (← first-length 16 p (omega (arith, s .pre))) in
-    subst⁻¹ (λ (x : Sent). Delivered (sentBy x p) (a .host) (a .cursor) (a .e) (a .staging .now) (c .after .result) (a .staging .now)) (c .before .before .before .before .enum-told2 .given .1)
-    (answer-delivered (a .host) (a .cursor) (a .e) (take 16 p) (a .staging .now) (a .staging .now) channel.Offer (c .before .offer .result) (c .after .result) f
-    (c .before .offer .ensures) refl (c .after .ensures))
+    subst⁻¹ (λ (x : Sent). Delivered (sentBy x p) (a .e) (a .staging .now) (c .offer .result) (a .staging .now)) (c .before .before .before .enum-told2 .given .1)
+    (answer-delivered (a .e) (take 16 p) (a .staging .now) (a .staging .now) channel.Offer (c .offer .result) f (c .offer .ensures) refl)
 
 returns-3 : tie.Need-returns-3
 unfolding serveEntry serveStaging
 returns-3 c =
-    let s = c .before .before .before .before .before .before .before .before .before .before in
+    let s = c .before .before .before .before .before .before .before .before .before in
     let a = s .args in
     let p = a .packet .now in
-    let k = c .before .before .before .content in
+    let k = c .before .before .content in
     let f : channelOf p ≡ channel.Content = rw (s .pre) in
-    subst⁻¹ (λ (x : Sent). Delivered (sentBy x p) (a .host) (a .cursor) (a .e) (a .staging .now) (c .after2 .result) (k .last .1 .0)) (c .before .before .before .before .before .enum-told3 .given .1)
-    (answer-delivered (a .host) (a .cursor) (a .e) p (a .staging .now) (k .last .1 .0) channel.Content (k .result) (c .after2 .result) f
-    (k .ensures .0) (k .ensures .1) (c .after2 .ensures))
+    subst⁻¹ (λ (x : Sent). Delivered (sentBy x p) (a .e) (a .staging .now) (k .result) (k .last .1 .0)) (c .before .before .before .before .enum-told3 .given .1)
+    (answer-delivered (a .e) p (a .staging .now) (k .last .1 .0) channel.Content (k .result) f (k .ensures .0) (k .ensures .1))
 
 pub deliver-spec : {M : Type 1} → statement M
 deliver-spec =
@@ -54,9 +52,7 @@ deliver-spec =
     (λ c. search needs)
     slice-aggregate-offer
     (λ c κs. search needs)
-    (λ c κs. search needs)
     (λ c. search needs)
-    (λ c κs. search needs)
     (λ c κs. search needs)
     returns
     (λ c. search needs)

@@ -1,11 +1,10 @@
 -- `turn::turn` meets its contract: what the step tells is delivered. Assumes nothing.
 use Prim.Native.Nat.{ℕ, _≤_}
-use mathlib.Core.Path.{_≡_, refl, sym, subst, subst⁻¹}
+use mathlib.Core.Path.{_≡_, refl, subst⁻¹}
 use lib.ListN.{length, replicate}
-use Rattle.host_packet.specs.Made.{InnerStep}
-use Rattle.update.specs.Turn.{Delivered}
+use Rattle.host_packet.specs.Packet.{PACKET-SIZE}
 use Rattle.update.proofs.Ranges.{reply-length}
-use Rattle.update.proofs.turn.Laws.{first-length, heard-most, stepped}
+use Rattle.update.proofs.turn.Laws.{first-length, heard-most, stepped, step-turned}
 use borrow.Author.Needs.{needs}
 use Rattle.update.proofs.turn.turn.Statement.{statement}
 use Rattle.update.proofs.turn.turn.Tie as tie
@@ -27,12 +26,13 @@ slice-aggregate-inner-step-2 c = first-length (c .before .before .heard .result)
 
 returns : tie.Need-returns
 returns c =
-    let s = c .before .before .before .before .before .before .before .before .before .before .before .before .before .before .before .before in
+    let s = c .before .before .before .before .before .before .before .before .before .before .before .before .before .before .before .before .before .before in
     let a = s .args in
-    let k = c .before .before .deliver in
-    let h = c .before .before .before .before .before .before .before .before .before .before .heard in
-    subst (λ (x : InnerStep). Delivered (x .step .sent) (x .step .host) (x .cursor) (a .e) (a .staging .now) (k .result) (k .last .1 .1 .1 .1 .1 .0))
-    (stepped (a .bundle .now) (replicate 60 0) (a .count) (a .hand) (a .e) (h .result) _ refl (sixteen s) (h .ensures) (c .before .before .before .before .before .before .before .inner-step .ensures)) (k .ensures)
+    let k = c .before .before .before .before .deliver in
+    let i = c .before .before .before .before .before .before .before .before .before .inner-step in
+    let h = c .before .before .before .before .before .before .before .before .before .before .before .before .heard in
+    step-turned (a .bundle .now) (a .count) (a .hand) (a .e) _ (a .staging .now) (k .last .1 .1 .1 .0) (k .result)
+    (stepped (a .bundle .now) (replicate PACKET-SIZE 0) (a .count) (a .hand) (a .e) (h .result) _ refl (sixteen s) (h .ensures) (i .ensures)) (k .ensures)
 
 pub turn-spec : {M : Type 1} → statement M
 turn-spec =

@@ -1,13 +1,11 @@
 // The content entry (document 01, "The device").
 use crate::answer::Answer;
 use crate::record::Device;
-use device_receiving::content;
+use device_receiving::content::on_report;
 use device_slots::slot::component_at;
-use device_slots::slot::slot_of;
 use device_slots::slot::with_component;
-use wire_content::head::read_head;
 ghost use mathlib.Core.Path.{_≡_};
-ghost use lib.ListN.{length, drop};
+ghost use lib.ListN.{drop};
 ghost use Rattle.wire_content.specs.Head.{headIn};
 ghost use Rattle.device_receiving.specs.Receive.{onContent, stagingAfter};
 ghost use Rattle.device.specs.Refusals.{told};
@@ -16,16 +14,14 @@ ghost use Rattle.device.specs.Content.{sessionComponent, received as rec
 impl Device {
     // A packet that no row refuses.
     fn on_content(self, report: &[u8], staging: &mut [u8]) -> Answer
-        requires { ⌜ length (now report) ≡ 60 ⌝ }
         ensures { λ r. ⌜ (told r ≡ receivedBy self (onContent (sessionComponent self) (self .session) (headIn (now (report .entry))) (drop 8 (now (report .entry))) (now (staging .entry)))) × (now (staging .exit) ≡ stagingAfter (sessionComponent self .fixed .region) (self .session .stage) (headIn (now (report .entry))) (drop 8 (now (report .entry))) (now (staging .entry))) ⌝ }
     {
         let components = self.components;
         let session = self.session;
         let stage = session.stage;
-        let slot = slot_of(stage.open_slot());
+        let slot = stage.slot();
         let component = component_at(components, slot);
-        let head = read_head(report);
-        let taken = content::on_content(component, session, head, &report[8..], staging);
+        let taken = on_report(component, session, report, staging);
         let effect = taken.effect;
         let after = taken.component;
         let next = with_component(components, slot, after);

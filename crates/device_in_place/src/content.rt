@@ -7,9 +7,7 @@ use crate::sound::refusal_in;
 use device_bytes::component::store_component;
 use device_bytes::session::session_in;
 use device_bytes::session::store_session;
-use device_receiving::content;
-use device_slots::slot::slot_of;
-use wire_content::head::read_head;
+use device_receiving::content::on_report;
 ghost use mathlib.Core.Path.{_≡_};
 ghost use lib.ListN.{length, drop};
 ghost use Rattle.wire_content.specs.Head.{headIn};
@@ -20,17 +18,16 @@ ghost use Rattle.device_in_place.specs.InPlace.{outcomeOf, contentLeaves
 
 // A packet that no row refuses.
 fn on_content(bytes: &mut [u8], staging: &mut [u8], report: &[u8]) -> Reply
-    requires { ⌜ (length (now bytes) ≡ DEVICE-SIZE) × (length (now report) ≡ 60) ⌝ }
+    requires { ⌜ length (now bytes) ≡ DEVICE-SIZE ⌝ }
     ensures { λ r. ⌜ (outcomeOf r (contentBy (now (bytes .entry)) (now (staging .entry)) (now (report .entry)) .device) ≡ contentBy (now (bytes .entry)) (now (staging .entry)) (now (report .entry)))
         × (now (bytes .exit) ≡ contentStored (now (bytes .entry)) (now (staging .entry)) (now (report .entry)))
         × (now (staging .exit) ≡ stagingAfter (sessionComponent (deviceIn (now (bytes .entry))) .fixed .region) (deviceIn (now (bytes .entry)) .session .stage) (headIn (now (report .entry))) (drop 8 (now (report .entry))) (now (staging .entry))) ⌝ }
 {
     let session = session_in(bytes);
     let stage = session.stage;
-    let slot = slot_of(stage.open_slot());
+    let slot = stage.slot();
     let component = component_at(bytes, slot);
-    let head = read_head(report);
-    let taken = content::on_content(component, session, head, &report[8..], staging);
+    let taken = on_report(component, session, report, staging);
     let effect = taken.effect;
     let after = taken.component;
     let next = effect.session;

@@ -1,6 +1,5 @@
 // Checks 1 to 5 of a content packet (document 01, "The device"), over the session's stage and the region of its component.
 use device_session::stage::Stage;
-use device_slots::slot::slot_of;
 use image::region::Region;
 use wire::codes;
 use wire_content::head::ContentHead;
@@ -88,5 +87,5 @@ pub fn judge_content(region: Region, stage: Stage, c: ContentHead) -> ContentVer
     if bad_address(region, c) {
         return ContentVerdict::Refuse(codes::ERROR_INVALID_ADDR);
     }
-    ContentVerdict::Take(slot_of(stage.open_slot()))
+    ContentVerdict::Take(stage.slot())
 }

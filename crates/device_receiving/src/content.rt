@@ -11,10 +11,14 @@ use device_session::owed::Owed;
 use device_session::stage::Receiving;
 use device_session::stage::Stage;
 use wire::codes;
+use wire::words;
 use wire_content::head::ContentHead;
+use wire_content::head::read_head;
 use wire_content::reply::ContentReply;
 use wire_content::reply::build_content_reply;
 ghost use mathlib.Core.Path.{_≡_};
+ghost use lib.ListN.{drop};
+ghost use Rattle.wire_content.specs.Head.{headIn};
 ghost use Rattle.device_receiving.specs.Receive.{blockReply, goesOn, onBlock, onContent, stagingAfter};
 
 // What a content packet does, and the session's component afterwards.
@@ -69,7 +73,7 @@ fn on_block(
 }
 
 // By the verdict, for a device whose session is on this component; checks 1 to 5 change nothing. The staging buffer changes only where a block is taken.
-pub fn on_content(
+fn on_content(
     component: Component,
     session: Session,
     c: ContentHead,
@@ -92,4 +96,19 @@ pub fn on_content(
             on_block(component, session, slot, c, staging)
         }
     }
+}
+
+// A content packet as it came: its head, and the data behind it.
+pub fn on_report(
+    component: Component,
+    session: Session,
+    report: &[u8],
+    staging: &mut [u8],
+) -> Taken
+    ensures { λ r. ⌜ (r ≡ onContent component session (headIn (now (report .entry))) (drop 8 (now (report .entry))) (now (staging .entry)))
+        × (now (staging .exit) ≡ stagingAfter (component .fixed .region) (session .stage) (headIn (now (report .entry))) (drop 8 (now (report .entry))) (now (staging .entry))) ⌝ }
+{
+    let head = read_head(report);
+    let at = words::least(8, report.len());
+    on_content(component, session, head, &report[at..], staging)
 }

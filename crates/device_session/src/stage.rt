@@ -1,7 +1,8 @@
 // The stage of a session (document 01, "The device"): idle, offered or receiving, with its own data.
 use device_component::list::Found;
+use device_slots::slot::slot_of;
 ghost use mathlib.Core.Path.{_≡_};
-ghost use Rattle.device_session.specs.Stage.{isOpen, openSlot, atToken, isReceiving, sequenceVerdict, isWrong};
+ghost use Rattle.device_session.specs.Stage.{isOpen, openSlot, atSlot, atToken, isReceiving, sequenceVerdict, isWrong};
 
 // An offer was accepted for the component in this slot.
 pub struct Offered {
@@ -61,6 +62,13 @@ impl Stage {
             Stage::Offered(o) => Found::At(o.slot),
             Stage::Receiving(r) => Found::At(r.slot),
         }
+    }
+
+    // That slot, and 0 while idle.
+    pub fn slot(self) -> u8
+        ensures { λ r. ⌜ r ≡ atSlot self ⌝ }
+    {
+        slot_of(self.open_slot())
     }
 
     // The token of the accepted offer, and 0 while idle.

@@ -28,7 +28,7 @@ returns-5 c = rw (by (c .before .before .before .before .before .before .before 
 
 returns-6 : tie.Need-returns-6
 unfolding contentVerdict firstOf
-returns-6 c = rw (by (c .before .before .before .before .before .before .before .before .before .before .before .no-offer .ensures) (c .before .before .before .before .before .before .before .before .before .before .if1 .left), by (c .before .before .before .before .before .before .before .before .before .bad-shape .ensures) (c .before .before .before .before .before .before .before .before .if2 .left), by (c .before .before .before .before .before .before .before .bad-first .ensures) (c .before .before .before .before .before .before .if3 .left), by (c .before .before .before .before .before .bad-sequence .ensures) (c .before .before .before .before .if4 .left), by (c .before .before .before .bad-address .ensures) (c .before .before .if5 .left)) (rw (c .slot-of .ensures, c .before .open-slot .ensures))
+returns-6 c = rw (by (c .before .before .before .before .before .before .before .before .before .before .no-offer .ensures) (c .before .before .before .before .before .before .before .before .before .if1 .left), by (c .before .before .before .before .before .before .before .before .bad-shape .ensures) (c .before .before .before .before .before .before .before .if2 .left), by (c .before .before .before .before .before .before .bad-first .ensures) (c .before .before .before .before .before .if3 .left), by (c .before .before .before .before .bad-sequence .ensures) (c .before .before .before .if4 .left), by (c .before .before .bad-address .ensures) (c .before .if5 .left)) (rw (c .slot .ensures))
 
 pub judge-content-spec : {M : Type 1} → statement M
 judge-content-spec =
@@ -44,6 +44,5 @@ judge-content-spec =
     returns-4
     (λ c κs. search needs)
     returns-5
-    (λ c κs. search needs)
     (λ c κs. search needs)
     returns-6)

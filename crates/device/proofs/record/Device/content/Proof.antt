@@ -7,7 +7,6 @@ use Rattle.wire_content.specs.Head.{headIn}
 use Rattle.device_receiving.specs.Receive.{stagingAfter}
 use Rattle.device.specs.Refusals.{served, refusalOf}
 use Rattle.device.specs.Content.{sessionComponent, contentEntry, contentStaging}
-use Rattle.device.proofs.Passes.{serves}
 use Rattle.device.proofs.answer.Laws.{none-refuses, one-refuses, one-keeps}
 use borrow.Author.Needs.{needs}
 use Rattle.device.proofs.record.Device.content.Statement.{statement}
@@ -21,12 +20,9 @@ returns c =
     let t = rw q at (by (c .before .before .is-refused .ensures) (c .before .if1 .taken)) in
     (c .refused .ensures ∙ rw q (sym (one-refuses _ _ _ t)), sym (one-keeps (refusalOf 60 (a .self) (length (now (a .staging))) (length (now (a .report)))) (now (a .staging)) (stagingAfter (sessionComponent (a .self) .fixed .region) (a .self .session .stage) (headIn (now (a .report))) (drop 8 (now (a .report))) (now (a .staging))) t))
 
--- no row refuses the call, so the report has 60 bytes
+-- no row refuses the call
 serves-it : (c : tie.Else1) → let a = c .before .before .before .before .before .args in refusalOf 60 (a .self) (length (now (a .staging))) (length (now (a .report))) ≡ served
 serves-it c = none-refuses _ (rw (c .before .before .refusal .ensures) at (by (c .before .is-refused .ensures) (c .if1 .left)))
-
-on-content-requires : tie.Need-on-content-requires
-on-content-requires c κs = serves 60 _ _ _ (serves-it (c .before)) .report
 
 returns-2 : tie.Need-returns-2
 unfolding contentEntry contentStaging
@@ -41,6 +37,6 @@ content-spec =
     (λ c κs. search needs)
     (λ c κs. search needs)
     returns
-    on-content-requires
+    (λ c κs. search needs)
     (λ c. search needs)
     returns-2)

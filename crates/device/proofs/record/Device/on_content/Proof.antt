@@ -1,22 +1,37 @@
 -- `Device::on_content` meets its contract: what the packet does to the component in the session's slot, put into the record. Assumes nothing.
 use mathlib.Core.Path.{_≡_}
-use Prim.Native.Nat.{_-_}
-use native.Mathlib.Omega.{arith}
-use denote.Ref.{now}
-use lib.ListN.{length, take, drop, length-drop}
-use lib.Seq.{take-all}
+use mathlib.Core.List.{List}
+use Prim.Native.Nat.{ℕ}
+use lib.ListN.{drop, set}
+use Rattle.wire_content.specs.Head.{headIn}
+use Rattle.device_component.specs.declared.record.Component.{Component}
+use Rattle.device_session.specs.Stage.{atSlot}
+use Rattle.device_receiving.specs.Receive.{onContent, stagingAfter}
+use Rattle.device_receiving.specs.declared.content.Taken.{Taken}
+use Rattle.device.specs.Record.{component}
+use Rattle.device.specs.Refusals.{Outcome, servedWith}
+use Rattle.device.specs.Content.{sessionComponent, received}
+use Rattle.device.specs.declared.record.Device.{Device}
 use borrow.Author.Needs.{needs}
 use Rattle.device.proofs.record.Device.on_content.Statement.{statement}
 use Rattle.device.proofs.record.Device.on_content.Tie as tie
 
+-- what is done with the component in a slot, where that is the session's
+stored : (d : Device) (p s s′ : List ℕ) (slot : ℕ) (c : Component) (t : Taken) (cs : List Component) (a : Outcome)
+    → slot ≡ atSlot (d .session .stage) → c ≡ component d slot
+    → (t ≡ onContent c (d .session) (headIn p) (drop 8 p) s) × (s′ ≡ stagingAfter (c .fixed .region) (d .session .stage) (headIn p) (drop 8 p) s)
+    → cs ≡ set (d .components) slot (t .component) → a ≡ servedWith d cs (t .effect)
+    → (a ≡ received d (onContent (sessionComponent d) (d .session) (headIn p) (drop 8 p) s))
+        × (s′ ≡ stagingAfter (sessionComponent d .fixed .region) (d .session .stage) (headIn p) (drop 8 p) s)
+stored d p s s′ slot c t cs a x y z v w = let h = rw (y, x) at z in (rw (w, v, h .0, x), h .1)
+
 returns : tie.Need-returns
 returns c =
-    let p = now (c .before .before .before .before .before .before .before .before .before .before .before .before .before .before .before .before .before .args .report) in
-    let e : take (length p - 8) (drop 8 p) ≡ drop 8 p = take-all (length p - 8) (drop 8 p) (simp length-drop (omega arith)) in
-    let k = c .before .before .before .before .before .before .before .before .before .before .before .slot-of .ensures in
-    let q = c .before .before .before .before .before .before .before .before .before .before .before .before .open-slot .ensures in
-    let o = rw (c .before .before .before .before .before .before .before .before .before .read-head .ensures, e, c .before .before .before .before .before .before .before .before .before .before .component-at .ensures, k, q) at (c .before .before .before .before .before .before .on-content .ensures) in
-    (rw (c .served .ensures, c .before .with-component .ensures, o .0, k, q), o .1)
+    let j = c .before .before .before .before .before .before in
+    let k = j .before .before in
+    let a = k .before .before .before .before .before .before .args in
+    stored (a .self) (a .report .now) (a .staging .now) (j .on-report .last .1 .1 .1 .0) (k .before .slot .result) (k .component-at .result) (j .on-report .result) (c .before .with-component .result) _
+    (k .before .slot .ensures) (k .component-at .ensures) (j .on-report .ensures) (c .before .with-component .ensures) (c .served .ensures)
 
 pub on-content-spec : {M : Type 1} → statement M
 on-content-spec =
@@ -24,11 +39,6 @@ on-content-spec =
     (tie.spec
     (λ c κs. search needs)
     (λ c κs. search needs)
-    (λ c κs. search needs)
-    (λ c κs. search needs)
-    (λ c. search needs)
-    (λ c. search needs)
-    (λ c. search needs)
     (λ c κs. search needs)
     (λ c κs. search needs)
     (λ c κs. search needs)

@@ -9,7 +9,6 @@ use Rattle.device_session.specs.Stage.{atSlot}
 use Rattle.device_receiving.specs.Receive.{onContent, stagingAfter}
 use Rattle.device.specs.Refusals.{served, refusalOf}
 use Rattle.device.specs.Content.{sessionComponent, received, contentEntry, contentStaging}
-use Rattle.device.proofs.Passes.{serves}
 use Rattle.device.proofs.answer.Laws.{none-refuses, one-keeps}
 use Rattle.device_bytes.specs.Layout.{deviceIn, isRecord, readDevice, withSessionBytes}
 use Rattle.device_bytes.proofs.Flags.{record-sized}
@@ -38,7 +37,7 @@ returns c =
       sym (one-keeps row s (stagingAfter (sessionComponent d .fixed .region) (d .session .stage) (headIn p) (drop 8 p) s) t),
     )
 
--- no row refuses the call, so the bytes are a record, and the report has 60
+-- no row refuses the call, so the bytes are a record
 serves-it : (c : tie.Else1) → let a = c .before .before .before .before .before .before .before .args in refusalOf 60 (readDevice (now (a .bytes))) (length (now (a .staging))) (length (now (a .report))) ≡ served
 serves-it c = none-refuses _ (rw (c .before .before .refusal-in .ensures) at (by (c .before .is-refused .ensures) (c .if1 .left)))
 
@@ -46,7 +45,7 @@ stands-it : (c : tie.Else1) → isRecord (now (c .before .before .before .before
 stands-it c = stands 60 (now (c .before .before .before .before .before .before .before .args .bytes)) _ _ (serves-it c)
 
 on-content-requires : tie.Need-on-content-requires
-on-content-requires c κs = (record-sized _ (stands-it (c .before .before)), serves 60 _ _ _ (serves-it (c .before .before)) .report)
+on-content-requires c κs = record-sized _ (stands-it (c .before .before))
 
 returns-2 : tie.Need-returns-2
 unfolding contentEntry contentStaging

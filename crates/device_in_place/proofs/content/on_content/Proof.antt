@@ -1,46 +1,52 @@
 -- `content::on_content` meets its contract: what the packet does to the session and to the component in its slot, each stored over its own bytes. Assumes nothing.
 use mathlib.Core.Path.{_≡_, ap, ap₂, _∙_}
-use Prim.Native.Nat.{ℕ, _-_}
-use native.Mathlib.Omega.{arith}
-use denote.Ref.{now}
-use lib.ListN.{length, take, drop, length-drop}
-use lib.Seq.{take-all}
+use mathlib.Core.List.{List}
+use Prim.Native.Nat.{ℕ}
+use lib.ListN.{drop}
 use Rattle.wire_content.specs.Head.{headIn}
-use Rattle.device_receiving.specs.Receive.{onContent}
+use Rattle.device_component.specs.Lists.{componentAt}
+use Rattle.device_component.specs.declared.record.Component.{Component}
+use Rattle.device_session.specs.Stage.{atSlot}
+use Rattle.device_session.specs.declared.effect.Session.{Session}
+use Rattle.device_receiving.specs.Receive.{onContent, stagingAfter}
 use Rattle.device_receiving.specs.declared.content.Taken.{Taken}
-use Rattle.device.specs.Content.{sessionComponent, received}
-use Rattle.device_bytes.specs.Layout.{deviceIn, withSessionBytes, withComponentBytes}
-use Rattle.device_in_place.specs.InPlace.{outcomeOf, servedReply}
+use Rattle.device.specs.Content.{sessionComponent}
+use Rattle.device_bytes.specs.Layout.{deviceIn, sessionIn, withSessionBytes, withComponentBytes}
+use Rattle.device_in_place.specs.InPlace.{outcomeOf, servedReply, contentBy, contentStored}
 use Rattle.device_in_place.specs.declared.Reply.{Reply}
 use Rattle.device_bytes.proofs.Fields.{session-read}
 use borrow.Author.Needs.{needs}
 use Rattle.device_in_place.proofs.content.on_content.Statement.{statement}
 use Rattle.device_in_place.proofs.content.on_content.Tie as tie
 
-returns : tie.Need-returns
-returns c =
-    let stored = c .before .before .before in
-    let session = stored .before .before .before .before in
-    let taken = session .before .before .before .before .before .before .before in
-    let head = taken .before .before .before in
-    let component = head .before in
-    let slot = component .before .before in
-    let opened = slot .before in
-    let read = opened .before in
-    let start = read .before .before .before .before .before in
-    let b = now (start .args .bytes) in
-    let p = now (start .args .report) in
-    let d = deviceIn b in
-    let e : take (length p - 8) (drop 8 p) ≡ drop 8 p = take-all (length p - 8) (drop 8 p) (simp length-drop (omega arith)) in
-    let s = read .session-in .ensures ∙ session-read b in
-    let k = rw (opened .open-slot .ensures, s) at (slot .slot-of .ensures) in
-    let o = rw (component .component-at .ensures, k, s, head .read-head .ensures, e) at (taken .on-content .ensures) in
-    let r = onContent (sessionComponent d) (d .session) (headIn p) (drop 8 p) (now (start .args .staging)) in (
-      ap (λ (x : Reply). outcomeOf x (received d r .device)) (c .served .ensures ∙ ap (λ (t : Taken). servedReply (t .effect)) (o .0)),
-      stored .store-component .ensures ∙ ap (withComponentBytes (slot .slot-of .result) (taken .on-content .result .component)) (session .store-session .ensures)
-          ∙ ap₂ (λ (n : ℕ) (t : Taken). withComponentBytes n (t .component) (withSessionBytes (t .effect .session) b)) k (o .0),
+-- what is done with the session and with the component in a slot, where these are the record's
+stored : (b p s s′ : List ℕ) (session : Session) (slot : ℕ) (c : Component) (t : Taken) (b₁ b₂ : List ℕ) (r : Reply) → let d = deviceIn b in session ≡ sessionIn b
+    → slot ≡ atSlot (session .stage) → c ≡ componentAt (d .components) slot
+    → (t ≡ onContent c session (headIn p) (drop 8 p) s) × (s′ ≡ stagingAfter (c .fixed .region) (session .stage) (headIn p) (drop 8 p) s)
+    → b₁ ≡ withSessionBytes (t .effect .session) b → b₂ ≡ withComponentBytes slot (t .component) b₁ → r ≡ servedReply (t .effect)
+    → (outcomeOf r (contentBy b s p .device) ≡ contentBy b s p) × (b₂ ≡ contentStored b s p)
+        × (s′ ≡ stagingAfter (sessionComponent d .fixed .region) (d .session .stage) (headIn p) (drop 8 p) s)
+stored b p s s′ session slot c t b₁ b₂ r e x y z u v w =
+    let i = e ∙ session-read b in
+    let k = rw i at x in
+    let o = rw (y, k, i) at z in (
+      ap (λ (q : Reply). outcomeOf q (contentBy b s p .device)) (w ∙ ap (λ (q : Taken). servedReply (q .effect)) (o .0)),
+      v ∙ ap (withComponentBytes slot (t .component)) u ∙ ap₂ (λ (n : ℕ) (q : Taken). withComponentBytes n (q .component) (withSessionBytes (q .effect .session) b)) k (o .0),
       o .1,
     )
+
+returns : tie.Need-returns
+returns c =
+    let m = c .before .before .before in
+    let l = m .before .before .before .before in
+    let k = l .before .before .before .before .before .before .before in
+    let j = k .before .before in
+    let i = j .before .before in
+    let h = i .before in
+    let a = h .before .before .before .before .before .args in
+    stored (a .bytes .now) (a .report .now) (a .staging .now) _ (h .session-in .result) (i .slot .result) (j .component-at .result) (k .on-report .result)
+    (l .store-session .last .0) (m .store-component .last .0) _
+    (h .session-in .ensures) (i .slot .ensures) (j .component-at .ensures) (k .on-report .ensures) (l .store-session .ensures) (m .store-component .ensures) (c .served .ensures)
 
 pub on-content-spec : {M : Type 1} → statement M
 on-content-spec =
@@ -49,11 +55,6 @@ on-content-spec =
     (λ c κs. search needs)
     (λ c κs. search needs)
     (λ c κs. search needs)
-    (λ c κs. search needs)
-    (λ c κs. search needs)
-    (λ c. search needs)
-    (λ c. search needs)
-    (λ c. search needs)
     (λ c κs. search needs)
     (λ c κs. search needs)
     (λ c κs. search needs)

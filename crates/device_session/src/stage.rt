@@ -1,6 +1,5 @@
 // The stage of a session (document 01, "The device"): idle, offered or receiving, with its own data.
 use device_component::list::Found;
-use device_slots::slot::slot_of;
 ghost use mathlib.Core.Path.{_≡_};
 ghost use Rattle.device_session.specs.Stage.{isOpen, openSlot, atSlot, atToken, isReceiving, sequenceVerdict, isWrong};
 
@@ -68,7 +67,11 @@ impl Stage {
     pub fn slot(self) -> u8
         ensures { λ r. ⌜ r ≡ atSlot self ⌝ }
     {
-        slot_of(self.open_slot())
+        match self {
+            Stage::Idle => 0,
+            Stage::Offered(o) => o.slot,
+            Stage::Receiving(r) => r.slot,
+        }
     }
 
     // The token of the accepted offer, and 0 while idle.

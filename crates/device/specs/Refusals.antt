@@ -1,6 +1,6 @@
 -- Rows D1 to D3 (document 01, "Numbered refusals"), and what an entry answers: its row, its reply, what is sent, and the next record.
-use Prim.Native.Nat.{ℕ, zero, suc}
-use mathlib.Core.Bool.{Bool, true, false, not}
+use Prim.Native.Nat.{ℕ}
+use mathlib.Core.Bool.{Bool, true, false, not, cond}
 use mathlib.Core.List.{List, [], _∷_, _++_}
 use lib.Dec.{eqb}
 use Rattle.wire.specs.Checks.{firstOf}
@@ -33,8 +33,7 @@ numberOf D3 = 3
 
 -- the row with a number
 abbrev pub rowAt : ℕ → Row
-rowAt zero = served
-rowAt (suc k) = D (suc k)
+rowAt number = cond (eqb number 0) served (D number)
 
 abbrev pub rowOf : Refusal → Row
 rowOf refusal = rowAt (numberOf refusal)

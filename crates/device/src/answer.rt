@@ -77,12 +77,7 @@ impl Refusal {
     pub fn is_refused(self) -> bool
         ensures { λ r. ⌜ r ≡ isRefused (rowOf self) ⌝ }
     {
-        match self {
-            Refusal::Served => false,
-            Refusal::D1 => true,
-            Refusal::D2 => true,
-            Refusal::D3 => true,
-        }
+        self.number() != 0
     }
 }
 

@@ -1,11 +1,20 @@
 -- A row refuses the call, or none does. Assumes nothing.
 use Prim.Native.Nat.{ℕ}
 use mathlib.Core.Path.{_≡_, refl, sym}
-use mathlib.Core.Bool.{true, false, true≢false}
+use mathlib.Core.Bool.{Bool, true, false, not, cond, true≢false}
 use mathlib.Core.List.{List}
+use lib.Dec.{eqb}
 use Rattle.device.specs.declared.record.Device.{Device}
-use Rattle.device.specs.Refusals.{Row, served, D, isRefused, Outcome, refusedBy, unlessRefused}
+use Rattle.device.specs.Refusals.{Row, served, D, rowAt, isRefused, Outcome, refusedBy, unlessRefused}
 use Rattle.device.specs.Content.{stagingUnless}
+
+-- by the number of the row
+pub refuses-at : (n : ℕ) → not (eqb n 0) ≡ isRefused (rowAt n)
+refuses-at n = go (eqb n 0)
+  where
+    go : (x : Bool) → not x ≡ isRefused (cond x served (D n))
+    go true = refl
+    go false = refl
 
 pub none-refuses : (row : Row) → isRefused row ≡ false → row ≡ served
 none-refuses served h = refl

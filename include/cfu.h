@@ -7,23 +7,23 @@
  * Memory. The caller lends all of it: nothing is allocated, nothing is kept between calls, and there is no global state, so two threads may call at once with
  * buffers of their own. A lent buffer is a pointer and its length in bytes.
  *
- * What cannot be judged, and so is asked of the caller:
+ * What cannot be judged, and so is required of the caller:
  *   - a pointer is not null and is valid for the length that comes with it, also where that length is 0 (any object's address will do);
  *   - a buffer that is read holds initialised bytes, and nobody else writes a lent buffer during the call;
- *   - buffers that are lent to one call do not overlap, save that two buffers which are only read may; so never lend one memory as a report and the replies
+ *   - buffers that are lent to one call do not overlap, except that two buffers which are only read may; so never lend one memory as a report and the replies
  *     to it, or as a reply and the next packet;
- *   - a record, the staging buffer and the bundle are those that the call before left: an older copy of a record passes every check and cannot be told from the
- *     right one. The contents of a checked bundle are lent with that very bundle, as the check or any later step over them left them.
+ *   - a record, the staging buffer and the bundle are those that the call before left: an older copy of a record passes every check and cannot be distinguished
+ *     from the right one. The contents of a checked bundle are lent with that very bundle, as the check or any later step over them left them.
  *
  * Everything else is judged. Each call ends, writes only inside the buffers that it may write (those without const), and returns a number:
  *   - CFU_SERVED, or
  *   - the number of a refusal. Refusals are rows of the updater's build document (docs/RULES.md restates them): a letter and a number, here the letter's
  *     ASCII code times 256 plus the number, so that D1 is 0x4401 ('D' is 0x44).
  *
- * A refusal leaves every record and the staging buffer as they were, and every other field of a returned struct is 0, but for the entry that a B row names
- * and for a report with N1, which tells the record as it is read. What it leaves in a buffer for output is said at each call. The first row that applies is
- * returned: C1, C2, C3, then the others in the order of their numbers, B rows before N1. C1 to C3 are this interface's own: with one of them nothing at all
- * is changed.
+ * A refusal leaves every record and the staging buffer as they were, and every other field of a returned struct is 0, except the entry that a B row names and
+ * the fields of a report with N1, which are those of the record as it is read. What it leaves in a buffer for output is said at each call. The first row that
+ * applies is returned: C1, C2, C3, then the others in the order of their numbers, B rows before N1. C1 to C3 are this interface's own: with one of them nothing
+ * at all is changed.
  *
  * CFU_SERVED says that the call was carried out, not that the peer agreed: REJECT, SKIP, BUSY and the errors of a block stand in the packets, and how a host
  * ended stands in its report.
@@ -260,10 +260,10 @@ typedef struct cfu_report {
  *     8  slot (1): the component's place in the list, from 0; 9 token (1), 10 next sequence (2)
  *    12  owed ready-reply (1): 0 none, 1 owed; 13 its token (1)
  *    14  seven times 18 bytes: id (1), running version (4), region base (4), region length (4), staged (1): 0 nothing, 1 pending; staged version (4)
- * Only these calls need to write one; byte 14 + 18 i + 13 tells whether component i is pending. What the stage has none of, the token where none is owed and
- * the staged version where nothing is staged are not looked at, whatever stands there; a call that writes the session or the component writes zero there.
- * Bytes with another stage, owed or staged than these are refused by D1, in the parts that are not in use too, and so is a record that breaks the rules of a
- * device. All zeros are such: zero a record before set-up, and a refused set-up leaves one that no call serves.
+ * Only these calls need to write one; byte 14 + 18 i + 13 tells whether component i is pending. Fields that the stage does not have, the token where none is
+ * owed and the staged version where nothing is staged are not looked at, whatever stands there; a call that writes the session or the component writes zero
+ * there. Bytes with another stage, owed or staged than these are refused by D1, in the components that are not in use too, and so is a record that breaks the
+ * rules of a device. All zeros are such: zero a record before set-up, and a refused set-up leaves one that no call serves.
  */
 
 /*
@@ -280,24 +280,24 @@ uint32_t cfu_device_set_up(uint8_t *device, size_t device_len, uint16_t platform
 uint32_t cfu_device_version_reply(const uint8_t *device, size_t device_len, uint8_t *packet, size_t packet_len);
 
 /*
- * Judges a report of the offer channel (offer, information, extended) and writes the reply, if one is due, into the first 16 of CFU_REPLIES_SIZE bytes, zeros
- * behind it. Returns CFU_SERVED with the count of replies, 0 (to a notify on ready that is now owed) or 1; C1 (device), C3 (replies); D1, D2 or D3 with the
- * replies zeroed and none due.
+ * Judges a report of the offer channel (offer, information, extended) and writes the reply, if one is due, into the first 16 of CFU_REPLIES_SIZE bytes, with
+ * zeros after it. Returns CFU_SERVED with the count of replies, 0 (to a notify on ready whose READY is now owed) or 1; C1 (device), C3 (replies); D1, D2 or D3
+ * with the replies zeroed and none due.
  */
 cfu_replies cfu_device_offer(uint8_t *device, size_t device_len, const uint8_t *staging, size_t staging_len, const uint8_t *report, size_t report_len,
                              uint8_t *replies, size_t replies_len);
 
 /*
  * Judges a report of the content channel: erases and writes in the staging buffer as the protocol says, and writes one or two replies: the reply to the
- * block, for the content channel, and behind it, where a ready-reply was owed and the session is now idle, the READY, for the offer channel. Returns as
+ * block, for the content channel, and after it, where a ready-reply was owed and the session is now idle, the READY, for the offer channel. Returns as
  * cfu_device_offer does, with a count of 1 or 2; a refusal leaves the staging buffer as it was.
  */
 cfu_replies cfu_device_content(uint8_t *device, size_t device_len, uint8_t *staging, size_t staging_len, const uint8_t *report, size_t report_len,
                                uint8_t *replies, size_t replies_len);
 
 /*
- * The device was reset: in the record staged versions run, nothing is pending or owed, the session is idle. To install the images is the caller's part,
- * before. Returns CFU_SERVED, C1 (device) or D1.
+ * The device was reset: in the record staged versions run, nothing is pending or owed, the session is idle. The caller installs the images before this call.
+ * Returns CFU_SERVED, C1 (device) or D1.
  */
 uint32_t cfu_device_reset(uint8_t *device, size_t device_len);
 
@@ -309,7 +309,7 @@ uint32_t cfu_device_reset(uint8_t *device, size_t device_len);
  *     2  count of offers (1), 0 where a row refuses
  *     3  seven times 12 bytes: body offset (4), body length (4), records (4); zero past the count
  *    87  the block that the cursor is kept for: its entry (4), and 91 its number in the body (4), both counted from 0; all ones where there is none
- *    95  the host's cursor (8): the offset in the bundle of the record behind that block's
+ *    95  the host's cursor (8): the offset in the bundle of the record after that block's
  * Only these calls need to write them. Contents of another size, of another row, or of no or more than 7 offers where no row refuses, are refused by C1: all
  * zeros are such.
  */
@@ -326,8 +326,8 @@ cfu_check cfu_bundle_check(const uint8_t *bundle, size_t bundle_len, uint8_t *co
  * A host's record, CFU_HOST_SIZE bytes:
  *     0  token (1)
  *     1  stage (1): 0 fresh, 1 opening, 2 listing, 3 offering, 4 waiting, 5 sending, 6 closing, 7 ended
- *     2  (4) and 6 (4): entry and its BUSY replies where it offers or waits; entry and block where it sends, both counted from 0; where it ended the end (0 done,
- *        1 to 4 for H1 to H4) and the content status of H1, of which the low byte is read; what the stage has no use for is written as zero and not read
+ *     2  (4) and 6 (4): entry and its BUSY replies where it offers or waits; entry and block where it sends, both counted from 0; where it ended the end (0
+ *        done, 1 to 4 for H1 to H4) and the content status of H1, of which the low byte is read; what the stage does not use is written as zero and not read
  *    10  mask of completed offers (4), 14 packets (4), 18 passes (4)
  *    22  this pass had a SKIP (1), 23 a completed image (1): 0 or 1
  * Only these calls need to write one. A stage over 7, an end over 4 and a byte 22 or 23 over 1 are refused by N1, as is a record that does not fit the bundle.
@@ -340,7 +340,7 @@ cfu_check cfu_bundle_check(const uint8_t *bundle, size_t bundle_len, uint8_t *co
 uint32_t cfu_host_fresh(uint8_t *host, size_t host_len, uint8_t token);
 
 /*
- * One step: takes the reply to the packet before and writes the next packet into CFU_LONG_SIZE bytes, with zeros behind it. At the first step none is
+ * One step: takes the reply to the packet before and writes the next packet into CFU_LONG_SIZE bytes, with zeros after it. At the first step none is
  * awaited, and the reply, which may be of length 0, is not looked at. Step again only once a reply has come: to notify on ready (extended, code 1) the device
  * may send it much later. Returns CFU_SERVED with the length to send, which is 0 once the host has ended, well or not (cfu_host_report); C1 (host), C3
  * (packet); B1 to B8 with the entry; or N1. A B row or N1 leaves the packet zeroed. Each step checks the whole bundle: for a session of many packets take
@@ -350,8 +350,8 @@ cfu_step cfu_host_step(uint8_t *host, size_t host_len, const uint8_t *bundle, si
                        size_t packet_len);
 
 /*
- * The same step over the contents that cfu_bundle_check wrote for this very bundle, which is not checked again. What is asked of the caller: the bundle is the
- * one that was checked, unchanged, and the contents are as that check, or any later step over them, left them. Then the call returns what cfu_host_step does,
+ * The same step over the contents that cfu_bundle_check wrote for this very bundle, which is not checked again. Required of the caller: the bundle is the one
+ * that was checked, unchanged, and the contents are as that check, or any later step over them, left them. Then the call returns what cfu_host_step does,
  * and leaves the same record and packet, from any record and for any reply, also where the check refused the bundle. The contents keep the cursor of the block
  * that was sent last: a step on from that block takes a time that does not grow with the bundle, and one from another block walks over the records before it.
  * Returns as cfu_host_step does; C1 is for host and contents. Of contents that were not left for this bundle only this is sure: nothing outside of the bundle
@@ -370,8 +370,8 @@ cfu_report cfu_host_report(const uint8_t *host, size_t host_len);
  * ---- Packets ----
  *
  * Building writes a packet of CFU_LONG_SIZE bytes (version reply, content) or CFU_SHORT_SIZE bytes (all others) and returns CFU_SERVED, C2, C3, or P2 with
- * the packet zeroed. Information, extended and the two replies hold any value of their fields and know no P2. What is built reads back to the same fields,
- * unused data as zero. The components of a version reply, CFU_COMPONENTS_SIZE bytes: seven times running version (4), id (1), platform (2).
+ * the packet zeroed. Information, extended and the two replies hold any value of their fields and are never refused by P2. What is built reads back to the same
+ * fields, unused data as zero. The components of a version reply, CFU_COMPONENTS_SIZE bytes: seven times running version (4), id (1), platform (2).
  */
 
 uint32_t cfu_build_version_reply(uint8_t count, uint8_t protocol, const uint8_t *components, size_t components_len, uint8_t *packet, size_t packet_len);

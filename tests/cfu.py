@@ -1,6 +1,6 @@
 """The formats that the tests in Python write and read, each stated once: packets, image, bundle, the records as bytes, and the frames of scripts.
 
-Sizes and limits are read from include/cfu.h. Layouts and codes are document 01's; where the header has them too, the two are held against each other here.
+Sizes and limits are read from include/cfu.h. Layouts and codes are document 01's; where the header has them too, the two are compared here.
 A layout is a struct.Struct: its fields in the order of their bytes, numbers little-endian, `x` for a byte that is written as zero and not looked at.
 """
 import os
@@ -57,7 +57,7 @@ def crc(data, start=0):
 
 
 def with_crc(data, start=0):
-    """Bytes with their CRC behind them, high byte first."""
+    """Bytes with their CRC after them, high byte first."""
     return bytes(data) + crc(data, start).to_bytes(2, "big")
 
 
@@ -192,7 +192,7 @@ NO_SESSION = (IDLE, 0, 0, 0)
 
 
 def filled(components):
-    """Components, and unused ones behind them: as many as a list and a record have."""
+    """Components, and unused ones after them: as many as a list and a record have."""
     return (list(components) + [NO_COMPONENT] * COMPONENT_LIMIT)[:COMPONENT_LIMIT]
 
 

@@ -202,7 +202,7 @@ static uint32_t set_up(struct device *d)
     return cfu_device_set_up(d->record, sizeof d->record, d->platform, list, sizeof list, d->count, d->staging, d->staging_len);
 }
 
-/* What runs comes from the version reply; what is pending only the device itself knows, from its record. */
+/* What runs is in the version reply; what is pending is in the device's record only. */
 static uint32_t show_device(const struct device *d)
 {
     uint8_t packet[CFU_LONG_SIZE], components[CFU_COMPONENTS_SIZE];
@@ -243,7 +243,7 @@ static uint32_t exchange(struct device *d, const uint8_t *packet, size_t length,
 /* ---- The bundle ---- */
 
 struct bundle {
-    uint8_t bytes[CFU_BUNDLE_LIMIT + 1]; /* one byte more tells a file that is too long, without reading on */
+    uint8_t bytes[CFU_BUNDLE_LIMIT + 1]; /* one byte more shows that a file is too long, without reading on */
     size_t length;
     uint8_t contents[CFU_CONTENTS_SIZE];
     uint32_t count;
@@ -289,7 +289,7 @@ static void show_bundle(const char *name, const struct bundle *b)
     }
 }
 
-/* ---- What is told on the way ---- */
+/* ---- What is printed on the way ---- */
 
 struct progress {
     bool packets;  /* print each packet */
@@ -432,7 +432,7 @@ static int wrong(const char *format, ...)
     return WRONG_COMMAND;
 }
 
-/* A number up to a limit, and the character behind it; the place behind that, or NULL. */
+/* A number up to a limit, and the character after it; the place after that, or NULL. */
 static const char *take_number(const char *text, uint32_t limit, char behind, uint32_t *number)
 {
     bool hexadecimal = text[0] == '0' && (text[1] == 'x' || text[1] == 'X');

@@ -1,6 +1,6 @@
 /*
- * calls.c: each function of include/cfu.h, called from C on the values of document 01 (E1 to E10, E13, and a case of each row that the interface gives). Bytes that
- * stand around each lent buffer are watched: no call writes there.
+ * calls.c: each function of include/cfu.h, called from C on the values of document 01 (E1 to E10, E13, and a case of each row that the interface gives). The
+ * bytes around each lent buffer are checked: no call writes there.
  *
  * usage: calls BUNDLE, where BUNDLE is examples/e12.bundle
  */
@@ -24,7 +24,7 @@ static void check(int holds, const char *what, int line)
 #define CHECK(what) check(what, #what, __LINE__)
 #define SAME(bytes, ...) same(bytes, sizeof(bytes) - 2 * EDGE, (const uint8_t[]){__VA_ARGS__}, sizeof((const uint8_t[]){__VA_ARGS__}))
 
-/* A buffer with an edge of watched bytes on both sides; AT is what is lent of it. */
+/* A buffer with an edge of guard bytes on both sides; AT is what is lent of it. */
 enum { EDGE = 16, STAGING = 128 };
 #define BUFFER(name, size) uint8_t name[(size) + 2 * EDGE]
 #define AT(name) (name + EDGE), (sizeof(name) - 2 * EDGE)

@@ -1,5 +1,5 @@
 #!/usr/bin/env python3
-"""Runs the C example on good and damaged bundles and on devices that refuse, and holds its lines and its status against document 01.
+"""Runs the C example on good and damaged bundles and on devices that refuse, and checks its lines and its status against document 01.
 
 cases.py [--few] COMMAND..    COMMAND runs the example: its path, with a checker before it where there is one; --few takes the cases that lend every buffer once
 

@@ -1,6 +1,6 @@
 #!/usr/bin/env bash
-# The proved library from C: `rt staticlib c_api`, then calls.c (each function of include/cfu.h on document 01's values) and the example (cases.py), as they are, with the
-# compiler's checks of addresses and of undefined behaviour, and under valgrind.
+# The proved library from C: `rt staticlib c_api`, then calls.c (each function of include/cfu.h on document 01's values) and the example (cases.py), as they
+# are, with the compiler's checks of addresses and of undefined behaviour, and under valgrind.
 set -u
 cd "$(dirname "$0")/../.." || exit 1
 

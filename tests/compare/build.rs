@@ -1,4 +1,4 @@
-//! Links the static library that `rt staticlib c_api` writes, and holds the numbers of src/layout.rs against include/cfu.h.
+//! Links the static library that `rt staticlib c_api` writes, and checks the numbers of src/layout.rs against include/cfu.h.
 use std::collections::HashMap;
 
 /// A number as C and Rust write it.

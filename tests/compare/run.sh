@@ -1,5 +1,5 @@
 #!/usr/bin/env bash
-# Random and damaged input against three implementations: the static library behind include/cfu.h, the crate of tools/rust_crate, and tests/second. They are
+# Random and damaged input against three implementations: the static library of include/cfu.h, the crate of tools/rust_crate, and tests/second. They are
 # compared byte for byte, with guard bytes around every lent buffer, and demand 3 is tried by brute force on whole runs. First: rt check c_api
 #
 # usage: tests/compare/run.sh                              the gate's counts and seed, then a small run under valgrind

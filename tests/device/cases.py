@@ -1291,7 +1291,7 @@ case('version reply: platform 0xABCD, low byte first')
 setup([(0xDF, 0x12345678, 0, 64)], platform=0xABCD)
 version_reply()
 
-# ------------------------------------------------------------- whole tales
+# -------------------------------------------------------- whole sessions
 
 case('need: component 1 needs component 2\'s new version: SKIP, then ACCEPT once it is pending')
 bench()

@@ -1,10 +1,11 @@
 #!/usr/bin/env python3
-"""Holds include/cfu.h against what is proved: each function against crates/c_api/src, each struct against crates/c_types/src, each number against the constants of specs/ and src/.
+"""Checks include/cfu.h against what is proved: each function against crates/c_api/src, each struct against crates/c_types/src, each number against the
+constants of specs/ and src/.
 
 fit.py [HEADER]    HEADER is include/cfu.h unless it is given
 
-Prints each misfit and ends with status 1; ends with status 0 and one line where everything fits. What the header declares and this test does not know is a misfit too,
-so nothing in it stands unchecked.
+Prints each misfit and ends with status 1; ends with status 0 and one line where everything fits. What the header declares and this test does not
+expect is a misfit too, so nothing in it stands unchecked.
 """
 import glob
 import itertools

@@ -1,5 +1,6 @@
 #!/usr/bin/env bash
-# include/cfu.h says what crates/c_api exports: fit.py holds the one against the other, and finds each of the slips below; the header compiles alone, as C99 and as C++.
+# include/cfu.h says what crates/c_api exports: fit.py checks the one against the other, and finds each of the slips below; the header compiles alone, as C99
+# and as C++.
 set -u
 cd "$(dirname "$0")/../.." || exit 1
 

@@ -56,7 +56,7 @@ def blocks(*sequences):
 # ---------------------------------------------------------------- bundles
 
 def offer(component, *sizes):
-    """An offer with a body of records of these sizes, one behind the other."""
+    """An offer with a body of records of these sizes, one after the other."""
     ends = [sum(sizes[:i + 1]) for i in range(len(sizes))]
     records = (cfu.body_record(end - size, cfu.filling(end - size, end)) for size, end in zip(sizes, ends))
     return cfu.offer(component, cfu.version(1, 3)), b''.join(records)

@@ -1,5 +1,5 @@
 #!/usr/bin/env bash
-# The frames that main_loop reads and the lines that it is held to are those that cases.py writes, and the program prints them; a head cut in two and an
+# The frames that main_loop reads and the lines that it must print are those that cases.py writes, and the program prints them; a head cut in two and an
 # empty input end the loop too. First: rt check main_loop
 set -eu
 cd "$(dirname "$0")/../.."

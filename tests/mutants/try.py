@@ -3,10 +3,10 @@
 
 usage: tests/mutants/try.py [NAME ..]
 
-A mutant is a wrong device or host written into the definitions themselves, so that no contract can catch it: only a statement about the definitions
+A mutant is a wrong device or host written into the definitions themselves, so that no contract can refuse it: only a statement about the definitions
 can. A copy of the repository is made with the definitions, the declared types and the statements that compute (E1 to E10, E13 in both orders, the
 chain of seven, the mixed case, the need cycle), and no function. Each file NAME.mutant changes one line of a definition; the line `breaks:` says
-which proof must fail, or `nothing` where no statement that computes sees it and docs/WRONG_PROGRAMS.md says what does. Status 1 where it comes otherwise."""
+which proof must fail, or `nothing` where no statement that computes fails and docs/WRONG_PROGRAMS.md says what does. Status 1 where the outcome differs."""
 import glob
 import os
 import re

@@ -1,5 +1,5 @@
 #!/usr/bin/env bash
-# The script that run_packets reads and the lines that it is held to are those that cases.py and expect.py write.
+# The script that run_packets reads and the lines that it must print are those that cases.py and expect.py write.
 set -eu
 cd "$(dirname "$0")/../.."
 made=$(mktemp -d)

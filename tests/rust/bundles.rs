@@ -30,7 +30,7 @@ fn with(at: usize, bytes: &[u8]) -> Vec<u8> {
     b
 }
 
-/// Where the entries of E12 say where their bodies start and how long they are.
+/// The places in E12 of the offsets and lengths of its bodies.
 fn offset_of(entry: usize) -> usize {
     entry_start(entry - 1) + entry_at::OFFSET
 }
@@ -95,7 +95,7 @@ fn b1_too_short_or_too_long() {
     for n in 0..BUNDLE_HEAD {
         refused(&e12()[..n], BundleVerdict::B1, 0);
     }
-    // 65,536 bytes are allowed: 1,149 records of 52 and one of 6 behind a table of one.
+    // 65,536 bytes are allowed: 1,149 records of 52 and one of 6 after a table of one.
     let mut long: Vec<u8> = (0..1149).flat_map(|_| record_bytes(0, &[7; 52])).collect();
     long.extend(record_bytes(0, &[7; 6]));
     let b = bundle_of(&[(ONE, long.clone())]);

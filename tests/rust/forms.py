@@ -1,6 +1,6 @@
 #!/usr/bin/env python3
 """Tries tools/rust_crate on forms that few crates have: two small crates, beside a program and what it prints with, made into a crate that rustc
-compiles without a warning; then each thing that the script does not know, which it must name with its file and line. Status 1 where one goes
+compiles without a warning; then each thing that the script does not support, which it must name with its file and line. Status 1 where one goes
 otherwise."""
 import os
 import shutil

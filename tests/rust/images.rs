@@ -42,7 +42,7 @@ fn the_crc_gives_its_check_value() {
     assert_eq!(crc16(&[0; 64]), 0);
     // The polynomial itself, from a single bit.
     assert_eq!(crc16(&[1]), 0x1021);
-    // Bytes with their own CRC behind them have the CRC 0.
+    // Bytes with their own CRC after them have the CRC 0.
     assert_eq!(crc16(b"123456789\x31\xC3"), 0);
 }
 

@@ -1,4 +1,4 @@
--- What the check of a bundle tells of one that it accepts: its count, its entries, their ids, and the records of each body. Assumes nothing.
+-- What holds of a bundle that the check accepts: its count, its entries, their ids, and the records of each body. Assumes nothing.
 use mathlib.Core.Path.{_≡_, refl, sym, ap, _∙_}
 use mathlib.Core.Bool.{Bool, true, false, true≢false, not, cond, _||_, _&&_}
 use mathlib.Core.List.{List, [], _∷_}
@@ -82,7 +82,7 @@ apart seen k (e ∷ es) zero (suc j) h m l = λ q.
 apart seen k (e ∷ es) (suc i) (suc j) h m l =
     apart (idIn e ∷ seen) (suc k) es i j (skips (any (eqb (idIn e)) seen) k _ h .1) (le-of-suc-le-suc m) (le-of-suc-le-suc l)
 
--- the entries of a table are of 24 bytes each
+-- the entries of a table are of ENTRY bytes each
 entries-packet : (n : ℕ) (q : List ℕ) → Bytes q → ENTRY * n ≤ length q → (i : ℕ) → i < n → Packet ENTRY (getD (entriesFrom n q) i [])
 unfolding entriesFrom
 entries-packet zero q h l i m = absurd (not-suc-le-zero m)

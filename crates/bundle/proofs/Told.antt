@@ -1,4 +1,4 @@
--- The row that a check tells. Assumes nothing.
+-- The row of a check's answer. Assumes nothing.
 use mathlib.Core.Path.{_≡_, refl}
 use mathlib.Core.List.{List}
 use Prim.Native.Nat.{ℕ}

@@ -27,7 +27,7 @@ entryIn b e = record {
   records = length (blocksIn b e);
 }
 
--- what the check tells: the row, the entry that it names, and the count and the table, which are zero where a row refuses
+-- what the check answers: the row, the entry that it names, and the count and the table, which are zero where a row refuses
 pub record Contents : Type 0 where
   pub row : Row
   pub place : ℕ
@@ -66,7 +66,7 @@ abbrev pub AcceptedTiles : Type 0
 AcceptedTiles = (b : List ℕ) → Bytes b → bundleRow b ≡ served
     → (b ≡ take (tableEnd (countIn b)) b ++ flatten (bodiesOf b)) × All GoodBody (bodiesOf b)
 
--- a layout: offers of 16 bytes, each with its records
+-- a part of a layout: an offer of 16 bytes, with its records
 pub record Part : Type 0 where
   pub offer : List ℕ
   pub blocks : List Block

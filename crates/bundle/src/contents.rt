@@ -22,7 +22,7 @@ use wire_offer::kind::OfferPacket;
 use wire_offer::kind::read_offer_packet;
 use wire_offer::offer::OfferFields;
 
-// What row B8 says (an entry, or 0), and the contents table where it says 0.
+// The answer of row B8 (an entry, or 0), and the contents table where it is 0.
 pub struct Filled {
     pub place: u8,
     pub table: [Entry; OFFER_LIMIT],

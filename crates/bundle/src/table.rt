@@ -11,7 +11,7 @@ use bundle_layout::limits::ENTRY;
 use bundle_layout::parts::bad_offer;
 use bundle_layout::parts::id_in;
 
-// The 24 bytes of entry i, counted from 0.
+// The bytes of entry i, counted from 0.
 pub(crate) fn entry_at(b: &[u8], i: u8) -> &[u8]
     requires { ⌜ tableEnd (i + 1) ≤ length (now b) ⌝ }
     ensures { λ r. ⌜ (now r ≡ take ENTRY (drop (tableEnd i) (now (b .entry)))) × (length (now r) ≡ ENTRY) ⌝ }

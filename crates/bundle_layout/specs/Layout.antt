@@ -28,7 +28,7 @@ countIn b = getD b 0 0
 abbrev pub tableEnd : ℕ → ℕ
 tableEnd n = HEAD + ENTRY * n
 
--- n entries of a table, 24 bytes each
+-- n entries of a table, ENTRY bytes each
 unfoldable pub entriesFrom : ℕ → List ℕ → List (List ℕ)
 entriesFrom zero q = []
 entriesFrom (suc n) q = take ENTRY q ∷ entriesFrom n (drop ENTRY q)

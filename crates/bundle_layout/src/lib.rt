@@ -9,7 +9,7 @@ pub mod head; // head.rt: rows B1 to B4
 pub mod parts; // parts.rt: the parts of an entry, row B5 of an entry
 pub mod blank; // blank.rt: no entry, and a refusal
 
-// What the check says of a bundle (document 01, "Numbered refusals").
+// The verdict of the check on a bundle (document 01, "Numbered refusals").
 pub enum BundleVerdict {
     Fine,
     B1,

@@ -1,4 +1,4 @@
--- The records of a body, one after the other: enough fuel is enough. Assumes nothing.
+-- The records of a body, one after the other: as much fuel as bytes is enough. Assumes nothing.
 use mathlib.Core.Path.{_≡_, refl, ap, _∙_}
 use mathlib.Core.List.{List, [], _∷_}
 use Prim.Native.Nat.{ℕ, zero, suc, _+_, _≤_}

@@ -17,7 +17,7 @@ use Rattle.bundle_records.specs.Parse.{recordsOf, tallyFrom}
 abbrev pub between : List ℕ → (at end : ℕ) → List ℕ
 between bytes at end = take (end - at) (drop at bytes)
 
--- what stands at the start of a part, told by places
+-- what stands at the start of a part, given by places
 abbrev pub placed : ℕ → Head → Next
 placed at Empty = End
 placed at Cut = Bad

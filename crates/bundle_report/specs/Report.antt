@@ -1,4 +1,4 @@
--- What a program tells of a check (document 01, E14), beside the row's number: an entry's numbers, and the check of an input that may be longer than its buffer.
+-- What a program prints of a check (document 01, E14), beside the row's number: an entry's numbers, and the check of input that may be longer than its buffer.
 use Prim.Native.Nat.{ℕ}
 use mathlib.Core.Bool.{Bool, cond}
 use mathlib.Core.List.{List}

@@ -1,4 +1,4 @@
-// What a program tells of a check (document 01, E14).
+// What a program prints of a check (document 01, E14).
 ghost use mathlib.Core.Path.{_≡_};
 ghost use Rattle.bundle.specs.Contents.{toldChecked};
 ghost use Rattle.bundle_report.specs.Report.{lineOf, inputOf};

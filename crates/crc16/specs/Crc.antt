@@ -6,7 +6,7 @@ use mathlib.Core.List.{List, [], _∷_}
 use lib.Dec.{ltb}
 use lib.Bits.{bitXor}
 
--- one bit: the register doubled modulo 2^16, with the polynomial where the bit that falls out is 1
+-- one bit: the register doubled modulo 2^16, with the polynomial where the bit that is shifted out is 1
 unfoldable pub bitStep : ℕ → ℕ
 bitStep r = cond (ltb r 0x8000) (r * 2 % 65536) (bitXor (r * 2 % 65536) 0x1021)
 

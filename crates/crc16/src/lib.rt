@@ -2,7 +2,7 @@
 ghost use mathlib.Core.Path.{_≡_};
 ghost use Rattle.crc16.specs.Crc.{bitStep, byteStep, crcOf};
 
-// One bit: the register shifted left, with the polynomial where the bit that falls out is 1.
+// One bit: the register shifted left, with the polynomial where the bit that is shifted out is 1.
 fn bit_step(r: u16) -> u16
     ensures { λ x. ⌜ x ≡ bitStep r ⌝ }
 {

@@ -1,4 +1,4 @@
--- The replies of a served packet: none to a notify on ready that is now owed; else one, and the owed READY where content makes the session idle.
+-- The replies of a served packet: none to a notify on ready whose READY is now owed; else one, and the owed READY where content makes the session idle.
 -- Assumes nothing.
 use mathlib.Core.Path.{_≡_, refl}
 use mathlib.Core.Bool.{Bool, true, false, not, cond, _&&_}

@@ -86,7 +86,7 @@ noNeed = replicate 4 0x00
 abbrev pub answer : (reason status : ℕ) → List (List ℕ)
 answer reason status = (0x00 ∷ 0x00 ∷ 0x00 ∷ 0xA5 ∷ replicate 4 0x00 ++ reason ∷ replicate 3 0x00 ++ status ∷ replicate 3 0x00) ∷ []
 
--- a block with the first flag and sequence 0x1234; its data are the places' numbers
+-- a block with the first flag and sequence 0x1234; its data are the numbers from 1 on
 abbrev pub data52 : List ℕ
 data52 =
     1 ∷ 2 ∷ 3 ∷ 4 ∷ 5 ∷ 6 ∷ 7 ∷ 8 ∷ 9 ∷ 10 ∷ 11 ∷ 12 ∷ 13 ∷ 14 ∷ 15 ∷ 16 ∷ 17 ∷ 18 ∷ 19 ∷ 20 ∷ 21 ∷ 22 ∷ 23 ∷ 24 ∷ 25 ∷ 26

@@ -15,8 +15,8 @@ use Rattle.device.specs.declared.answer.Channel.{Channel}
 use Rattle.device.specs.Record.{component}
 use Rattle.device.specs.Entries.{serveEntry, serveStaging}
 
--- whatever packet comes, a component that is pending afterwards was so before, or its region now holds an image with a right CRC that bears the component's own
--- id and this version, which is not below the running one
+-- whatever packet comes, a component that is pending with a version afterwards was so before, or its region now holds an image with a right CRC that bears the
+-- component's own id and this version, which is not below the running one
 abbrev pub StagesOwnImage : Type 0
 StagesOwnImage = (d : Device) (channel : Channel) (staging report : List ℕ) (k : ℕ) (v : Version)
     → component (serveEntry d channel staging report .device) k .staged ≡ Pending v

@@ -94,7 +94,7 @@ StagingChanges = (d : Device) (staging report : List ℕ) → FitsDevice d → (
     → (length (contentStaging d staging report) ≡ length staging)
     × ((contentStaging d staging report ≡ staging) ⊎ TakesBlock d staging report)
 
--- the replies of a served offer packet: none to a notify on ready that is now owed, else one
+-- the replies of a served offer packet: none to a notify on ready whose READY is now owed, else one
 abbrev pub awaits : Device → Kind → Bool
 awaits d (offer o) = false
 awaits d (information s) = false

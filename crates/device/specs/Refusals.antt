@@ -81,7 +81,7 @@ dueSent false bytes = []
 abbrev pub sentWith : Replies → List (List ℕ)
 sentWith replies = dueSent (replies .due) (replies .reply) ++ readySent (replies .ready)
 
--- what an answer tells
+-- the outcome of an answer
 abbrev pub told : Answer → Outcome
 told a = record {
   row = rowOf (a .refusal);

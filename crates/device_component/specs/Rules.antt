@@ -1,4 +1,4 @@
--- The rules over the list as the code names them: D1's, and what S3, S4 and `find` ask, which is a value.
+-- The rules over the list as the code names them: D1's, and the tests of S3, S4 and `find`, which are values.
 use Prim.Native.Nat.{ℕ}
 use mathlib.Core.Bool.{Bool, not, _||_}
 use mathlib.Core.List.{List}
@@ -31,11 +31,11 @@ ruleHolds (SameId id) c = eqb id (c .fixed .id)
 ruleHolds (BadRegion n) c = badRegion n (c .fixed .region)
 ruleHolds (Overlaps r) c = overlap r (c .fixed .region)
 
--- what a pair's rule asks of the other, where this is the one
+-- the test of the second of two components, where this is the first
 abbrev pub ruleOf : Pair → Component → Rule
 ruleOf pair.SameId c = SameId (c .fixed .id)
 ruleOf pair.Overlap c = Overlaps (c .fixed .region)
 
--- a pair's rule holds of two components
+-- a test of two components holds of them
 abbrev pub pairHolds : Pair → Component → Component → Bool
 pairHolds q c c′ = ruleHolds (ruleOf q c) c′

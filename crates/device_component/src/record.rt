@@ -10,7 +10,7 @@ pub enum Staged {
     Pending(Version),
 }
 
-// What set-up fixes for good of a component.
+// What set-up fixes of a component; nothing changes it later.
 pub struct Fixed {
     pub id: u8,
     pub region: Region,
@@ -22,7 +22,7 @@ pub struct Component {
     pub staged: Staged,
 }
 
-// A component as set-up is told of it.
+// A component as it is given to set-up.
 pub struct Listed {
     pub fixed: Fixed,
     pub running: Version,

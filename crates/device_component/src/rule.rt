@@ -1,5 +1,5 @@
-// The rules on a component: the three on its versions, and those over the list. What S3, S4 and `find` ask is a value, which one loop serves; D1 has loops of
-// its own.
+// The rules on a component: the three on its versions, and those over the list. The tests of S3, S4 and `find` are values, so that one loop serves them; D1 has
+// loops of its own.
 use crate::record::Component;
 use crate::record::Staged;
 use crate::setup::REGION_LEAST;
@@ -10,7 +10,7 @@ ghost use Rattle.device_component.specs.Versions.{offerVersion, imageVer
 ghost use Rattle.device_component.specs.Rules.{flawed as isFlawed, clash as clashes, ruleHolds, ruleOf};
 ghost use Rattle.device_component.specs.Setup.{badId, badRegion, overlap};
 
-// What the rule on an offered version says.
+// The verdict of the rule on an offered version.
 pub enum VersionVerdict {
     Fits,
     Old,
@@ -57,7 +57,7 @@ impl Component {
     }
 }
 
-// What is asked of a component.
+// A test of a component.
 pub enum Rule {
     // S3: its id lies outside 1-0xDF.
     BadId,
@@ -69,7 +69,7 @@ pub enum Rule {
     Overlaps(Region),
 }
 
-// What is asked of two components.
+// A test of two components.
 pub enum Pair {
     SameId,
     Overlap,
@@ -124,7 +124,7 @@ pub fn applies(rule: Rule, c: Component) -> bool
     }
 }
 
-// What a pair's rule asks of the other, where this is the one.
+// The test of the second of two components, where this is the first.
 pub fn rule_of(pair: Pair, c: Component) -> Rule
     ensures { λ r. ⌜ r ≡ ruleOf pair c ⌝ }
 {

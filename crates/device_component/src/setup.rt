@@ -1,4 +1,4 @@
-// What set-up says of a list of components and a staging length (document 01, "Numbered refusals").
+// The verdict of set-up on a list of components and a staging length (document 01, "Numbered refusals").
 use crate::list::some;
 use crate::list::some_two;
 use crate::record::Component;

@@ -18,7 +18,7 @@ use Rattle.device.specs.Content.{sessionComponent, received}
 use Rattle.device_bytes.specs.Layout.{deviceIn, readDevice, withSessionBytes, withComponentBytes}
 use Rattle.device_in_place.specs.declared.Reply.{Reply}
 
--- what an answer tells, with the next record
+-- the outcome of an answer, with the next record
 abbrev pub outcomeOf : Reply → Device → Outcome
 outcomeOf r d = record {
   row = rowOf (r .refusal);

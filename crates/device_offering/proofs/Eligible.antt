@@ -16,7 +16,7 @@ use Rattle.device_slots.specs.Slots.{slotOf, isAbsent}
 use Rattle.device_offering.specs.Offer.{isOld, rejectionsAt}
 use Rattle.device_offering.specs.Eligible.{Eligible, EligibleIs}
 
--- numbers that are not told apart are equal
+-- numbers that the test does not distinguish are equal
 equal : (m n : ℕ) → not (eqb m n) ≡ false → m ≡ n
 equal m n h = go (eqb m n) refl h
   where

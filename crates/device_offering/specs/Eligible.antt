@@ -1,4 +1,4 @@
--- What an eligible offer is (document 01, "The device"): what checks 2 to 7 say of an offer that none of them rejects, each under a name.
+-- What an eligible offer is (document 01, "The device"): what holds of an offer that none of checks 2 to 7 rejects, each fact under a name.
 use Prim.Native.Nat.{ℕ}
 use mathlib.Core.Path.{_≡_}
 use mathlib.Core.Logic.{_↔_}

@@ -31,7 +31,7 @@ onKind platform count components session (offer o) = onOffer platform count comp
 onKind platform count components session (information s) = onInformation session s
 onKind platform count components session (extended s) = onExtended session s
 
--- what the reader hands out, with the component that it is for and the one that it needs; of bytes that are no packet nothing comes
+-- what the reader hands out, with the component that it is for and the one that it needs; bytes that are no packet get no reply and change nothing
 abbrev pub onPacketAt : (platform : ℕ) → Session → (target needed : Standing) → OfferPacket → Effect
 onPacketAt platform session target needed Refused = silent session
 onPacketAt platform session target needed (Offer o) = onOfferAt platform session target needed o

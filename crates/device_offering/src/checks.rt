@@ -20,7 +20,7 @@ fn is_old(v: VersionVerdict) -> bool
     }
 }
 
-// Check 8: that component is absent, or its effective version is below.
+// Check 8: byte 8 is not 0, and that component is absent or its effective version is below.
 fn need_unmet(needed: Standing, o: OfferFields) -> bool
     ensures { λ r. ⌜ r ≡ needUnmetAt needed o ⌝ }
 {
@@ -30,7 +30,7 @@ fn need_unmet(needed: Standing, o: OfferFields) -> bool
     (o.need != 0) & (is_absent(f) | (version.release() < o.least))
 }
 
-// Checks 2 to 7, from the last to the first; where none rejects the offer, what the checks after them say.
+// Checks 2 to 7, from the last to the first; where none rejects the offer, the verdict of the checks after them.
 fn unless_rejected(
     platform: u16,
     target: Standing,

@@ -1,4 +1,4 @@
-// What the checks of an offer say (document 01, "The device"), and the status and reason of its reply.
+// The verdict of the checks of an offer (document 01, "The device"), and the status and reason of its reply.
 use wire::codes;
 ghost use mathlib.Core.Path.{_≡_};
 ghost use mathlib.Core.Bool.{cond};
@@ -15,7 +15,7 @@ pub enum OfferVerdict {
 }
 
 impl OfferVerdict {
-    // The answer of a check that applies, and otherwise what the checks after it say.
+    // The answer of a check that applies, and otherwise the verdict of the checks after it.
     pub(crate) fn unless(self, applies: bool, answer: OfferVerdict) -> OfferVerdict
         ensures { λ r. ⌜ r ≡ cond applies answer self ⌝ }
     {

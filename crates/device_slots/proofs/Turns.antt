@@ -27,7 +27,7 @@ module _ {A B : Type 0} (f : A → B) (l : List A) (o : List B) where
         sym-snoc [] a ys = refl
         sym-snoc (x ∷ xs) a ys = ap (λ (t : List B). x ∷ t) (sym-snoc xs a ys)
 
-    -- what its turn has not come to is as it was
+    -- a place whose turn has not come is as it was
     pub still : (w : B) → getD (turned i) i w ≡ getD o i w
     still w =
         let k : i < length o = omega arith in
@@ -49,6 +49,6 @@ module _ {A : Type 0} where
   back (suc n) [] = refl
   back (suc n) (x ∷ l) = back n l
 
-  -- the first n have turned after as many turns as there are of them
+  -- the first n are done after as many turns as there are of them
   pub first-turned : (f : A → A) (l : List A) (n i : ℕ) → i ≡ length (take n l) → turned f l l i ≡ turned f l l n
   first-turned f l n i e = rw (e, front n l, back n l)

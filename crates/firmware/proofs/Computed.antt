@@ -1,4 +1,5 @@
--- What a right side of a statement has, computed from what the locals hold: a walk that goes by this names no place of the right side, and what is stored is a fact of its own. Assumes nothing.
+-- What a right side of a statement has, computed from what the locals hold: a walk that goes by this names no place of the right side, and what is stored is a
+-- fact of its own. Assumes nothing.
 use mathlib.Core.Path.{_≡_, refl, sym, ap, subst}
 use mathlib.Core.Bool.{Bool, true, false}
 use mathlib.Core.Option.{Option, none, some}

@@ -1,5 +1,5 @@
--- The steps of a walk that large types would make too large, said for any types: nine locals are made, and freed, an entry is called with the record that a lent
--- reference holds, and its answer, whose record goes back through the reference, is returned. Assumes nothing.
+-- The steps of a walk that large types would make too large, said for any types: nine locals are made, and freed, an entry is called with the record that a
+-- lent reference holds, and its answer, whose record goes back through the reference, is returned. Assumes nothing.
 use mathlib.Core.Path.{_≡_, refl}
 use mathlib.Core.Option.{some}
 use Prim.Native.Nat.{ℕ, zero}
@@ -52,7 +52,7 @@ start f δ ε b =
     (seq (call f (copy (place 5 []) ∷ copy (place 2 []) ∷ copy (place 8 []) ∷ copy (place 4 []) ∷ []) (place 6 [])) b)))
 
 module _ {M : Type 1} {𝓤 : URA M} {H : Heap 𝓤} {A : Atoms 𝓤} {K : Type 0} {W : Given 𝓤 H A} where
-  -- the entry is called with the record x that was read, and what it leaves is met where it lands
+  -- the entry is called with the record x that was read, and what it leaves is used where its answer is stored
   pub asks : K → {C : Calls 𝓤 H} {Λ : Loops 𝓤 H} {q : Post 𝓤 H} {f : Name} {more : Body} {I₁ I₂ I₃ I₄ I₅ I₆ I₇ I₈ I₉ : Item 𝓤} {ν₃ ν₈ : Sym} {α δ ε τ₁ τ₂ t₃ τ₄ t₇ : Ty} {l₀ l₁ l₂ l₃ l₄ l₅ l₆ l₇ l₈ b o n : ℕ} {p : ℕ × ℕ} {x v₂ v₄ : Val}
       → FmC 𝓤 H (W .laws) C → (Q : Val → SProp 𝓤) → T (hasTy δ x) × WT x → T (hasTy t₇ (vptr (p .0) (p .1))) × WT (vptr (p .0) (p .1)) → T (hasTy (Sliced ν₈ t₇) (sliceVal p n)) × WT (sliceVal p n)
       → ent 𝓤 (⋆ 𝓤 H A (I₅ ∷ I₉ ∷ I₆ ∷ [])) (C f (x ∷ v₂ ∷ sliceVal p n ∷ v₄ ∷ []) Q)
@@ -70,7 +70,8 @@ abbrev pub rest : Ty → RValue → Body
 rest δ rv = seq (assign (place 1 (deref δ ∷ [])) rv) (seq (assign (place 0 []) (rvOpd (copy (place 6 [])))) return)
 
 module _ {M : Type 1} {𝓤 : URA M} {H : Heap 𝓤} {A : Atoms 𝓤} {K : Type 0} {W : Given 𝓤 H A} where
-  -- the answer lands, the record x′ is stored, the locals are freed, and the answer is returned. What is stored has x′, computed from the record that was read and from the answer
+  -- the answer and the record x′ are stored, the locals are freed, and the answer is returned. What is stored has x′, computed from the record that was read
+  -- and from the answer
   pub answers : K → {C : Calls 𝓤 H} {Λ : Loops 𝓤 H} {Kf : Val → SProp 𝓤} {I₀ I₁ I₂ I₄ I₅ I₆ I₇ I₈ I₉ : Item 𝓤} {α δ τ₁ τ₂ τ₃ τ₄ τ₇ τ₈ : Ty} {l₀ l₁ l₂ l₃ l₄ l₅ l₆ l₇ l₈ b o : ℕ} {x v₂ v₃ v₄ v₅ v₇ v₈ u : Val} {rv : RValue}
       (y x′ : Val) → u ≡ y → T (hasTy α u) × WT u → T (hasTy α y) × WT y → T (hasTy δ x′) × WT x′ → right (record { index = 5; type = δ; block = l₅; value = v₅; position = 16 } ∷ record { index = 6; type = α; block = l₆; value = y; position = 14 } ∷ []) rv ≡ some x′
       → Seq K W (I₀ ∷ I₁ ∷ I₂ ∷ ‵ (fat fullShare (rawTy δ) b o x′) ∷ I₄ ∷ I₅ ∷ I₆ ∷ I₇ ∷ I₈ ∷ I₉ ∷ []) (prop (Kf y))

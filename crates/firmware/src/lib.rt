@@ -23,7 +23,7 @@ pub fn serve_in_place(
     out
 }
 
-// A record by value, lent to the entry above: whoever calls this lends nothing of its own.
+// A record by value, lent to the entry above: whoever calls this lends no record.
 pub fn serve_lent(device: Device, channel: Channel, staging: &mut [u8], report: &[u8]) -> Answer
     ensures { λ r. ⌜ (told r ≡ serveEntry device channel (now (staging .entry)) (now (report .entry))) × (now (staging .exit) ≡ serveStaging device channel (now (staging .entry)) (now (report .entry))) ⌝ }
 {

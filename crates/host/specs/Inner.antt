@@ -1,5 +1,6 @@
 -- The inner step: over what the check answered for a bundle, the body in hand, and a cursor, the place of the record after the one in hand. A refused bundle is
--- its row, and the rest is judged by tests of constant time: what is out of range is N1. Over what the check answers, with the right cursor, it is the step.
+-- answered by its row, and the rest is judged by tests of constant time: what is out of range is N1. Over what the check answers, with the right cursor, it is
+-- the step.
 use Prim.Native.Nat.{ℕ, zero, suc, _+_, _≤_}
 use mathlib.Core.Path.{_≡_}
 use mathlib.Core.Bool.{cond}
@@ -37,7 +38,7 @@ unfoldable pub innerOf : (b : List ℕ) → bundle.Row → (count : ℕ) → (ha
 innerOf b bundle.served count hand cursor h reply = innerOn b hand cursor h (decisionOf count (hand .records) h reply)
 innerOf b (bundle.B k entry) count hand cursor h reply = record { step = refusedBy (B k entry) h; cursor = cursor }
 
--- its packet laid into lent bytes; where these are not 60 the row is the same, but nothing is laid and nothing sent, and the record is kept
+-- its packet written into lent bytes; where these are not PACKET-SIZE the row is the same, but nothing is written and nothing sent, and the record is kept
 abbrev pub lent : (packet : List ℕ) → Host → (cursor : ℕ) → InnerStep → InnerStep
 lent packet h cursor i =
     cond (eqb (length packet) PACKET-SIZE) i (record { step = record { row = i .step .row; sent = []; packet = packet; host = h }; cursor = cursor })

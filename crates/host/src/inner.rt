@@ -1,5 +1,5 @@
-// The inner step: over what the check answered for a bundle, the body in hand, and a cursor, the place of the record after the one in hand. Its packet is laid
-// into lent bytes.
+// The inner step: over what the check answered for a bundle, the body in hand, and a cursor, the place of the record after the one in hand. Its packet is
+// written into lent bytes.
 ghost use mathlib.Core.Path.{_≡_};
 ghost use lib.ListN.{length};
 ghost use Rattle.bundle_layout.specs.Rows as rows;
@@ -61,7 +61,7 @@ fn moved(packet: &mut [u8], b: &[u8], hand: Body, cursor: usize, h: Host, m: Mov
     }
 }
 
-// The bundle's row, N1, or the move, in 60 bytes.
+// The bundle's row, N1, or the move, in PACKET_SIZE bytes.
 fn inner_in(
     packet: &mut [u8],
     verdict: BundleVerdict,
@@ -87,8 +87,8 @@ fn inner_in(
     }
 }
 
-// The bundle's row, N1, or the move; its packet is laid into 60 lent bytes. Where these are not 60 the row is the same, but nothing is laid and nothing sent, and
-// the record is kept.
+// The bundle's row, N1, or the move; its packet is written into PACKET_SIZE lent bytes. Where another number is lent the row is the same, but nothing is
+// written and nothing sent, and the record is kept.
 pub fn inner_step(
     packet: &mut [u8],
     verdict: BundleVerdict,

@@ -1,4 +1,4 @@
--- What the host decides on each reply of an honest run: our token or sequence, and a status that the table has a step for. Assumes nothing.
+-- What the host decides on each reply with our token or sequence and a status that the table has a step for. Assumes nothing.
 use Prim.Native.Nat.{ℕ, _+_}
 use mathlib.Core.Path.{_≡_, refl}
 use mathlib.Core.Bool.{Bool, cond}

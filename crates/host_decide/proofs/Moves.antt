@@ -42,7 +42,7 @@ by-class Q q0 q1 q2 q3 q4 q5 status = go status (ltb status 5) refl
     go (suc (suc (suc (suc zero)))) true e = q4
     go (suc (suc (suc (suc (suc s))))) true e = absurd (omega (arith, ltb-true (suc (suc (suc (suc (suc s))))) 5 e))
 
--- the reply to a block tells that it was taken: 16 bytes, our sequence, status 0
+-- the reply to a block shows that it was taken: 16 bytes, our sequence, status 0
 abbrev pub isTaken : Place → (reply : List ℕ) → Bool
 isTaken p reply = eqb (length reply) 16 && (eqb (replyIn reply .sequence) (sequenceOf (p .block)) && eqb (replyIn reply .status) SUCCESS)
 

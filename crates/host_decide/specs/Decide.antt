@@ -76,7 +76,7 @@ abbrev pub offerFrom : (n entry : ℕ) → Host → Move
 offerFrom n entry h =
     cond (ltb entry n) (sends h (Offering (record { entry = entry; busy = 0 })) (Offer entry)) (sends h Closing (Information INFO-END-OFFER-LIST))
 
--- this pass had a SKIP
+-- whether this pass had a SKIP, this status included
 abbrev pub noted : Host → ℕ → Host
 noted h status = record {
   token = h .token;

@@ -95,7 +95,7 @@ fn offer_from(n: u32, entry: u32, h: Host) -> Move
     }
 }
 
-// The blocks of an entry, from one on.
+// A block is sent, and its reply awaited.
 fn send_block(p: Place, h: Host) -> Move
     requires { ⌜ Spare (h .packets) ⌝ }
     ensures { λ r. ⌜ r ≡ decided.sends h (HostStage.Sending p) (Action.Block p) ⌝ }
@@ -103,7 +103,7 @@ fn send_block(p: Place, h: Host) -> Move
     sends(h, HostStage::Sending(p), Action::Block(p))
 }
 
-// This pass had a SKIP.
+// Whether this pass had a SKIP, this status included.
 fn noted(h: Host, status: u8) -> Host
     ensures { λ r. ⌜ r ≡ decided.noted h status ⌝ }
 {

@@ -18,7 +18,7 @@ pub data Row : Type 0 where
   B : (number entry : ℕ) → Row
   N : ℕ → Row
 
--- what a step answers: the row, the packet that is sent, if any, its bytes filled up to 60 by zeros, and the next record
+-- what a step answers: the row, the packet that is sent, if any, its bytes filled up to PACKET-SIZE by zeros, and the next record
 pub record Step : Type 0 where
   pub row : Row
   pub sent : List (List ℕ)
@@ -33,7 +33,7 @@ filled (p ∷ ps) = p ++ replicate (PACKET-SIZE - length p) 0
 abbrev pub refusedBy : Row → Host → Step
 refusedBy row h = record { row = row; sent = []; packet = replicate PACKET-SIZE 0; host = h }
 
--- what an answer tells
+-- the row of a refusal
 abbrev pub rowOf : StepRefusal → Row
 rowOf refusal.Served = served
 rowOf (refusal.Bundle verdict place) = B (bundle.numberOf verdict) place

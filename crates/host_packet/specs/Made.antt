@@ -21,7 +21,7 @@ use Rattle.host_packet.specs.declared.answer.Written.{Written}
 use Rattle.host_packet.specs.Packet.{PACKET-SIZE, blockBytes}
 use Rattle.host_packet.specs.Answer.{served, N, Step, filled, rowOf, sentBy}
 
--- what is laid into a packet of 60 bytes: whether the step is served, what is sent, the bytes, and the place of the record after the one in hand
+-- what is written into PACKET-SIZE bytes: whether the step is served, what is sent, the bytes, and the place of the record after the one in hand
 pub record Laid : Type 0 where
   pub served : Bool
   pub sent : List (List ℕ)
@@ -67,12 +67,12 @@ laidOf b body cursor token action.Notify = sending (extendedBytes (record { code
 laidOf b body cursor token (action.Offer entry) = laidOffer b cursor token entry
 laidOf b body cursor token (action.Block p) = laidBlock b body cursor p
 
--- laid into lent bytes; where these are not 60, nothing is laid and nothing sent
+-- .. written into lent bytes; where these are not PACKET-SIZE, nothing is written and nothing sent
 unfoldable pub writtenOf : (packet b : List ℕ) → Body → (cursor token : ℕ) → Action → Laid
 writtenOf packet b body cursor token action =
     cond (eqb (length packet) PACKET-SIZE) (laidOf b body cursor token action) (record { served = false; sent = []; packet = packet; cursor = cursor })
 
--- what an answer and the lent bytes tell
+-- an answer of the code and the lent bytes, in these terms
 abbrev pub laidBy : Written → (packet : List ℕ) → Laid
 laidBy w packet = record { served = w .served; sent = sentBy (w .sent) packet; packet = packet; cursor = w .cursor }
 
@@ -81,7 +81,7 @@ pub record InnerStep : Type 0 where
   pub step : Step
   pub cursor : ℕ
 
--- the step of what is laid: the next record, or N1 and the record unchanged
+-- the step of what is written: the next record, or N1 and the record unchanged
 abbrev pub stepOfLaid : Laid → (before after : Host) → InnerStep
 stepOfLaid l before after = record {
   step = record { row = cond (l .served) served (N 1); sent = l .sent; packet = l .packet; host = cond (l .served) after before };
@@ -92,7 +92,7 @@ stepOfLaid l before after = record {
 abbrev pub madeOf : (b : List ℕ) → Body → (cursor : ℕ) → (before after : Host) → Action → InnerStep
 madeOf b body cursor before after action = stepOfLaid (laidOf b body cursor (after .token) action) before after
 
--- what an answer and the lent bytes tell
+-- the same of the inner step
 abbrev pub toldInner : Stepped → (packet : List ℕ) → InnerStep
 toldInner a packet = record {
   step = record { row = rowOf (a .refusal); sent = sentBy (a .sent) packet; packet = packet; host = a .host };

@@ -81,7 +81,7 @@ fn written_block(packet: &mut [u8], b: &[u8], body: Body, cursor: usize, p: Plac
     }
 }
 
-// What an action sends, in 60 bytes.
+// What an action sends, in PACKET_SIZE bytes.
 fn written_in(
     packet: &mut [u8],
     b: &[u8],
@@ -116,7 +116,7 @@ fn written_in(
     }
 }
 
-// What an action sends, laid into lent bytes; where these are not 60, nothing is laid and nothing sent.
+// What an action sends, written into lent bytes; where these are not PACKET_SIZE, nothing is written and nothing sent.
 pub fn written(
     packet: &mut [u8],
     b: &[u8],

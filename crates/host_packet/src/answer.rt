@@ -51,7 +51,7 @@ impl StepRefusal {
     }
 }
 
-// What is sent: nothing, the first 16 bytes of the packet, or all 60.
+// What is sent: nothing, the first 16 bytes of the packet, or all of it.
 pub enum Sent {
     Nothing,
     Offer,
@@ -66,14 +66,14 @@ pub struct StepAnswer {
     pub host: Host,
 }
 
-// What was laid into the packet: whether the step is served, what is sent, and the place of the record after the one in hand.
+// What was written into the packet: whether the step is served, what is sent, and the place of the record after the one in hand.
 pub struct Written {
     pub served: bool,
     pub sent: Sent,
     pub cursor: usize,
 }
 
-// What the inner step answers beside the packet that it lays: the row, what is sent, the next record, and the place of the record after the one in hand.
+// What the inner step answers beside the packet that it writes: the row, what is sent, the next record, and the place of the record after the one in hand.
 pub struct Stepped {
     pub refusal: StepRefusal,
     pub sent: Sent,

@@ -1,4 +1,4 @@
-// The packets that are sent, each laid into 60 lent bytes, zero past its end.
+// The packets that are sent, each written into PACKET_SIZE lent bytes, zero past its end.
 ghost use mathlib.Core.Path.{_≡_};
 ghost use mathlib.Core.List.{_++_};
 ghost use Prim.Native.Nat.{_+_, _≤_};
@@ -21,7 +21,7 @@ use wire_offer::signal::build_information;
 // The bytes that are lent for a packet.
 pub const PACKET_SIZE: usize = 60;
 
-// Sixteen bytes at the start of 60.
+// A packet of 16 bytes at the start, and zeros after it.
 fn lay(packet: &mut [u8], p: [u8; 16])
     requires { ⌜ length (now packet) ≡ 60 ⌝ }
     ensures { λ _. ⌜ now (packet .exit) ≡ p ++ replicate 44 0 ⌝ }

@@ -14,11 +14,11 @@ use Rattle.host_record.specs.declared.fits.Body.{Body}
 use Rattle.host_record.specs.declared.record.HostStage.{HostStage}
 use Rattle.host_record.specs.declared.record.HostStage.the-variants.{Fresh, Opening, Listing, Offering, Waiting, Sending, Closing, Ended}
 
--- the most BUSY replies that one offer survives in one pass
+-- the most BUSY replies to one offer in one pass that do not end the host
 abbrev pub BUSY-LIMIT : ℕ
 BUSY-LIMIT = 8
 
--- the packets that a record may count
+-- a record counts fewer packets than this
 abbrev pub PACKET-LIMIT : ℕ
 PACKET-LIMIT = 2 ^ 31
 

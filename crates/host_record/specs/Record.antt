@@ -110,7 +110,7 @@ hasEnded (Sending p) = false
 hasEnded Closing = false
 hasEnded (Ended e) = true
 
--- what the report tells
+-- the fields of the report
 pub record Reported : Type 0 where
   pub completed : ℕ
   pub mask : ℕ

@@ -1,5 +1,5 @@
--- What deciding asks of a record: each number that may go up by one has room for it in its 32 bits, and the entry of a block has a bit in the mask. What
--- N1 leaves has that room.
+-- What deciding requires of a record: each number that may go up by one then still fits its 32 bits, and the entry of a block has a bit in the mask. It holds
+-- of every record that N1 does not refuse.
 use Prim.Native.Nat.{ℕ, _+_, _^_, _<_}
 use Rattle.host_record.specs.declared.record.Host.{Host}
 use Rattle.host_record.specs.declared.record.HostStage.{HostStage}

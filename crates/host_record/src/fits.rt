@@ -1,5 +1,5 @@
-// Row N1: a record that does not fit the bundle, told in constant time by how many offers it has and how many records the body in hand has. And whether a
-// block is the last of its body.
+// Row N1: a record that does not fit the bundle, decided in constant time by how many offers the bundle has and how many records the body in hand has. And
+// whether a block is the last of its body.
 ghost use mathlib.Core.Path.{_≡_};
 ghost use Prim.Native.Nat.{_^_};
 ghost use lib.Dec.{leb};
@@ -12,7 +12,7 @@ use crate::record::Turn;
 use bundle_layout::Entry;
 use bundle_layout::limits::OFFER_LIMIT;
 
-// The most BUSY replies that one offer survives in one pass.
+// The most BUSY replies to one offer in one pass that do not end the host.
 pub const BUSY_LIMIT: u32 = 8;
 
 // The body of an entry: where it starts and ends, and how many records it has.

@@ -4,7 +4,7 @@ ghost use Rattle.host_record.specs.Record.{freshHost, endingOf, numberOf
 use crate::report::Progress;
 use crate::report::Report;
 
-// The packets that a record may count.
+// A record counts fewer packets than this.
 pub const PACKET_LIMIT: u32 = 0x80000000;
 
 // The offer in hand, and the BUSY replies that it had in this pass.

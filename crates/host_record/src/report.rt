@@ -1,4 +1,4 @@
-// What the report tells (document 01, "The host").
+// The fields of the report (document 01, "The host").
 use crate::record::End;
 
 pub enum Progress {

@@ -84,7 +84,7 @@ impl Region {
         }
     }
 
-    // The bytes go in from the offset of the address on; what the region, or a region that the buffer, does not hold is not written.
+    // The bytes go in from the offset of the address on; nothing is written where the region does not hold them, or the buffer does not hold the region.
     pub fn write(self, a: RegionAddress, staging: &mut [u8], bytes: &[u8])
         ensures { λ _. ⌜ now (staging .exit) ≡ writeOf self a (now (bytes .entry)) (now (staging .entry)) ⌝ }
     {

@@ -29,6 +29,6 @@ channel-val = EL.val K.the-type K′.the-laws
 abbrev pub frame-val : Frame → Val
 frame-val = LL.val F.the-type F′.the-laws
 
--- what whoever holds a frame knows of it at its spelled value
+-- what holds of a frame at its spelled value
 pub spelled : (f : Frame) (u : Val) → Is F.the-row f (u ∷ []) → Is F.the-row f (frame-val f ∷ [])
 spelled f u is = subst (Is F.the-row f) (LL.tells F.the-type F′.the-laws f (u ∷ []) is) is

@@ -1,5 +1,5 @@
--- The counts of a record are those of the list sent, whatever was heard: packets and passes, and in its mask the completed offers that it has heard of.
--- Assumes nothing.
+-- The counts of a record are those of the list sent, whatever was received: packets and passes, and in its mask the completed offers up to the last reply
+-- that it received. Assumes nothing.
 use mathlib.Core.Path.{_≡_, refl, sym, ap, ap₂, subst, _∙_}
 use mathlib.Core.Bool.{Bool, true, false, cond, _&&_, _||_}
 use mathlib.Core.List.{List, [], _∷_, _++_, append-nil}
@@ -42,7 +42,7 @@ idAt b i = idIn (entryAt b i)
 abbrev Marks : (b : List ℕ) → List Exchange → (mask : ℕ) → Type 0
 Marks b xs mask = (i : ℕ) → i < countIn b → hasBit mask i ≡ completedIn 0 xs (idAt b i)
 
--- counts and a mask are those of a list whose replies were all heard
+-- counts and a mask are those of a list whose replies were all received
 record Tells (b : List ℕ) (xs : List Exchange) (sent opened mask : ℕ) : Type 0 where
   packets : sent ≡ length xs
   passes : opened ≡ passesIn xs
@@ -52,7 +52,7 @@ record Tells (b : List ℕ) (xs : List Exchange) (sent opened mask : ℕ) : Type
 abbrev Heard : (b : List ℕ) → Host → List Exchange → Type 0
 Heard b h xs = Tells b xs (h .packets) (h .passes) (h .mask)
 
--- a list whose last reply, to the block p, is yet to be heard: it shows the mask and, if the block was the last and taken, its entry
+-- a list whose last reply, to the block p, is not yet received: it shows the mask and, if the block was the last and taken, its entry
 abbrev Due : (b : List ℕ) → Place → (mask : ℕ) → List Exchange → (reply : List ℕ) → Type 0
 Due b p mask xs reply =
     (i : ℕ) → i < countIn b → completedIn 0 xs (idAt b i) ≡ (((isTaken p reply && isLast b p) && eqb (idAt b (p .entry)) (idAt b i)) || hasBit mask i)
@@ -68,18 +68,18 @@ Shown b (Sending p) mask xs reply = Due b p mask xs reply × (aboutIn 0 xs ≡ i
 Shown b Closing mask xs reply = Marks b xs mask
 Shown b (Ended e) mask xs reply = Marks b xs mask
 
--- what is known of a record in stage g that is about to hear the last reply of a list
+-- what is known of a record in stage g that receives the last reply of a list next
 record KnownAt (b : List ℕ) (h : Host) (g : HostStage) (xs : List Exchange) (reply : List ℕ) : Type 0 where
   packets : h .packets ≡ length xs
   passes : h .passes ≡ passesIn xs
   shown : Shown b g (h .mask) xs reply
 
--- the last reply is heard, with this mask
+-- the last reply is received, with this mask
 heard : {b : List ℕ} {h : Host} {g : HostStage} {xs : List Exchange} {reply : List ℕ} → KnownAt b h g xs reply → (mask : ℕ) → Marks b xs mask
     → Tells b xs (h .packets) (h .passes) mask
 heard k mask m = record { packets = k .packets; passes = k .passes; marks = m }
 
--- what is known after a move: its mask is what the list shows that it has heard; and what is known when what it sends is answered by any reply
+-- what is known after a move: its mask is what the list shows up to the reply received; and what is known when what it sends is answered by any reply
 abbrev After : (b : List ℕ) → List Exchange → Move → Type 0
 After b xs m =
     Marks b xs (m .host .mask) × ((reply : List ℕ) → KnownAt b (m .host) (m .host .stage) (xs ++ heardAs (packetOf b (m .host .token) (m .action)) reply) reply)
@@ -254,11 +254,11 @@ module _ (b : List ℕ) (token : ℕ) (replies : ℕ → List ℕ) (α : Accepte
       subst (λ (x : Step). KnownAt b (x .host) (x .host .stage) (talk b token replies k .trace ++ heardAs (x .sent) (replies (suc k))) (replies (suc k)))
       (sym (step-at b token replies α s t k)) (after-at k (known-at k) .1 (replies (suc k)))
 
-  -- so every mask shows what was heard
+  -- so every mask shows what was received
   marks-at : (k : ℕ) → Marks b (talk b token replies k .trace) (hostAt b token replies α s t (suc k) .mask)
   marks-at k = subst (λ (h : Host). Marks b (talk b token replies k .trace) (h .mask)) (sym (next-at b token replies α s t k)) (after-at k (known-at k) .0)
 
--- after every step the mask's bits and ones are the completed offers that it has heard of
+-- after every step the mask's bits and ones are the completed offers up to the reply that it received
 pub host-masks : HostMasks
 host-masks b token replies k bytes s t =
     let α = accepted b bytes s in
@@ -271,7 +271,7 @@ pub host-tallies : HostTallies
 host-tallies b token replies k bytes s t =
     let w = known-at b token replies (accepted b bytes s) s t k in (w .packets, w .passes)
 
--- once the host has ended, it has heard all: the counts are those of the list sent
+-- once the host has ended, it has received all replies: the counts are those of the list sent
 pub host-counts : HostCounts
 host-counts b token replies k bytes s t e =
     let n = host-tallies b token replies k bytes s t in

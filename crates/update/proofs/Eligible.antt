@@ -93,12 +93,12 @@ pub eligible-says : (d : Device) (o : OfferFields) → T (isEligible (toIdle d) 
 unfolding offering.rejections
 eligible-says d o t = in-slot d o (eligible-is (d .platform) (standingOf (o .id) (d .count) (d .components)) o .0 (is-false _ t))
 
--- the token plays no part in checks 2 to 7
+-- checks 2 to 7 do not read the token
 pub token-rejections : (d : Device) (o : OfferFields) (token : ℕ) → applies (rejections d (withToken o token)) ≡ applies (rejections d o)
 unfolding offering.rejections
 token-rejections d o token = refl
 
--- nor in the need's check
+-- nor does the check of the need
 pub token-need : (d : Device) (o : OfferFields) (token : ℕ) → needUnmet d (withToken o token) ≡ needUnmet d o
 unfolding offering.needUnmet
 token-need d o token = refl

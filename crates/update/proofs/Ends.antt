@@ -1,4 +1,4 @@
--- The host always ends, whatever it hears: N1 is never met, every packet is one that P2 allows, and an ended record is reached within the bound.
+-- The host always ends, whatever it receives: N1 is never met, every packet is one that P2 allows, and an ended record is reached within the bound.
 -- Assumes nothing.
 use mathlib.Core.Path.{_≡_, refl, sym, ap, subst, _∙_}
 use mathlib.Core.Logic.{_⊎_, inl, inr}

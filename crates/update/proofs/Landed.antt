@@ -158,7 +158,7 @@ module _ (b : List ℕ) (α : Accepted b) (d : Device) where
               getD-set-other ps k j _ blankComponent (λ z. q (one-offer i e k m l (g ∙ ap found.At z) f))
               ∙ h .members i j m (or-cases (eqb i e) (S i) (λ z. absurd (q (eqb→eq i e z))) (λ z. z) t) g
 
-      -- L8: an offer is eligible where it was at the start and has not landed
+      -- an offer is eligible where it was at the start and has not landed
       pub eligible-now : isEligible (idleWith d ps) (offerAt b e) ≡ (not (S e) && isEligible (toIdle d) (offerAt b e))
       eligible-now =
           rejected-is d ps o ∙ ap (λ (f : Found). not (rejected (d .platform) o f (componentAt ps (slotOf f)))) (same-find (o .id))
@@ -210,7 +210,7 @@ module _ (b : List ℕ) (α : Accepted b) (d : Device) where
         fed-slot : (j : ℕ) → j < countIn b → Feeding j → Fresher d (offerAt b j)
         fed-slot j m y = eligible-says d (offerAt b j) (fair j m (y .member))
 
-        -- L9: where there is a need, the two ways to meet it agree
+        -- where there is a need, the two ways to meet it agree
         meets-slot : (f : Found) → find d (o .need) ≡ f → eqb (o .need) 0 ≡ false
             → not (isAbsent f || below (componentAt ps (slotOf f)) (o .least)) ≡ (not (isAbsent f || below (component d (slotOf f)) (o .least)) || any fed os)
         meets-slot found.Nothing g z =

@@ -268,7 +268,7 @@ module _ (b : List ℕ) (t : ℕ) (d : Device) (s : List ℕ) (G : Given b t d s
         count = k .count;
       }
 
-  -- L7: the rest of a pass, j offers from entry e on
+  -- the rest of a pass, j offers from entry e on
   pub pass-sim : (j e : ℕ) → e + j ≡ countIn b → (p : Pass) → Fair (p .set) → (q c c′ m n : ℕ) (ps : List Component) (r : List ℕ) (trace : List Exchange)
       → Landed (p .set) m ps r → length trace ≡ c + p .sent → c + j ≡ c′
       → Gets (due e p m n q ps r trace) (countIn b) (passOver (offers b (G .accepted) d) (from e j) p) q c′

@@ -116,7 +116,7 @@ module _ (b : List ℕ) (α : Accepted b) where
       let w : 17 * countIn b + 2 + recordsIn b ≤ 17 * OFFER-LIMIT + 2 + OFFER-LIMIT * BUNDLE-LIMIT = omega (arith, α .few) in
       omega (arith, mul-le-mul (α .few) w)
 
-  -- a packet is sent: what its stage and its action ask, and the room
+  -- a packet is sent: what its stage and its action require, and the steps that are left
   goes-sends : (h : Host) (g : HostStage) (a : Action) → h .token < 256 → h .passes ≤ countIn b → h .mask < 2 ^ countIn b → InStage b (h .passes) g → Has b a
       → h .packets + 1 + owed b g + spare b (h .passes) ≤ boundOf b → Goes b (h .packets) (sends h g a)
   goes-sends h g a t p m i k r = record {

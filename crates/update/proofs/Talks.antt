@@ -1,4 +1,4 @@
--- A run is a talk of its host with the replies that it hears: no step of it is refused, it ends within the bound, and an ended run stays. Assumes
+-- A run is the exchange of its host with the replies that it receives: no step of it is refused, it ends within the bound, and an ended run stays. Assumes
 -- nothing.
 use Prim.Native.Nat.{ℕ, zero, suc, _+_, _<_}
 use mathlib.Core.Path.{_≡_, refl, sym, ap, subst, _∙_}
@@ -76,15 +76,15 @@ module _ (b : List ℕ) where
   ended-stays (suc n) s e = rw (ended-once s e) (ended-stays n s e)
 
   module _ (token : ℕ) (d : Device) (staging reply : List ℕ) (bytes : Bytes b) (accept : bundle.bundleRow b ≡ bundle.served) (small : token < 256) where
-    -- the run, turn by turn, and what its host hears
+    -- the run, turn by turn, and what its host receives
     abbrev pub at : ℕ → System
     at k = run b k (start token d staging reply)
 
-    -- the reply that step k hears
+    -- the reply that step k receives
     abbrev pub hears : ℕ → List ℕ
     hears k = at k .reply
 
-    -- its host is that of the talk
+    -- its host is that of `talk`
     host-is : (k : ℕ) → talk b token hears k .host ≡ at k .host
     unfolding talk run exchange
     host-is zero = refl

@@ -1,4 +1,4 @@
--- What a list of exchanges tells, with one exchange more at its end. Assumes nothing.
+-- What a list of exchanges shows, with one exchange more at its end. Assumes nothing.
 use mathlib.Core.Path.{_≡_, refl, ap, _∙_}
 use mathlib.Core.Bool.{Bool, true, false, cond, _&&_, _||_}
 use mathlib.Core.List.{List, [], _∷_, _++_}

@@ -281,7 +281,7 @@ module _ (b : List ℕ) (α : Accepted b) (t : ℕ) (small : t < 256) (d : Devic
           one-more x k p p′ (suc (length xs)) s trace (omega (arith, drop-length (blocksAt b e) k x (x′ ∷ xs) z)) (drop-get (blocksAt b e) k x (x′ ∷ xs) z) (inside .0) d2
           (transfer x′ xs (suc k) (p + 1) p′ (next k x s) (trace ++ (said (blockPacket b (spot k)) (taken k) ∷ [])) (drop-rest (blocksAt b e) k x (x′ ∷ xs) z) (inside .1) (g .0) (g .1) (omega arith))
 
-      -- L5: a body, from its first block on its way: the image is in the region, and all else of the buffer is as it was
+      -- a body, from its first block on its way: the image is in the region, and all else of the buffer is as it was
       pub transmits : (p p′ : ℕ) (s : List ℕ) (trace : List Exchange) → 1 ≤ length (blocksAt b e) → Inside (componentAt ps slot .fixed .region .len) (blocksAt b e)
           → length s ≡ d .«staging_len» → imageOf (componentAt ps slot .fixed .region .len) (blocksAt b e) ≡ img → p + length (blocksAt b e) ≡ p′
           → Leads b (blocking 0 p s trace) (done p′ s (trace ++ contents 0 (length (blocksAt b e))))

@@ -1,4 +1,4 @@
--- One turn of an honest run, of each kind but blocks: codes and offers. Assumes nothing.
+-- One turn of a run of both ends, of each kind but blocks: codes and offers. Assumes nothing.
 use Prim.Native.Nat.{ℕ, suc, _+_, _<_}
 use mathlib.Core.Path.{_≡_, refl, ap, subst, _∙_}
 use mathlib.Core.Bool.{Bool, true, false, cond, _&&_}

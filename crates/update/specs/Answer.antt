@@ -60,6 +60,6 @@ firstRow (bundle.B k entry) d staging = B k entry
 unfoldable pub runOf : (b : List ℕ) → (token : ℕ) → Device → (staging : List ℕ) → Ran
 runOf b token d staging = ranBy (firstRow (bundle.bundleRow b) d staging) b token d staging
 
--- what an answer tells, with the staging buffer as it was left
+-- an answer of the code in these terms, with the staging buffer as it was left
 abbrev pub told : RunAnswer → (staging : List ℕ) → Ran
 told a staging = record { row = rowOf (a .refusal); report = toldReport (a .report); device = a .device; staging = staging }

@@ -60,7 +60,7 @@ oneFirst = bundleBytes (one ∷ two ∷ [])
 abbrev pub twoFirst : List ℕ
 twoFirst = bundleBytes (two ∷ one ∷ [])
 
--- what an exchange of an honest run says: a code, an offer with its status and reason, or a block with its status
+-- an exchange of a run by what it is: a code, an offer with its status and reason, or a block with its status
 pub data Said : Type 0 where
   code : ℕ → Said
   offered : (id status reason : ℕ) → Said
@@ -84,7 +84,7 @@ updated =
     ∷ withStaged (component (bench Idle) 1) (versionOf 1 2 0)
     ∷ replicate (COMPONENT-LIMIT - 2) blankComponent)
 
--- a run on the bench: the bundle of 204 bytes is accepted, demand 3's premise holds, and the run says this and is done
+-- a run on the bench: the bundle of 204 bytes is accepted, demand 3's premise holds, the run has these exchanges, and the host is done
 pub record Runs (b : List ℕ) (p n : ℕ) (saying : List Said) : Type 0 where
   pub size : length b ≡ 204
   pub accepted : rows.bundleRow b ≡ rows.served

@@ -1,4 +1,4 @@
--- What a run is held to (document 01, "The host": demand 3): good bodies, closed sets of offers and the smallest, and the device and the staging buffer
+-- What is claimed of a run (document 01, "The host": demand 3): good bodies, closed sets of offers and the smallest, and the device and the staging buffer
 -- that a set leaves. No run is named here.
 use Prim.Native.Nat.{ℕ, _+_, _≤_, _<_}
 use mathlib.Core.Path.{_≡_}

@@ -95,7 +95,7 @@ pub record Demand (b : List ℕ) (token : ℕ) (d : Device) (staging reply : Lis
   -- each image is staged under its offered version, and fills its region; nothing else changes
   pub device : Leaves d b (stagedIn b s) (s .device)
   pub bytes : Fills d b (stagedIn b s) staging (s .staging)
-  -- the state tells the same: staged in this run means not pending before and pending after
+  -- the state shows the same: staged in this run means not pending before and pending after
   pub pending : (i k : ℕ) → i < countIn b → find d (offerAt b i .id) ≡ At k
       → T (stagedIn b s i) ↔ ((isPending (component d k .staged) ≡ false) × (isPending (component (s .device) k .staged) ≡ true))
   -- another order of the same offers comes to the same

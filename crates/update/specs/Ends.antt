@@ -24,7 +24,7 @@ use Rattle.host_record.specs.declared.record.Host.{Host}
 use Rattle.update.specs.Trace.{Exchange, passesIn, completedIn}
 use Rattle.update.specs.Run.{run, boundOf, lastOf}
 
--- a host that hears any replies, with the list of what it sent: reply k is heard by step k, so it answers what step k - 1 sent
+-- a host that receives any replies, with the list of what it sent: step k receives reply k, which answers what step k - 1 sent
 pub record Talk : Type 0 where
   pub host : Host
   pub trace : List Exchange
@@ -63,7 +63,7 @@ pub record Counted (b : List ℕ) (h : Host) (trace : List Exchange) : Type 0 wh
   pub passes : h .passes ≡ passesIn trace
   pub mask : Masked b (h .mask) trace
 
--- from a fresh record over an accepted bundle, whatever is heard
+-- from a fresh record over an accepted bundle, whatever replies are received
 pub record Ends (b : List ℕ) (token : ℕ) (replies : ℕ → List ℕ) : Type 0 where
   -- N1 is never met
   pub served : (k : ℕ) → stepOf b (talk b token replies k .host) (replies k) .row ≡ served
@@ -86,12 +86,13 @@ HostTallies = (b : List ℕ) (token : ℕ) (replies : ℕ → List ℕ) (k : ℕ
     → (talk b token replies k .host .packets ≡ length (talk b token replies k .trace))
     × (talk b token replies k .host .passes ≡ passesIn (talk b token replies k .trace))
 
--- after every step: the mask shows what that step has heard, the list of the packets that were sent before it with their replies
+-- after every step: the mask shows the completed offers of the list up to the reply that the step received, the packets that were sent before it with their
+-- replies
 abbrev pub HostMasks : Type 0
 HostMasks = (b : List ℕ) (token : ℕ) (replies : ℕ → List ℕ) (k : ℕ) → Bytes b → bundle.bundleRow b ≡ bundle.served → token < 256
     → Masked b (talk b token replies (suc k) .host .mask) (talk b token replies k .trace)
 
--- once it has ended, and so has heard every reply of the list, all its counts are those of the list sent
+-- once it has ended, and so has received every reply of the list, all its counts are those of the list sent
 abbrev pub HostCounts : Type 0
 HostCounts = (b : List ℕ) (token : ℕ) (replies : ℕ → List ℕ) (k : ℕ) → Bytes b → bundle.bundleRow b ≡ bundle.served → token < 256
     → hasEnded (talk b token replies k .host .stage) ≡ true

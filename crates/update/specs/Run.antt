@@ -28,7 +28,7 @@ pub record System : Type 0 where
 abbrev pub channelOf : List ℕ → Channel
 channelOf p = cond (eqb (length p) 16) Offer Content
 
--- the reply that the host hears: the first that is sent, and no bytes where none is
+-- the reply that the host receives: the first that is sent, and no bytes where none is
 abbrev pub heard : List (List ℕ) → List ℕ
 heard [] = []
 heard (r ∷ rs) = r
@@ -73,7 +73,7 @@ recordsFrom b (e ∷ es) = length (blocksIn b e) + recordsFrom b es
 abbrev pub recordsIn : List ℕ → ℕ
 recordsIn b = recordsFrom b (entriesIn b)
 
--- within so many steps every host ends, whatever it hears: code 0 and the step that ends; in each of n passes code 1, code 2, r blocks, and for each
+-- within so many steps every host ends, whatever it receives: code 0 and the step that ends; in each of n passes code 1, code 2, r blocks, and for each
 -- of n offers nine offers and eight notifies
 abbrev pub stepBound : (n r : ℕ) → ℕ
 stepBound n r = 2 + n * (17 * n + 2 + r)

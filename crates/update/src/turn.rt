@@ -51,7 +51,7 @@ fn has_ended(stage: HostStage) -> bool
     }
 }
 
-// How many bytes of the last reply the host hears: all where one was due, otherwise none.
+// How many bytes of the last reply the host receives: all where one was due, otherwise none.
 fn heard(due: bool) -> usize
     ensures { λ r. ⌜ r ≡ cond due 16 0 ⌝ }
 {

@@ -8,7 +8,7 @@ use lib.ListN.{length}
 use Rattle.wire.specs.Checks.{any}
 use Rattle.update_passes.specs.Sets.{Set, Sub, In, none, all, ins, weight}
 
--- what is known of the offers: which pass the checks that no landing changes but their own; whose need is met once a set has landed; the records of each
+-- the offers: which pass the checks, whose result only their own landing changes; whose need is met once a set has landed; the records of each
 pub record Offers : Type 0 where
   pub eligible : ℕ → Bool
   pub met : Set → ℕ → Bool
@@ -89,7 +89,7 @@ module _ (y : Offers) (os : List ℕ) where
     pub few : passesOf .passes ≤ length os
     pub bound : packetsOf ≤ 1 + length os * (length os + 2) + weight (y .records) all os
 
--- what meets a need, more of it meets the need too
+-- what meets a need, a larger set meets too
 abbrev pub Monotone : Offers → Type 0
 Monotone y = (A B : Set) → Sub A B → (i : ℕ) → T (y .met A i) → T (y .met B i)
 

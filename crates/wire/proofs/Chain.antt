@@ -45,13 +45,13 @@ module _ {A : Type 0} where
   first-passes [] ds last f = refl
   first-passes (c ∷ cs) ds last f = let z = neither (c .0) (applies cs) f in rw (z .0) (first-passes cs ds last (z .1))
 
-  -- and each is quiet
+  -- and each check does not apply
   pub quiet : (cs : List (Bool × A)) → applies cs ≡ false → Quiet cs
   unfolding applies
   quiet [] f = tt
   quiet (c ∷ cs) f = let z = neither (c .0) (applies cs) f in (z .0, quiet cs (z .1))
 
-  -- where each is quiet, none applies
+  -- where each check does not apply, none applies
   pub none-applies : (cs : List (Bool × A)) → Quiet cs → applies cs ≡ false
   unfolding applies
   none-applies [] q = refl

@@ -6,7 +6,7 @@ use mathlib.Core.List.{List, [], _∷_}
 use lib.Dec.{eqb}
 use lib.ListN.{length, getD}
 
--- each element is a byte; 0 stands past the end, so this is what a function knows of a slice
+-- each element is a byte; past the end stands 0, so this holds of every slice of bytes
 abbrev pub Bytes : List ℕ → Type 0
 Bytes l = (i : ℕ) → getD l i 0 < 256
 

@@ -1,7 +1,7 @@
 -- Every code, status and reject reason (document 01, "Packets" and "The device"), by CFU's names; the reasons 0xE0 and 0xE1 are the house's.
 use Prim.Native.Nat.{ℕ}
 
--- Protocol: the only one spoken.
+-- The protocol's number; no other is supported.
 abbrev pub PROTOCOL : ℕ
 PROTOCOL = 2
 

@@ -23,7 +23,7 @@ rowAt number = cond (eqb number 0) served (P number)
 abbrev pub rowOf : Verdict → Row
 rowOf v = rowAt (numberOf v)
 
--- what a build or a read tells: its row, and the bytes or the fields
+-- what a build or a read answers: its row, and the bytes or the fields
 pub record Told (A : Type 0) : Type 0 where
   pub row : Row
   pub value : A

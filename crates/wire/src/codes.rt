@@ -1,6 +1,6 @@
-// Every code, status and reject reason of CFU that this updater knows, by CFU's names, and the few of the house.
+// Every code, status and reject reason of CFU that this updater uses, by CFU's names, and the few of the house.
 
-// Protocol: the only one spoken.
+// The protocol's number; no other is supported.
 pub const PROTOCOL: u8 = 2;
 
 // The most components that a device has: as many as a version reply holds.

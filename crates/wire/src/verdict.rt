@@ -1,4 +1,4 @@
-// What building or reading a packet says of its input (document 01, "Numbered refusals").
+// The verdict of building or reading a packet (document 01, "Numbered refusals").
 ghost use mathlib.Core.Path.{_≡_};
 ghost use Rattle.wire.specs.Rows.{numberOf};
 
@@ -6,7 +6,7 @@ pub enum Verdict {
     Served,
     // Reading: the packet is not of its kind's length.
     P1,
-    // Building: a value that its field cannot hold. Version reply, either way: a count over 7, another protocol.
+    // Building: a value that its field cannot hold. Version reply, either way: a count over the limit, another protocol.
     P2,
 }
 

@@ -41,12 +41,12 @@ usedOf length = cond (leb length 52) length 52
 unfoldable pub contentBytes : ContentFields → List ℕ
 contentBytes c = headOf (c .flags) (c .length) (c .sequence) (c .address) ++ cleared (c .length) (c .«data»)
 
--- what building tells
+-- what building answers
 unfoldable pub buildOf : ContentFields → Told (List ℕ)
 buildOf c =
     cond (allowed (c .flags) (c .length)) (record { row = served; value = contentBytes c }) (record { row = P 2; value = replicate 60 0 })
 
--- what a built packet tells
+-- the row and the bytes of a built packet
 abbrev pub toldBuilt : BuiltContent → Told (List ℕ)
 toldBuilt r = record { row = rowOf (r .verdict); value = r .packet }
 
@@ -64,11 +64,11 @@ fieldsIn p = record {
 abbrev pub blankContent : ContentFields
 blankContent = record { flags = 0; length = 0; sequence = 0; address = record { 0 = 0 }; «data» = replicate 52 0 }
 
--- what reading tells: P1 with all fields zero, or the fields
+-- what reading answers: P1 with all fields zero, or the fields
 unfoldable pub readOf : List ℕ → Told ContentFields
 readOf p = cond (eqb (length p) 60) (record { row = served; value = fieldsIn p }) (record { row = P 1; value = blankContent })
 
--- what an answer of the reader tells
+-- the row and the fields of a reader's answer
 abbrev pub toldRead : ReadContent → Told ContentFields
 toldRead r = record { row = rowOf (r .verdict); value = r .content }
 

@@ -22,11 +22,11 @@ replyBytes r = bytesOf 2 (r .sequence) ++ 0 ∷ 0 ∷ r .status ∷ replicate 11
 abbrev pub replyIn : List ℕ → ContentReply
 replyIn p = record { sequence = number (bytesAt 2 0 p); status = getD p 4 0 }
 
--- what reading tells: P1 with all fields zero, or the fields
+-- what reading answers: P1 with all fields zero, or the fields
 unfoldable pub readReplyOf : List ℕ → Told ContentReply
 readReplyOf p = cond (eqb (length p) 16) (record { row = served; value = replyIn p }) (record { row = P 1; value = record { sequence = 0; status = 0 } })
 
--- what an answer of the reader tells
+-- the row and the fields of a reader's answer
 abbrev pub toldReply : ReadContentReply → Told ContentReply
 toldReply r = record { row = rowOf (r .verdict); value = r .reply }
 

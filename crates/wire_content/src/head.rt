@@ -15,7 +15,7 @@ pub struct ContentHead {
     pub address: RegionAddress,
 }
 
-// What bytes lack is zero.
+// Bytes that are missing are read as zero.
 pub fn read_head(p: &[u8]) -> ContentHead
     ensures { λ r. ⌜ r ≡ headIn (now (p .entry)) ⌝ }
 {

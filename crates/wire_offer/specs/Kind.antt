@@ -1,4 +1,4 @@
--- The kinds of 16-byte packets on the offer channel, by byte 2 (document 01, "Packets"), and what reading one tells.
+-- The kinds of 16-byte packets on the offer channel, by byte 2 (document 01, "Packets"), and what reading one answers.
 use Prim.Native.Nat.{ℕ}
 use mathlib.Core.Bool.{cond}
 use mathlib.Core.List.{List}
@@ -26,11 +26,11 @@ kindIn p =
     (cond (eqb (getD p 2 0) KIND-EXTENDED) (extended (signalIn p))
     (offer (fieldsIn p)))
 
--- what reading tells: P1 with all fields zero, or the packet
+-- what reading answers: P1 with all fields zero, or the packet
 unfoldable pub readOf : List ℕ → Told Kind
 readOf p = cond (eqb (length p) 16) (record { row = served; value = kindIn p }) (record { row = P 1; value = offer blankOffer })
 
--- what an answer of the reader tells
+-- the row and the packet of a reader's answer
 abbrev pub toldRead : OfferPacket → Told Kind
 toldRead Refused = record { row = P 1; value = offer blankOffer }
 toldRead (Offer o) = record { row = served; value = offer o }

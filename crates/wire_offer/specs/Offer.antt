@@ -40,11 +40,11 @@ offerBytes o =
     ++ o .need ∷ bytesOf 3 (o .least)
     ++ o .protocol ∷ 0 ∷ bytesOf 2 (o .platform)
 
--- what building tells
+-- what building answers
 unfoldable pub buildOf : OfferFields → Told (List ℕ)
 buildOf o = cond (allowed o) (record { row = served; value = offerBytes o }) (record { row = P 2; value = replicate 16 0 })
 
--- what a built offer tells
+-- the row and the bytes of a built offer
 abbrev pub toldBuilt : BuiltOffer → Told (List ℕ)
 toldBuilt r = record { row = rowOf (r .verdict); value = r .packet }
 

@@ -22,11 +22,11 @@ replyBytes r = 0 ∷ 0 ∷ 0 ∷ r .token ∷ 0 ∷ 0 ∷ 0 ∷ 0 ∷ r .reason 
 abbrev pub replyIn : List ℕ → OfferReply
 replyIn p = record { token = getD p 3 0; reason = getD p 8 0; status = getD p 12 0 }
 
--- what reading tells: P1 with all fields zero, or the fields
+-- what reading answers: P1 with all fields zero, or the fields
 unfoldable pub readReplyOf : List ℕ → Told OfferReply
 readReplyOf p = cond (eqb (length p) 16) (record { row = served; value = replyIn p }) (record { row = P 1; value = record { token = 0; reason = 0; status = 0 } })
 
--- what an answer of the reader tells
+-- the row and the fields of a reader's answer
 abbrev pub toldReply : ReadOfferReply → Told OfferReply
 toldReply r = record { row = rowOf (r .verdict); value = r .reply }
 

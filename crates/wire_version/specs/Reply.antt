@@ -14,7 +14,7 @@ use Rattle.wire_version.specs.declared.VersionReply.{VersionReply}
 use Rattle.wire_version.specs.declared.BuiltVersionReply.{BuiltVersionReply}
 use Rattle.wire_version.specs.declared.ReadVersionReply.{ReadVersionReply}
 
--- a head of four bytes, and eight for each component: 60
+-- a head of four bytes, and eight for each component
 abbrev pub REPLY-SIZE : ℕ
 REPLY-SIZE = 4 + 8 * COMPONENT-LIMIT
 
@@ -60,13 +60,13 @@ entries (suc n) q = entryIn q ∷ entries n (drop 8 q)
 unfoldable pub replyBytes : (count protocol : ℕ) → List Running → List ℕ
 replyBytes count protocol es = count ∷ 0 ∷ 0 ∷ protocol ∷ flat (take count es) ++ replicate (8 * COMPONENT-LIMIT - 8 * count) 0
 
--- what building tells
+-- what building answers
 unfoldable pub buildOf : VersionReply → Told (List ℕ)
 buildOf r =
     cond (allowed (r .count) (r .protocol)) (record { row = served; value = replyBytes (r .count) (r .protocol) (r .components) })
     (record { row = P 2; value = replicate REPLY-SIZE 0 })
 
--- what a built reply tells
+-- the row and the bytes of a built reply
 abbrev pub toldBuilt : BuiltVersionReply → Told (List ℕ)
 toldBuilt r = record { row = rowOf (r .verdict); value = r .packet }
 
@@ -78,18 +78,18 @@ tableIn p count = entries count (drop 4 p) ++ replicate (COMPONENT-LIMIT - count
 unfoldable pub fieldsIn : List ℕ → VersionReply
 fieldsIn p = record { count = getD p 0 0; protocol = getD p 3 0 % 16; components = tableIn p (getD p 0 0) }
 
--- what a refused reading tells: all fields zero
+-- what a refused reading answers: all fields zero
 abbrev pub refusedOf : Row → Told VersionReply
 refusedOf row = record { row = row; value = record { count = 0; protocol = 0; components = replicate COMPONENT-LIMIT none } }
 
--- what reading tells: P1, P2, or the fields
+-- what reading answers: P1, P2, or the fields
 unfoldable pub readOf : List ℕ → Told VersionReply
 readOf p =
     cond (eqb (length p) REPLY-SIZE)
     (cond (allowed (getD p 0 0) (getD p 3 0 % 16)) (record { row = served; value = fieldsIn p }) (refusedOf (P 2)))
     (refusedOf (P 1))
 
--- what an answer of the reader tells
+-- the row and the fields of a reader's answer
 abbrev pub toldRead : ReadVersionReply → Told VersionReply
 toldRead r = record { row = rowOf (r .verdict); value = r .reply }
 

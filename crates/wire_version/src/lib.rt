@@ -11,7 +11,7 @@ use wire::verdict::Verdict;
 use wire::version::Version;
 use wire::words;
 
-// A head of four bytes, and eight for each component: 60.
+// A head of four bytes, and eight for each component.
 pub const REPLY_SIZE: usize = 4 + 8 * COMPONENT_LIMIT;
 
 // A component in the reply, eight bytes.

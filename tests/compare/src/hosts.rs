@@ -1,5 +1,5 @@
 //! Steps of the host: fresh and written records, good and bad bundles, replies that fit and hostile ones. The step over the bundle and the step over its
-//! contents are held against each other.
+//! contents are compared with each other.
 
 use second::host::{Host as SecondHost, Packet, Stage as SecondStage};
 
@@ -289,7 +289,7 @@ fn kept_text(side: &Side, told: Step) -> String {
 
 // ------------------------------------------------------ any contents
 
-/// Contents that no check left: the library and the made crate, for the second implementation knows none.
+/// Contents that no check left: for the library and the made crate, since the second implementation has no contents.
 pub fn make_contents(r: &mut Random) -> Case {
     let most = r.pick(&[1, 3, 6]);
     let entries = any_entries(r, most);

@@ -1,7 +1,7 @@
 //! The formats for the tests in Rust, each stated once: the numbers of include/cfu.h, the places of the fields in packets, image, bundle and records, and the
 //! records as fields.
 //!
-//! build.rs holds the numbers against the header. The file needs no other: tools/rust_crate copies it into the crate that it makes, for the tests there.
+//! build.rs checks the numbers against the header. The file needs no other: tools/rust_crate copies it into the crate that it makes, for the tests there.
 
 use std::ops::Range;
 
@@ -121,7 +121,7 @@ pub mod offer_at {
     pub const PLATFORM: usize = 14;
 }
 
-/// Information and extended. Byte 2 tells the kind of every packet of the offer channel.
+/// Information and extended. Byte 2 decides the kind of every packet of the offer channel.
 pub mod signal_at {
     pub const CODE: usize = 0;
     pub const KIND: usize = 2;
@@ -479,7 +479,7 @@ pub struct ListedPart {
 }
 
 impl Part {
-    /// As set-up is told of it.
+    /// As it is given to set-up.
     pub fn listed(&self) -> ListedPart {
         ListedPart { id: self.id, running: self.running, base: self.base, length: self.length }
     }
@@ -672,7 +672,7 @@ impl HostRecord {
         }
     }
 
-    /// How far it is, as cfu_report.ending and cfu_report.status tell it.
+    /// How far it is, as cfu_report.ending and cfu_report.status give it.
     pub fn ending(&self) -> (u32, u32) {
         match self.stage {
             Stage::Ended { end: 0, .. } => (DONE, 0),
@@ -687,7 +687,7 @@ pub const PASSED_STAGE: &str = "passed over: the numbers of a stage that has non
 pub const PASSED_END: &str = "passed over: a status where the end has none";
 pub const PASSED_STATUS: &str = "passed over: all but the low byte of a status";
 
-/// A report's number: a record that counts 2^31 packets or more is N1 over every bundle, and its fields are told all the same.
+/// A report's number: a record that counts 2^31 packets or more is N1 over every bundle, and its fields are reported all the same.
 pub fn report_number(packets: u32) -> u32 {
     if packets < 1 << 31 {
         SERVED
@@ -725,7 +725,7 @@ pub struct Body {
     pub records: u32,
 }
 
-/// The contents of a checked bundle: the row that refuses it and its entry, the count, the bodies, and the block in hand with the cursor behind it.
+/// The contents of a checked bundle: the row that refuses it and its entry, the count, the bodies, and the block in hand with the cursor after it.
 #[derive(Clone, Copy, Debug, PartialEq, Eq)]
 pub struct Contents {
     pub row: u8,

@@ -12,7 +12,7 @@ use crate::random::Random;
 use crate::tally::{self, Tally};
 use crate::ALL;
 
-/// The calls that judge a length, each with the rows that it knows.
+/// The calls that judge a length, each with the rows that it can answer.
 const CALLS: [(&str, &[&str]); 19] = [
     ("set-up", &["set-up: C1", "set-up: C2"]),
     ("version reply", &["version reply: C1", "version reply: C3"]),

@@ -5,7 +5,7 @@ use crate::header::*;
 
 pub struct Library;
 
-// Each call lends slices that are valid for their lengths and do not overlap, which is all that the header asks of its caller. What is timed is inlined, so
+// Each call lends slices that are valid for their lengths and do not overlap, which is all that the header requires of its caller. What is timed is inlined, so
 // that the time is the library's.
 impl Calls for Library {
     fn name(&self) -> &'static str {

@@ -96,7 +96,7 @@ pub fn record_of(device: &Device) -> DeviceRecord {
     }
 }
 
-/// A component as the crate's set-up is told of it.
+/// A component as it is given to the crate's set-up.
 fn listed_of(part: &ListedPart) -> Listed {
     Listed { fixed: fixed(part.id, part.base, part.length), running: version(part.running) }
 }
@@ -115,7 +115,7 @@ fn device_number(refusal: Refusal) -> u32 {
     }
 }
 
-/// An answer of the crate as a call of include/cfu.h tells it, the replies that are due, and the record.
+/// An answer of the crate in the form of a call of include/cfu.h, the replies that are due, and the record.
 pub fn told(answer: &Answer) -> (Replies, [u8; REPLIES_SIZE], DeviceRecord) {
     let mut replies = [0; REPLIES_SIZE];
     let mut count = 0;

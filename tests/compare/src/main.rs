@@ -22,7 +22,7 @@ struct Kind {
     name: &'static str,
     make: fn(&mut Random) -> Case,
     run: Run,
-    /// What its cases are counted by, and how many the gate wants.
+    /// What its cases are counted by, and how many the gate runs.
     unit: &'static str,
     gate: u64,
 }
@@ -70,7 +70,7 @@ fn options() -> Result<Options, String> {
     }
 }
 
-/// A case is being run: what an implementation says of its panic is left out.
+/// A case is being run: the message of an implementation's panic is not printed.
 static QUIET: AtomicBool = AtomicBool::new(false);
 
 /// The case that is being run, for a signal.

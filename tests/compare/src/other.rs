@@ -1,6 +1,6 @@
 //! The second implementation (tests/second). Rows C1 to C3 and bytes that are no record are judged here, as include/cfu.h says.
 //!
-//! It knows no step over contents: that call is answered by its step over the bundle, with the place after the record in hand as the cursor. So it says
+//! It has no step over contents: that call is answered by its step over the bundle, with the place after the record in hand as the cursor. So it says
 //! nothing about contents that no check of this bundle left.
 
 use second::bundle::{check, Bundle, Fault};

@@ -135,13 +135,13 @@ pub fn make_read(r: &mut Random) -> Case {
     Case::aimed("").number("kind", kind).number("room", room).bytes("packet", packet)
 }
 
-/// What reading told: the fields as words, and what was left in the lent buffer.
+/// What reading answered: the number, the fields as words, and what was left in the lent buffer.
 type Told = (u32, String, Vec<u8>);
 
 pub fn run_read(case: &Case, tally: &mut Tally) -> Outcome {
     let kind = case.number_at("kind");
     let packet = Lent::new(case.bytes_at("packet"));
-    // A room other than 0 is that many bytes short.
+    // Where `room` is not 0, the buffer is that many bytes short.
     let short = case.number_at("room") as usize;
     let mut answers: Vec<Told> = Vec::new();
     for calls in ALL {

@@ -220,7 +220,7 @@ struct Start<'a> {
     hostile: u64,
 }
 
-/// The packets that a host sends at most, whatever it hears: in each of n passes code 1, code 2, r blocks, and for each offer nine offers and eight
+/// The packets that a host sends at most, whatever it receives: in each of n passes code 1, code 2, r blocks, and for each offer nine offers and eight
 /// notifies; and code 0.
 fn most_packets(bundle: &[u8]) -> usize {
     let entries = entries_in(bundle);

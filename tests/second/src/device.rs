@@ -122,7 +122,7 @@ pub struct Device {
     pub owed: Option<u8>,
 }
 
-/// What set-up is told of one component.
+/// One component as it is given to set-up.
 #[derive(Clone, Copy, Debug, Default, PartialEq, Eq)]
 pub struct Listed {
     pub id: u8,

@@ -509,7 +509,7 @@ fn host_n1_clauses() {
 
 /// A finding, not a promise: an offer reply is also a content reply with
 /// sequence 0 and status 0. Over bodies of one record each, a host cannot
-/// tell one fixed ACCEPT from a device.
+/// distinguish one fixed ACCEPT from a device.
 #[test]
 fn host_takes_one_fixed_reply_for_a_device() {
     let offers: Vec<(Offer, Vec<u8>)> = (1..=2)

@@ -34,7 +34,7 @@ impl Version {
         self.0.to_le_bytes()[0]
     }
 
-    /// "divided by 256 (rounded down)": what a 24-bit need is held against.
+    /// "divided by 256 (rounded down)": what a 24-bit need is compared with.
     pub fn without_variant(self) -> u32 {
         self.0 / 256
     }

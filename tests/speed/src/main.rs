@@ -141,7 +141,7 @@ fn image(length: usize, used: usize, id: u8) -> Vec<u8> {
     out
 }
 
-/// A bundle for every component of a device, with records of so many bytes; the bodies share the room of the largest bundle.
+/// A bundle for every component of a device, with records of so many bytes; the bodies share the bytes of the largest bundle.
 fn bundle_for(record: &DeviceRecord, size: usize) -> Vec<u8> {
     let count = record.count as usize;
     let room = (BUNDLE_LIMIT - entry_start(count)) / count;

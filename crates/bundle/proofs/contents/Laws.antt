@@ -1,4 +1,4 @@
--- What row B8 and the contents table learn of an entry. Assumes nothing.
+-- What row B8 and the contents table use of an entry. Assumes nothing.
 use mathlib.Core.Path.{_≡_, refl, sym, ap, _∙_}
 use mathlib.Core.Bool.{false, not, _||_}
 use mathlib.Core.List.{List, [], _∷_, _++_, append-assoc, map, map-append}

@@ -1,4 +1,4 @@
--- `crc16::bit_step` meets its contract: the bit that falls out is clear, or set. Assumes nothing.
+-- `crc16::bit_step` meets its contract: the bit that is shifted out is clear, or set. Assumes nothing.
 use borrow.Author.Tests.{lt-ltb, le-ltb}
 use Rattle.crc16.specs.Crc.{bitStep}
 use Rattle.crc16.proofs.bit_step.Statement.{statement}

@@ -20,19 +20,19 @@ module _ (c : Component) (v : Version) where
   pub offer-greater : offerVersion c v ≡ Fits → c .running .0 < v .0
   offer-greater e = leb-false (v .0) (c .running .0) (fits-tested _ e)
 
-  -- V1: a version that fits as an offer fits as an image
+  -- a version that fits as an offer fits as an image
   pub offer-image : offerVersion c v ≡ Fits → imageVersionFits c v ≡ true
   offer-image e = le-leb (c .running .0) (v .0) (omega (arith, offer-greater e))
 
-  -- V2: a version that fits as an image fits as staged
+  -- a version that fits as an image fits as staged
   pub image-staged : imageVersionFits c v ≡ true → stagedVersionFits c v ≡ true
   image-staged e = e
 
-  -- V3: a version that fits as an offer is of no earlier release
+  -- a version that fits as an offer is of no earlier release
   pub offer-release : offerVersion c v ≡ Fits → releaseOf (c .running) ≤ releaseOf v
   offer-release e = omega (arith, offer-greater e)
 
-  -- V4: none of the three reads what is staged
+  -- none of the three reads what is staged
   module _ (w : Version) where
     pub offer-any-staged : offerVersion (withStaged c w) v ≡ offerVersion c v
     offer-any-staged = refl

@@ -1,4 +1,4 @@
--- What a list that set-up finds fine is like, and what keeps it fine. Assumes nothing.
+-- What holds of a list that set-up does not refuse, and what keeps it so. Assumes nothing.
 use mathlib.Core.Path.{_≡_, refl, sym, ap, ap₂, _∙_}
 use mathlib.Core.Bool.{Bool, true, false, cond, _||_}
 use mathlib.Core.Logic.{inl, inr}

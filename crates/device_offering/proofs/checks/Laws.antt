@@ -1,4 +1,4 @@
--- What a verdict on an offer tells, and that an offer while idle is answered by eligibility and need alone. Assumes nothing.
+-- What follows from a verdict on an offer, and that an offer while idle is answered by eligibility and need alone. Assumes nothing.
 use Prim.Native.Nat.{ℕ}
 use mathlib.Core.Path.{_≡_, refl, sym, ap, subst, _∙_}
 use mathlib.Core.Bool.{Bool, true, false}

@@ -1,4 +1,4 @@
--- The data of a block that counts. Assumes nothing.
+-- How many bytes of a block's data count. Assumes nothing.
 use mathlib.Core.Path.{_≡_, ap}
 use mathlib.Core.List.{List, [], _∷_}
 use Prim.Native.Nat.{ℕ, zero, suc, min}

@@ -1,4 +1,4 @@
--- What a verdict on content tells. Assumes nothing.
+-- What follows from a verdict on content. Assumes nothing.
 use mathlib.Core.Path.{_≡_, refl, sym}
 use mathlib.Core.Bool.{true, true≢false}
 use Prim.Native.Nat.{_+_, _≤_}

@@ -1,4 +1,4 @@
--- D1 in another order: what is asked of each component, and of each two, is asked in one walk. Assumes nothing.
+-- D1 in another order: the tests of each component, and of each two, in one walk. Assumes nothing.
 use mathlib.Core.Path.{_≡_, refl, sym, _∙_, ap, ap₂}
 use mathlib.Core.Bool.{Bool, true, false, not, _||_, or-comm}
 use mathlib.Core.List.{List, [], _∷_}

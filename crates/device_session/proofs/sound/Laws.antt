@@ -1,4 +1,4 @@
--- D1 as its four clauses, and what it tells of a device that passes. Assumes nothing.
+-- D1 as its four clauses, and what holds of a device that passes it. Assumes nothing.
 use mathlib.Core.Path.{_≡_, refl}
 use mathlib.Core.Bool.{true, false, true≢false}
 use mathlib.Core.List.{List}

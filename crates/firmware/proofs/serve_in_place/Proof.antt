@@ -1,6 +1,6 @@
 -- `firmware::serve_in_place` meets its contract: a walk of its MIR, by hand. The record is read through the lent reference, given to the device's
--- by-value entry, and its successor is stored back. The staging buffer is lent on at its own lifetime, share and name: the borrow is given up for
--- good, and what the entry says of the last bytes, under that name, is what is said of `staging` at exit. Assumes nothing.
+-- by-value entry, and its successor is stored back. The staging buffer is lent on at its own lifetime, share and name: the borrow is moved
+-- into the call, and what the entry ensures of the last bytes, under that name, is what is ensured of `staging` at exit. Assumes nothing.
 use mathlib.Core.Path.{_≡_, refl, ap, subst}
 use Prim.Native.Nat.{ℕ}
 use mathlib.Core.List.{[], _∷_, List}
@@ -74,7 +74,7 @@ channel-val = EL.val K.the-type K′.the-laws
 abbrev out-val : Answer → Val
 out-val = LL.val O.the-type O′.the-laws
 
--- what whoever holds an answer knows of its record, and of the answer at its spelled value
+-- what holds of the record of an answer, and of the answer at its spelled value
 kept : (r : Answer) (u : Val) → Is O.the-row r (u ∷ []) → Is T.the-row (r .device) (val (r .device) ∷ [])
 kept r u is = LL.owed O.the-type O′.the-laws r (u ∷ []) is .1 .1 .0
 
@@ -137,7 +137,7 @@ module _ {M : Type 1} (𝓤 : URA M) (H : Heap 𝓤) (A : Atoms 𝓤) (W : Given
       owned ! O.the-row (Is O.the-row) (LL.makes O.the-type O′.the-plain 𝓤 H A) r _ is $ move ! (1 ∷ 0 ∷ []) $ done !
 
   module _ {Γ : List (Item 𝓤)} {G : Goal 𝓤 H} (z : Soaks G) where
-    -- the borrow is opened: what the record's cell holds is spelled, and what is known of the record is heard
+    -- the borrow is opened: what the record's cell holds is spelled, and what is known of the record is obtained
     reads : (Is T.the-row h (val h ∷ []) → Sq W (‵ (cellAt fullShare (T.the-row .mir) (val h ∷ []) b o) ∷ ‵ (T.the-row .own h (val h ∷ [])) ∷ ‵ (fobor κ q (Body (mem T.the-row) b o γ)) ∷ ‵ (fobs γ (T.the-row .coded .code h)) ∷ ‵ (fauth γ (T.the-row .coded .code h)) ∷ Γ) G)
         → Sq W (‵ (fobs γ (T.the-row .coded .code h)) ∷ ‵ (fbor κ (Body (mem T.the-row) b o γ)) ∷ ‵ (flft κ q) ∷ Γ) G
     reads k =
@@ -169,9 +169,11 @@ module _ {M : Type 1} (𝓤 : URA M) (H : Heap 𝓤) (A : Atoms 𝓤) (W : Given
         pass1 ! (init ! 8 refl (shr-slice-lawful 𝓤 H A W (named 2) κ₂ u8 .typed s (v ∷ []) p .0)) $ pass0 ! $
         -- [_8; …; _7; …; _6; …; _5; …; _4; …; _3; …; _2; …; _1; …; room for _0; …; what was owned at entry]
         move ! (18 ∷ 19 ∷ 20 ∷ 21 ∷ 22 ∷ 23 ∷ 24 ∷ 25 ∷ []) $ reads tt (λ is.
-        -- [the record's cell; what it owns; the open borrow; obs; auth; the other tokens; Own; Own; true; Mut; _8; …; _7; …; _6; …; _5; …; _4; …; _3; …; _2; …; _1; …; room for _0; …]
+        -- [the record's cell; what it owns; the open borrow; obs; auth; the other tokens; Own; Own; true; Mut; _8; …; _7; …; _6; …; _5; …; _4; …; _3; …; _2; …;
+        -- _1; …; room for _0; …]
         asks ! fm (Serve 𝓤 H A at-mem run .post to-serve) (LL.lawful T.the-type T′.the-laws 𝓤 H A W .typed h _ is .0) (tt, tt) (tt, (tt, (record { fits = room .0 }, tt))) (via 𝓤 (Serve 𝓤 H A at-mem run .pre to-serve) (asked is) (known to-serve)) (λ u. hears tt u (λ r zs e l is′.
-        -- [what the answer owns; the other tokens; the last bytes; the record's cell; what the old record owns; the open borrow; obs; auth; Own; true; _8; …; _7; …; _6; …; _5; …; _4; …; _3; …; _2; …; _1; …; room for _0; …]
+        -- [what the answer owns; the other tokens; the last bytes; the record's cell; what the old record owns; the open borrow; obs; auth; Own; true; _8; …;
+        -- _7; …; _6; …; _5; …; _4; …; _3; …; _2; …; _1; …; room for _0; …]
         answers ! (out-val r) (val (r .device)) (ap only (LL.tells O.the-type O′.the-laws r (u ∷ []) is′)) (LL.lawful O.the-type O′.the-laws 𝓤 H A W .typed r _ is′ .0)
         (LL.lawful O.the-type O′.the-laws 𝓤 H A W .typed r _ (spelled r u is′) .0) (LL.lawful T.the-type T′.the-laws 𝓤 H A W .typed (r .device) _ (kept r u is′) .0) refl
         (updating ! $ owned ! T.the-row (Is T.the-row) (LL.makes T.the-type T′.the-plain 𝓤 H A) (r .device) _ (kept r u is′) $ move ! (4 ∷ 0 ∷ 6 ∷ 7 ∷ 8 ∷ []) $ closes ! tt T.the-row (r .device) (val (r .device) ∷ []) b o $

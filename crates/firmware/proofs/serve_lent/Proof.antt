@@ -1,5 +1,5 @@
--- `firmware::serve_lent` meets its contract: a walk of its MIR, by hand. A record in a local is lent by `&mut` to `serve_in_place`, for a lifetime that is made for the
--- call, and is taken back. Assumes nothing.
+-- `firmware::serve_lent` meets its contract: a walk of its MIR, by hand. A record in a local is lent by `&mut` to `serve_in_place`, for a lifetime that is made
+-- for the call, and is taken back. Assumes nothing.
 use mathlib.Core.Path.{_≡_, refl}
 use Prim.Native.Nat.{ℕ}
 use mathlib.Core.List.{[], _∷_, List}
@@ -147,7 +147,8 @@ module _ {M : Type 1} (𝓤 : URA M) (H : Heap 𝓤) (A : Atoms 𝓤) (W : Given
         owned ! T.the-row (Is T.the-row) (LL.makes T.the-type T′.the-plain 𝓤 H A) h _ is-h $ move ! (11 ∷ 0 ∷ []) $ use2 W (‵ (mem T.the-row .lies h l₅ 0)) (lies-in 𝓤 H A W h l₅ 0) $
         lft-new ! tt (λ ν. move ! (1 ∷ []) $
         use1 W (later (some (λ (δ : GName). ‵ (Lent l₅ ν δ) ⊛ ‵ (flent (ν ∷ []) (Body (mem T.the-row) l₅ 0 δ))))) (lends-ref 𝓤 H A W T.the-row (named 0) (ν ∷ []) h l₅ 0) $ await ! tt $ pick ! (λ δ. split ! $
-        -- [the reference; the lender's part; ν's token; Own; Own; true; Mut; _8; …; _7; …; _6; …; what frees _5; _4; …; _3; …; _2; …; _1; …; room for _0; …; the slices' tokens]
+        -- [the reference; the lender's part; ν's token; Own; Own; true; Mut; _8; …; _7; …; _6; …; what frees _5; _4; …; _3; …; _2; …; _1; …; room for _0; …;
+        -- the slices' tokens]
         move ! (2 ∷ 24 ∷ []) $ join ! $ move ! (1 ∷ 6 ∷ []) $ join ! $ move ! (1 ∷ 0 ∷ 3 ∷ []) $ use3 W (raw (InPlace 𝓤 H A at-mem run .pre (to-it l₅ ν δ))) (asked l₅ ν δ) $
         calls-at ! fm (InPlace 𝓤 H A at-mem run) known (to-it l₅ ν δ) (and-then ! (load ! (from ! (stop !)) (look ! 8 refl)) (and-then ! (load ! (from ! (stop !)) (look ! 15 refl)) (and-then ! (load ! (from ! (stop !)) (look ! 4 refl)) (and-then ! (load ! (from ! (stop !)) (look ! 11 refl)) (no-more !))))) (λ u.
         use1 W (later (some (λ (r : Answer). ((‵ (flft (ν ∷ []) fullShare) ⊛ ‵ (flft κ₁ q₁) ⊛ ‵ (flft κ₂ q₂) ⊛ ‵ ftrue) ⊛ ‵ (O.the-row .own r (u ∷ []))) ⊛ raw (ensured 𝓤 H A in-place.ended (in-place.clauses 𝓤 H A at-mem run) (ν ∷ [], (κ₁, (κ₂, tt))) (x l₅ δ, (c, (m, (s, tt)))) tt r)))) (id⊢ 𝓤 _) $ await ! tt $ pick ! (λ r.
@@ -158,7 +159,8 @@ module _ {M : Type 1} (𝓤 : URA M) (H : Heap 𝓤) (A : Atoms 𝓤) (W : Given
         -- the lifetime is ended, and the local is back at the record's last value
         move ! (1 ∷ []) $ split ! $ lft-end ! tt $ move ! (0 ∷ 6 ∷ 5 ∷ []) $ use3 W (later (‵ (mem T.the-row .lies (zs .0) l₅ 0))) (ref-back 𝓤 H A W T.the-row (ν ∷ []) δ (zs .0) l₅ 0) $ await ! tt $
         use1 W (‵ (fat fullShare T′.mir l₅ 0 (val (zs .0))) ⊛ ‵ (T.the-row .own (zs .0) (val (zs .0) ∷ []))) (lies-out 𝓤 H A W (zs .0) l₅ 0) $ split ! $
-        -- [_5; what the record owns; the slices' tokens; what the answer owns; the last bytes; …; Own; true; _8; …; _7; …; _6; …; what frees _5; _4; …; _3; …; _2; …; _1; …; _0; …]
+        -- [_5; what the record owns; the slices' tokens; what the answer owns; the last bytes; …; Own; true; _8; …; _7; …; _6; …; what frees _5; _4; …; _3; …;
+        -- _2; …; _1; …; _0; …]
         returns ! (look ! 23 refl) $ move ! (23 ∷ 24 ∷ 21 ∷ 22 ∷ 19 ∷ 20 ∷ 17 ∷ 18 ∷ 15 ∷ 16 ∷ 0 ∷ 14 ∷ 12 ∷ 13 ∷ 10 ∷ 11 ∷ 8 ∷ 9 ∷ []) $ free-nine ! $ free0 ! $
         keep ! (1 ∷ 2 ∷ 3 ∷ 5 ∷ []) $ by ! (exits u r (zs .0) (zs .1 .1 .0) e l))))))))))
 

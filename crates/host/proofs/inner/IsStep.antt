@@ -55,7 +55,7 @@ whole-blocks : (p : Parsed) → 1 ≤ length (blocksOf p) → p ≡ whole (block
 whole-blocks (whole rs) h = refl
 whole-blocks broken h = absurd (omega arith)
 
--- N1 of a stage asks only for the records of the bundle's entries
+-- N1 of a stage depends only on the records of the bundle's entries
 module _ (n : ℕ) (f g : ℕ → ℕ) (same : (i : ℕ) → i < n → f i ≡ g i) where
   place-same : (p : Place) → placeBreaks n (f (p .entry)) p ≡ placeBreaks n (g (p .entry)) p
   place-same p = go (leb n (p .entry)) refl

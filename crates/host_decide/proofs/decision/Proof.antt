@@ -1,4 +1,4 @@
--- `decision`: N1, or the move, which what N1 leaves has room for. Assumes nothing.
+-- `decision`: N1, or the move, whose numbers fit where N1 does not refuse. Assumes nothing.
 use mathlib.Core.Path.{sym, ap, _∙_}
 use mathlib.Core.Bool.{Bool}
 use Rattle.host_record.proofs.fits.Laws.{room}

@@ -1,4 +1,4 @@
--- What is laid into a packet. Assumes nothing.
+-- What is written into a packet. Assumes nothing.
 use mathlib.Core.Path.{_≡_, ap, _∙_}
 use mathlib.Core.Bool.{Bool, true}
 use mathlib.Core.List.{List, [], _++_, append-nil}

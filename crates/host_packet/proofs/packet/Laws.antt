@@ -1,4 +1,4 @@
--- The packets: the bytes that a copy leaves, what is cleared behind them, and a block's content. Assumes nothing.
+-- The packets: the bytes that a copy leaves, what is cleared after them, and a block's content. Assumes nothing.
 use mathlib.Core.Path.{_≡_, refl, sym, ap, _∙_}
 use mathlib.Core.Bool.{Bool}
 use mathlib.Core.List.{List, [], _++_, append-nil}
@@ -27,7 +27,7 @@ clear-rest q front last at k m p l f e =
 pub part-length : (b : List ℕ) (start size : ℕ) → start + size ≤ length b → length (take size (drop start b)) ≡ size
 part-length b start size h = simp (length-take, length-drop) (omega arith)
 
--- a head and data behind it, the rest cleared
+-- a head and data after it, the rest cleared
 block-laid : (k : ℕ) (last : Bool) (a : RegionAddress) (d : List ℕ) (size n : ℕ) → length d ≡ size → n ≡ 52 - size
     → (headOf (flagsOf (eqb k 0) last) size (sequenceOf k) a ++ d) ++ replicate n 0 ≡ blockBytes k last (record { address = a; bytes = d })
 unfolding contentBytes cleared
@@ -35,7 +35,7 @@ block-laid k last a d size n e p =
     let t : length (d ++ replicate (52 - length d) 0) - length d ≡ n = simp (length-append, length-replicate) (omega arith) in
     rw (t, take-at d (replicate (52 - length d) 0) (length d) refl, e)
 
--- the head, the record's data behind it, the rest cleared: as they are stored in 60 bytes, one after the other
+-- the head, the record's data after it, the rest cleared: as they are stored in 60 bytes, one after the other
 module _ (p head first b second rest : List ℕ) (start n : ℕ) where
   abbrev withHead : List ℕ
   withHead = first ++ drop 8 p

@@ -1,4 +1,4 @@
--- What N1 leaves has room to go on. Assumes nothing.
+-- A record that N1 does not refuse meets what deciding requires. Assumes nothing.
 use mathlib.Core.Path.{_≡_}
 use mathlib.Core.Bool.{false}
 use Prim.Native.Nat.{ℕ, _^_, _<_}

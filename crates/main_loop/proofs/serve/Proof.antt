@@ -1,5 +1,5 @@
--- `serve` is safe, and ends with the last turn at the latest: a walk of its MIR, by hand. The record lies in a local of the loop. Each turn is lent it by `&mut`, for a
--- lifetime that is made for the call, with the staging buffer and the packet, and leaves in it what the next turn goes on with. Assumes nothing.
+-- `serve` is safe, and ends with the last turn at the latest: a walk of its MIR, by hand. The record lies in a local of the loop. Each turn is lent it by
+-- `&mut`, for a lifetime that is made for the call, with the staging buffer and the packet, and leaves in it what the next turn goes on with. Assumes nothing.
 use mathlib.Core.Path.{_≡_, refl, sym, ap, _∙_}
 use Prim.Native.Nat.{ℕ}
 use mathlib.Core.List.{[], _∷_, List}
@@ -286,14 +286,16 @@ module _ {M : Type 1} (𝓤 : URA M) (H : Heap 𝓤) (A : Atoms 𝓤) (W : Given
           use1 W (later (some (λ (δ : GName). ‵ (Record ν₁ δ (x .0 .0)) ⊛ ‵ (flent (ν₁ ∷ []) (Body (mem T.the-row) l 0 δ))))) (lends-ref 𝓤 H A W T.the-row (named 0) (ν₁ ∷ []) (x .0 .0) l 0) $ await ! tt $ pick ! (λ δ. split ! $
           lft-new ! tt (λ ν₂. move ! (8 ∷ 9 ∷ []) $
           use2 W (later (some (λ (γ : GName). ‵ (Staging (ν₂ ∷ []) γ (x .0 .1 .0)) ⊛ ‵ (keptF u8 κ q (ν₂ ∷ []) (m .name) γ (x .0 .1 .0) (m .ptr .0) (m .ptr .1))))) (sl-relend 𝓤 H A W u8 κ q (ν₂ ∷ []) (m .ptr .0) (m .ptr .1) (m .name) (x .0 .1 .0)) $ await ! tt $ pick ! (λ γ. split ! $
-          -- [the staging buffer; what is kept of it; ν₂'s token; the record; what is kept of it; ν₁'s token; the packet; the frame; ν's token; what is kept of its buffer]
+          -- [the staging buffer; what is kept of it; ν₂'s token; the record; what is kept of it; ν₁'s token; the packet; the frame; ν's token; what is kept of
+          -- its buffer]
           move ! (5 ∷ 2 ∷ 8 ∷ 3 ∷ 0 ∷ 7 ∷ 6 ∷ []) $ group ! 7 $
           use1 W (raw (C #turn (vptr l 0 ∷ w ∷ frame-val f ∷ u ∷ []) (Turn 𝓤 H A at-mem run .post (to-turn ν₁ ν₂ (x .1 .0) δ γ (x .0 .0) (x .0 .1 .0) f (x .1 .1) u)))) (via 𝓤 _ (asks-turn ν₁ ν₂ (x .1 .0) δ γ (x .0 .0) (x .0 .1 .0) f (x .1 .1) u (same .0)) (known (to-turn ν₁ ν₂ (x .1 .0) δ γ (x .0 .0) (x .0 .1 .0) f (x .1 .1) u))) $ at-once ! $
           by ! (fm #turn (vptr l 0 ∷ w ∷ frame-val f ∷ u ∷ []) (Turn 𝓤 H A at-mem run .post (to-turn ν₁ ν₂ (x .1 .0) δ γ (x .0 .0) (x .0 .1 .0) f (x .1 .1) u)) _ (⋆ 𝓤 H A (Away ν₁ ν₂ δ γ x)) (λ z. qed W (raw (Turn 𝓤 H A at-mem run .post (to-turn ν₁ ν₂ (x .1 .0) δ γ (x .0 .0) (x .0 .1 .0) f (x .1 .1) u) z) ∷ Away ν₁ ν₂ δ γ x) ∵ updating ! $
           use1 W (later (some (λ (o : Unit {0}). (Three ν₁ ν₂ (x .1 .0) ⊛ ‵ (unit .own o (z ∷ []))) ⊛ raw (ensured 𝓤 H A turn.ended (turn.clauses 𝓤 H A at-mem run) (lives ν₁ ν₂ (x .1 .0)) (recordAt δ (x .0 .0), (stagingAt γ (x .0 .1 .0), (f, (x .1 .1, tt)))) tt o)))) (id⊢ 𝓤 _) $ await ! tt $ pick ! (λ o. split ! $ move ! (1 ∷ []) $
           use1 W (some (λ (ws : Device × (List ℕ × (Unit {0} × (Unit {0} × Unit {0})))). ‵ (lasts turn.ended (lives ν₁ ν₂ (x .1 .0)) (recordAt δ (x .0 .0), (stagingAt γ (x .0 .1 .0), (f, (x .1 .1, tt)))) ws) ⊛ raw (turn.clauses 𝓤 H A at-mem run (lives ν₁ ν₂ (x .1 .0)) (recordAt δ (x .0 .0), (stagingAt γ (x .0 .1 .0), (f, (x .1 .1, tt)))) .ensures tt o (atExit turn.ended (lives ν₁ ν₂ (x .1 .0)) (recordAt δ (x .0 .0), (stagingAt γ (x .0 .1 .0), (f, (x .1 .1, tt)))) ws)))) (id⊢ 𝓤 _) $ pick ! (λ ws.
           split ! $ move ! (1 ∷ []) $ drop ! $ fsplit ! $ move ! (1 ∷ []) $ fsplit ! $ fsplit ! $ move ! (4 ∷ []) $ split ! $ split ! $ lft-end ! tt $
-          -- [ν₁ is dead; the other tokens; the result; the last bytes; …; …; the record's last value; what is kept of the staging buffer, of the record and of the packet's buffer]
+          -- [ν₁ is dead; the other tokens; the result; the last bytes; …; …; the record's last value; what is kept of the staging buffer, of the record and of
+          -- the packet's buffer]
           move ! (0 ∷ 8 ∷ 6 ∷ []) $ use3 W (later (‵ (Lies (ws .0)))) (ref-back 𝓤 H A W T.the-row (ν₁ ∷ []) δ (ws .0) l 0) $ await ! tt $ move ! (1 ∷ []) $ split ! $ lft-end ! tt $
           -- [ν₂ is dead; the other tokens; the record; the result; the last bytes; …; …; what is kept of the two buffers]
           move ! (0 ∷ 7 ∷ 4 ∷ []) $ use3 W (later (given (length (ws .1 .0) ≡ length (x .0 .1 .0)) (‵ (Staging κ (m .name) (ws .1 .0)) ⊛ ‵ (flft κ q)))) (sl-relent-backˡ 𝓤 H A W u8 κ q (ν₂ ∷ []) (m .ptr .0) (m .ptr .1) (m .name) γ (x .0 .1 .0) (ws .1 .0)) $ await ! tt $ learn ! (λ e. split ! $

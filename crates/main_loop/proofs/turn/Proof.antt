@@ -1,6 +1,6 @@
 -- `turn` meets its contract: a walk of its MIR, by hand. Where the frame's packet is served, the lent record and the staging buffer are lent on, at their own
--- lifetimes, shares and names, to the firmware's entry, and what that says of their last values is what is said at exit. Where it is not, the record is read
--- through the reference, and the next one is stored back. Assumes nothing.
+-- lifetimes, shares and names, to the firmware's entry, and what that ensures of their last values is what is ensured at exit. Where it is not, the record is
+-- read through the reference, and the next one is stored back. Assumes nothing.
 use mathlib.Core.Path.{_≡_, refl, ap, subst}
 use mathlib.Core.Bool.{Bool, true, not}
 use Prim.Native.Nat.{ℕ}
@@ -162,7 +162,7 @@ module _ {M : Type 1} (𝓤 : URA M) (H : Heap 𝓤) (A : Atoms 𝓤) (W : Given
   abbrev to-unserved : Unserved 𝓤 H A at-mem run .Ghost
   to-unserved = ((tt, tt, tt, (h, (f .whole, (f .letter, tt))), (val h ∷ [], (vbool (f .whole) ∷ [], (vint w8 (f .letter) ∷ [], tt)))), tt)
 
-  -- what each asks
+  -- what each requires
   asks-serve : ent 𝓤 (⋆ 𝓤 H A (Tokens ∷ (‵ Ref ⊛ ‵ Mut) ∷ ‵ Own ∷ [])) (InPlace 𝓤 H A at-mem run .pre to-serve)
   asks-serve =
       qed W (Tokens ∷ (‵ Ref ⊛ ‵ Mut) ∷ ‵ Own ∷ []) ∵ nothing ! $ move ! (3 ∷ 0 ∷ []) $ fjoin ! $ move ! (2 ∷ []) $ split ! $ move ! (1 ∷ 2 ∷ []) $ fjoin ! $

@@ -1,4 +1,4 @@
--- `show::bytes` is safe and ends. Assumes nothing.
+-- `bytes` is safe and ends. Assumes nothing.
 use Prim.Native.Nat.{_≤_, _-_}
 use borrow.Author.Needs.{needs}
 use lib.ListN.{length}

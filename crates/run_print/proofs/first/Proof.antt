@@ -1,4 +1,4 @@
--- `show::first` is safe. Assumes nothing.
+-- `first` is safe. Assumes nothing.
 use native.Mathlib.Omega.{arith}
 use lib.ListN.{length-take}
 use borrow.Author.Needs.{needs}

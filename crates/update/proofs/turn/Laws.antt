@@ -109,7 +109,7 @@ module _ (d : Device) where
 pub first-length : (n : ℕ) (p : List ℕ) → n ≤ length p → n ≡ length (take n p)
 first-length n p l = simp length-take (omega arith)
 
--- what is heard of a reply of 16 bytes
+-- what is received of a reply of 16 bytes
 pub heard-most : (due : Bool) (reply : List ℕ) → length reply ≡ 16 → cond due 16 0 ≤ length reply
 heard-most true reply l = omega arith
 heard-most false reply l = omega arith
@@ -118,7 +118,7 @@ heard-is : (due : Bool) (reply : List ℕ) → length reply ≡ 16 → take (con
 heard-is true reply l = take-all 16 reply (omega arith)
 heard-is false reply l = refl
 
--- the step on it, laid into 60 lent bytes
+-- the step on it, written into 60 lent bytes
 pub stepped : (b p : List ℕ) (count : ℕ) (hand : Body) (e : BothEnds) (n : ℕ) (i : InnerStep) → length p ≡ PACKET-SIZE → length (e .replies .reply) ≡ 16
     → n ≡ cond (e .replies .due) 16 0
     → i ≡ lent p (e .host) (e .cursor) (innerOf b rows.served count hand (e .cursor) (e .host) (take n (e .replies .reply)))

@@ -36,7 +36,7 @@ fn next_frame(rest: &[u8]) -> Option<(u8, &[u8], &[u8])> {
     Some((rest[0], rest.get(3..end)?, &rest[end..]))
 }
 
-/// A run: token, fill byte, the record in 140 bytes, the bundle.
+/// A run: token, fill byte, the record, the bundle.
 fn case(payload: &[u8]) -> String {
     let device = read_record(&payload[2..142]);
     let bundle = &payload[142..];

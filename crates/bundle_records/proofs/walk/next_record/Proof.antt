@@ -1,4 +1,4 @@
--- `walk::next_record`: what stands at the start of the part, told by places. Assumes nothing.
+-- `walk::next_record`: what stands at the start of the part, given by places. Assumes nothing.
 use mathlib.Core.Path.{_≡_, sym}
 use mathlib.Core.Bool.{true, _&&_}
 use borrow.Author.Needs.{needs}

@@ -1,4 +1,4 @@
--- `list::some_unsound` meets its contract: what is left of the list gives the answer for the whole, in the outer loop of all that is asked and in the inner
+-- `list::some_unsound` meets its contract: what is left of the list gives the answer for the whole, in the outer loop of all the tests and in the inner
 -- one of what clashes with one component. Assumes nothing.
 use mathlib.Core.Path.{_≡_, refl, sym, _∙_}
 use mathlib.Core.Bool.{_||_}

@@ -1,4 +1,5 @@
--- `content::on_content` meets its contract: what the packet does to the session and to the component in its slot, each stored over its own bytes. Assumes nothing.
+-- `content::on_content` meets its contract: what the packet does to the session and to the component in its slot, each stored over its own bytes. Assumes
+-- nothing.
 use mathlib.Core.Path.{_≡_, ap, ap₂, _∙_}
 use mathlib.Core.List.{List}
 use Prim.Native.Nat.{ℕ}

@@ -1,4 +1,4 @@
--- `standing::standing_of` meets its contract: what `find` says, and the component in its slot. Assumes nothing.
+-- `standing::standing_of` meets its contract: what `find` answers, and the component in its slot. Assumes nothing.
 use borrow.Author.Needs.{needs}
 use Rattle.device_slots.proofs.standing.standing_of.Statement.{statement}
 use Rattle.device_slots.proofs.standing.standing_of.Tie as tie

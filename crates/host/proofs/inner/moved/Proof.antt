@@ -1,11 +1,11 @@
--- `inner::moved`: the step of what is laid. Assumes nothing.
+-- `inner::moved`: the step of what is written. Assumes nothing.
 use mathlib.Core.Path.{_≡_, ap}
 use Rattle.host_packet.specs.Made.{Laid, laidBy, laidOf, writtenOf, stepOfLaid}
 use borrow.Author.Needs.{needs}
 use Rattle.host.proofs.inner.moved.Statement.{statement}
 use Rattle.host.proofs.inner.moved.Tie as tie
 
--- what is laid into 60 bytes
+-- what is written into 60 bytes
 laid : (c : tie.After-written) → let a = c .before .before .before .before .before .args in
     laidBy (c .written .result) (c .written .last .0) ≡ laidOf (a .b .now) (a .hand) (a .cursor) (a .m .host .token) (a .m .action)
 unfolding writtenOf

@@ -1,4 +1,4 @@
--- `packet::block` meets its contract: the head, the record's data behind it, the rest cleared. Assumes nothing.
+-- `packet::block` meets its contract: the head, the record's data after it, the rest cleared. Assumes nothing.
 use mathlib.Core.Path.{ap₂, _∙_}
 use Prim.Native.Nat.{ℕ}
 use Rattle.wire_content.specs.Content.{headOf}

@@ -36,7 +36,8 @@ Mutable = tyRef erased mut (tyInt w8)
 abbrev Shared : Ty
 Shared = tyRef erased imm (tyInt w8)
 
--- the keys of the callees: what reads a frame, what cuts its packet out of the buffer, and the turn. The types of a record and of a channel, and a record's behind a reference
+-- the keys of the callees: what reads a frame, what cuts its packet out of the buffer, and the turn. The types of a record and of a channel, and a record's
+-- behind a reference
 module _ (r c t : Name) (ν : Sym) (δ χ π : Ty) where
   -- what a turn of the loop does with a frame, the turn itself, and what follows the loop
   abbrev dealing : Body

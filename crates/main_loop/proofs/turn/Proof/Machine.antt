@@ -21,8 +21,8 @@ use denote.Slice.{sliceTy, sliceVal}
 use Rattle.main_loop.proofs.Frames.{Framed, framed}
 use Rattle.main_loop.proofs.Walk.{Typed, Blocks, places, rooms, makes, clears}
 
--- the keys of the callees: the entry, what prints its answer, and what takes a frame whose packet is not served. The types of a record, of a channel and of an answer,
--- and a record's behind a reference
+-- the keys of the callees: the entry, what prints its answer, and what takes a frame whose packet is not served. The types of a record, of a channel and of an
+-- answer, and a record's behind a reference
 module _ (s t n : Name) (ν : Sym) (δ χ α π : Ty) where
   -- the two ways, and what follows both
   abbrev serving : Body

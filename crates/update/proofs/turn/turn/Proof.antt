@@ -1,4 +1,4 @@
--- `turn::turn` meets its contract: what the step tells is delivered. Assumes nothing.
+-- `turn::turn` meets its contract: what the step sends is delivered. Assumes nothing.
 use Prim.Native.Nat.{ℕ, _≤_}
 use mathlib.Core.Path.{_≡_, refl, subst⁻¹}
 use lib.ListN.{length, replicate}
@@ -9,7 +9,7 @@ use borrow.Author.Needs.{needs}
 use Rattle.update.proofs.turn.turn.Statement.{statement}
 use Rattle.update.proofs.turn.turn.Tie as tie
 
--- a reply is 16 bytes long, and no more is heard
+-- a reply is 16 bytes long, and no more is received
 sixteen : (c : tie.Start) → length (c .args .e .replies .reply) ≡ 16
 sixteen c = reply-length (c .args .e) _ (c .good .1 .1 .1 .0)
 

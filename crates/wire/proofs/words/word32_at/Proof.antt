@@ -4,15 +4,6 @@ use borrow.Author.Needs.{needs}
 use Rattle.wire.proofs.words.word32_at.Statement.{statement}
 use Rattle.wire.proofs.words.word32_at.Tie as tie
 
--- src/words.rt:44:9
--- src/words.rt:45:20
--- src/words.rt:45:9
--- src/words.rt:46:20
--- src/words.rt:46:9
--- src/words.rt:47:20
--- src/words.rt:47:9
--- src/words.rt:43:5
--- src/words.rt:39:1
 returns : tie.Need-returns
 returns c = simp (c .word32 .ensures, c .before .byte-at4 .ensures, c .before .before .byte-at3 .ensures, c .before .before .before .byte-at2 .ensures, c .before .before .before .before .byte-at .ensures, unary-clauses)
 

@@ -1,4 +1,4 @@
--- `Host::report`: each part told. Assumes nothing.
+-- `Host::report`: each field. Assumes nothing.
 use Rattle.host_record.specs.Record.{reportOf}
 use borrow.Author.Needs.{needs}
 use Rattle.host_record.proofs.record.Host.report.Statement.{statement}

@@ -58,18 +58,19 @@ extern "C" {
 #define CFU_DATA_SIZE 52        /* the data of a content packet */
 #define CFU_COMPONENTS_SIZE 49  /* the components of a version reply: seven times 7 */
 
-/* The largest staging buffer and the largest bundle, the most components and the most offers, the smallest region. */
+/* The largest staging buffer and the largest bundle, the most components and the most offers, the smallest region, the highest id of a component. */
 #define CFU_STAGING_LIMIT 65536
 #define CFU_BUNDLE_LIMIT 65536
 #define CFU_COMPONENT_LIMIT 7
 #define CFU_OFFER_LIMIT 7
 #define CFU_REGION_LEAST 8
+#define CFU_ID_LIMIT 0xDF
 
 /* ---- Numbers that a call answers ---- */
 
 #define CFU_SERVED 0
 
-/* A lent buffer is not of its size. C1: a record; or contents of a form that no check leaves. C2: a list or data that is read. C3: a
+/* A lent buffer is not of its size. C1: a record; or contents with a row or a count that no check leaves. C2: a list or data that is read. C3: a
  * buffer for what comes out. */
 #define CFU_C1 0x4301
 #define CFU_C2 0x4302
@@ -262,7 +263,8 @@ typedef struct cfu_report {
  *    14  seven times 18 bytes: id (1), running version (4), region base (4), region length (4), staged (1): 0 nothing, 1 pending; staged version (4)
  * Only these calls need to write one; byte 14 + 18 i + 13 tells whether component i is pending. Fields that the stage does not have, the token where none is
  * owed and the staged version where nothing is staged are not looked at, whatever stands there; a call that writes the session or the component writes zero
- * there. Bytes with another stage, owed or staged than these are refused by D1, in the components that are not in use too, and so is a record that breaks the
+ * there. A served offer call writes the session anew, a served content call the session and the component that it was on (the first while it was idle), set-up
+ * and a reset the whole record. Bytes with another stage, owed or staged than these are refused by D1, in the components that are not in use too, and so is a record that breaks the
  * rules of a device. All zeros are such: zero a record before set-up, and a refused set-up leaves one that no call serves.
  */
 
@@ -362,7 +364,8 @@ cfu_step cfu_host_step_checked(uint8_t *host, size_t host_len, uint8_t *contents
 
 /*
  * How far a host is. Returns CFU_SERVED, C1 (host) with zeros, or N1 for a record that counts 2^31 packets or more or has a stage, an end or a flag that
- * no record has; the other clauses of N1 need a bundle.
+ * no record has; the other clauses of N1 need a bundle. With such a stage, end or flag the bytes are read as a running host of 4,294,967,295 packets, whose
+ * other counts are zero.
  */
 cfu_report cfu_host_report(const uint8_t *host, size_t host_len);
 

@@ -69,18 +69,18 @@ def source_pairs(crate):
 
 PLACES = {"specs": spec_pairs, "src": source_pairs}
 # The crates whose constants others name.
-LIMITS = ("wire", "device_component", "bundle_layout")
+BELOW = ("wire", "device_component", "device_component_bytes", "device_session_bytes", "bundle_layout")
 
 
 def constants(place, *patterns):
-    """The numbers that crates declare at a place; each crate has names of its own, and those of the limits."""
+    """The numbers that crates declare at a place, each with names of its own, over those of the crates that others name."""
     pairs = PLACES[place]
-    limits = {}
-    for crate in LIMITS:
-        limits.update(values(pairs(crate)))
+    below = {}
+    for crate in BELOW:
+        below.update(values(pairs(crate)))
     out = {}
     for crate in sorted(os.path.basename(path) for pattern in patterns for path in glob.glob(os.path.join(TOP, "crates", pattern))):
-        out.update(limits if crate in LIMITS else values(pairs(crate), limits))
+        out.update(values(pairs(crate), below))
     return out
 
 
@@ -156,7 +156,7 @@ def expected_numbers():
                           ("EXTENDED", r"Row\.served \(kind\.extended s\)"), ("NONE", r"\(P k\) any")):
         say(f"KIND_{name}", "specs/Read.antt", found(rf"^packetOf {pattern} = record \{{ [^}}]*kind = (\d+);", READ))
     for place, pairs in PLACES.items():
-        limits = constants(place, *LIMITS)
+        limits = constants(place, *BELOW)
         for name in ("STAGING_LIMIT", "BUNDLE_LIMIT", "COMPONENT_LIMIT", "OFFER_LIMIT", "REGION_LEAST"):
             say(name, place, limits[name])
         for name, number in values(pairs("wire")).items():
@@ -178,13 +178,14 @@ def expected_numbers():
 
 FIELDS = r"id \((\d)\), running version \((\d)\), region base \((\d)\), region[ *\n]+length \((\d)\), "
 LAYOUTS = (
-    (r"the list that set-up takes: seven times (\d+) ", "device_bytes", ["LISTED_SIZE"]),
+    (r"the list that set-up takes: seven times (\d+) ", "device_component_bytes", ["LISTED_SIZE"]),
     (r"(\d+)  platform \(2\)", "device_bytes", ["PLATFORM_AT"]),
     (r"(\d+)  staging length at set-up \(4\)", "device_bytes", ["STAGING_LEN_AT"]),
     (r"(\d+)  count of components \(1\)", "device_bytes", ["COUNT_AT"]),
-    (r"(\d+)  stage \(1\): 0 idle", "device_bytes", ["STAGE_AT"]),
-    (r"(\d+)  slot \(1\): .*; (\d+) token \(1\), (\d+) next sequence \(2\)", "device_bytes", ["STAGE_AT + 1", "STAGE_AT + 2", "STAGE_AT + 3"]),
-    (r"(\d+)  owed ready-reply \(1\): .*; (\d+) its token \(1\)", "device_bytes", ["OWED_AT", "OWED_AT + 1"]),
+    (r"(\d+)  stage \(1\): 0 idle", "device_bytes", ["SESSION_START"]),
+    (r"(\d+)  slot \(1\): .*; (\d+) token \(1\), (\d+) next sequence \(2\)", "device_bytes",
+     ["SESSION_START + SLOT_AT", "SESSION_START + TOKEN_AT", "SESSION_START + NEXT_AT"]),
+    (r"(\d+)  owed ready-reply \(1\): .*; (\d+) its token \(1\)", "device_bytes", ["SESSION_START + OWED_AT", "SESSION_START + OWED_TOKEN_AT"]),
     (r"(\d+)  seven times (\d+) bytes: id \(1\), running version", "device_bytes", ["COMPONENTS_START", "COMPONENT_SIZE"]),
     (r"byte (\d+) \+ (\d+) i \+ (\d+) tells whether", "device_bytes", ["COMPONENTS_START", "COMPONENT_SIZE", "STAGED_AT"]),
     (r"the components of a version reply: seven times (\d+) ", "c_version", ["RUNNING_SIZE"]),
@@ -201,9 +202,9 @@ LAYOUTS = (
     (r"a byte (\d+) or (\d+) over 1 ", "host_bytes", ["SKIPPED_AT", "LANDED_AT"]),
 )
 WIDTHS_OF = (
-    (r"bytes: " + FIELDS + r"staged \((\d)\): .*; staged version \((\d)\)", "device_bytes",
-     ["RUNNING_AT", "REGION_AT", "REGION_AT + 4", "STAGED_AT", "STAGED_AT + 1", "COMPONENT_SIZE"]),
-    (r"list: seven times " + FIELDS + "CFU_LIST_SIZE", "device_bytes", ["RUNNING_AT", "REGION_AT", "REGION_AT + 4", "LISTED_SIZE"]),
+    (r"bytes: " + FIELDS + r"staged \((\d)\): .*; staged version \((\d)\)", "device_component_bytes",
+     ["RUNNING_AT", "REGION_AT", "REGION_LEN_AT", "STAGED_AT", "STAGED_VERSION_AT", "COMPONENT_SIZE"]),
+    (r"list: seven times " + FIELDS + "CFU_LIST_SIZE", "device_component_bytes", ["RUNNING_AT", "REGION_AT", "REGION_LEN_AT", "LISTED_SIZE"]),
 )
 
 
@@ -213,7 +214,7 @@ def hold_layouts(text):
         matches = list(re.finditer(pattern, text))
         given = places(map(int, matches[0].groups())) if len(matches) == 1 else None
         for place in PLACES:
-            known = constants(place, crate)
+            known = {**constants(place, *BELOW), **constants(place, crate)}
             expected = [evaluated(name, known.__getitem__) for name in names]
             if given != expected:
                 misfit(f"{', '.join(names)}: the header's comment has {given}, {place} of {crate} has {expected}")

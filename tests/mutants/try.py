@@ -21,7 +21,8 @@ TOP = os.path.dirname(os.path.dirname(HERE))
 CRATES = ['wire', 'wire_offer', 'wire_content', 'wire_version', 'crc16', 'image', 'device_component', 'device_slots', 'device_session', 'device_offering',
           'device_receiving', 'device', 'bundle_records', 'bundle_layout', 'bundle', 'host_record', 'host_table', 'host_decide', 'host_packet', 'host', 'update_passes', 'update']
 # the statements that compute, and what they stand on
-PROOFS = {'wire': ['Tests'], 'device_session': ['effect/Laws'], 'device': ['Bench'], 'update': ['Fitting', 'Goodness', 'Bench', 'Cases']}
+PROOFS = {'wire': ['Tests'], 'device_component': ['record/Fits', 'record/Ranges'], 'device_session': ['effect/Laws', 'effect/Ranges'], 'device': ['Bench'],
+          'update': ['Fitting', 'Goodness', 'Bench', 'Cases']}
 
 
 def types_only(text):

@@ -8,6 +8,7 @@ use native.Mathlib.Omega.{arith}
 use borrow.Author.Tests.{ltb-false, leb-true, eqb-true, eqb-false, not-false}
 use lib.Dec.{ltb, leb, eqb}
 use lib.ListN.{length, getD, take, drop, length-take, length-drop}
+use Rattle.wire.specs.Codes.{ID-LIMIT}
 use Rattle.wire.specs.Bytes.{Packet, Bytes, number, bytesAt}
 use Rattle.wire.specs.Checks.{firstOf, any}
 use Rattle.wire.proofs.Bounds.{first-bytes, rest-bytes}
@@ -167,7 +168,7 @@ pub record Offered (e : List ℕ) : Type 0 where
   pub reserved : getD e 13 0 ≡ 0
   pub protocol : getD e 12 0 ≡ 2
   pub low : 1 ≤ idIn e
-  pub high : idIn e ≤ 0xDF
+  pub high : idIn e ≤ ID-LIMIT
 
 -- what B5 says of an offer that it passes
 offered : (e : List ℕ) → badOffer e ≡ false → Offered e
@@ -179,7 +180,7 @@ offered e h =
     let b3 = neither (not (eqb (getD e 3 0) 0)) _ (b1 .1) in
     let b13 = neither (not (eqb (getD e 13 0) 0)) _ (b3 .1) in
     let q = neither (not (eqb (getD e 12 0) 2)) _ (p .1) in
-    let r = neither (ltb (idIn e) 1) (ltb 0xDF (idIn e)) (q .1) in
+    let r = neither (ltb (idIn e) 1) (ltb ID-LIMIT (idIn e)) (q .1) in
     record {
       segment = is _ 0 (b0 .0);
       flags = is _ 0 (b1 .0);
@@ -187,7 +188,7 @@ offered e h =
       reserved = is _ 0 (b13 .0);
       protocol = is _ 2 (q .0);
       low = ltb-false (idIn e) 1 (r .0);
-      high = ltb-false 0xDF (idIn e) (r .1);
+      high = ltb-false ID-LIMIT (idIn e) (r .1);
     }
 
 -- entry i of a bundle

@@ -4,6 +4,7 @@ ghost use mathlib.Core.Bool.{false};
 ghost use mathlib.Core.List.{map, _++_};
 ghost use Prim.Native.Nat.{_+_, _-_, _≤_};
 ghost use lib.ListN.{length, take, drop, replicate};
+ghost use Rattle.wire.specs.Codes.{ID-LIMIT};
 ghost use Rattle.wire_offer.specs.Offer.{fieldsIn};
 ghost use Rattle.bundle_records.specs.Parse.{recordsOf, blocksOf};
 ghost use Rattle.bundle_layout.specs.Layout.{BUNDLE-LIMIT, OFFER-LIMIT, ENTRY, blankEntry, countIn, tableEnd, entriesIn, offerIn, idIn, offsetIn, lengthIn};
@@ -30,7 +31,7 @@ pub struct Filled {
 
 // The fields of 16 bytes that row B5 allows, by the one reader of the offer channel.
 fn offer_in(p: &[u8]) -> OfferFields
-    requires { ⌜ (length (now p) ≡ 16) × (idIn (now p) ≤ 0xDF) ⌝ }
+    requires { ⌜ (length (now p) ≡ 16) × (idIn (now p) ≤ ID-LIMIT) ⌝ }
     ensures { λ r. ⌜ r ≡ fieldsIn (now (p .entry)) ⌝ }
 {
     let k = read_offer_packet(p);

@@ -1,12 +1,12 @@
--- Rows B1 to B8 (document 01, "Numbered refusals"), each over the whole bundle before the next. A row answers the entry that it names, counted from 1,
--- or 0 where it refuses nothing.
+-- Rows B1 to B8 (document 01, "Numbered refusals"), each over the whole bundle before the next. Rows B5 to B8 answer the entry that they name,
+-- counted from 1, or 0 where they refuse nothing; B1 to B4 name no entry.
 use Prim.Native.Nat.{ℕ, suc, _+_, _-_}
 use mathlib.Core.Bool.{Bool, true, false, not, cond, _||_}
 use mathlib.Core.List.{List, [], _∷_}
 use lib.Dec.{ltb, eqb}
 use lib.ListN.{length, getD}
 use Rattle.wire.specs.Checks.{firstOf, any}
-use Rattle.wire.specs.Codes.{PROTOCOL}
+use Rattle.wire.specs.Codes.{PROTOCOL, ID-LIMIT}
 use Rattle.bundle_records.specs.Parse.{Parsed, whole, broken, recordsOf}
 use Rattle.bundle_layout.specs.declared.BundleVerdict.{BundleVerdict}
 use Rattle.bundle_layout.specs.declared.BundleVerdict.the-variants.{Fine, B1, B2, B3, B4, B5, B6, B7, B8}
@@ -74,7 +74,7 @@ cutTable b = ltb (length b) (tableEnd (countIn b))
 abbrev pub badOffer : List ℕ → Bool
 badOffer e =
     any (λ i. not (eqb (getD e i 0) 0)) (0 ∷ 1 ∷ 3 ∷ 13 ∷ [])
-    || (not (eqb (getD e 12 0) PROTOCOL) || (ltb (idIn e) 1 || ltb 0xDF (idIn e)))
+    || (not (eqb (getD e 12 0) PROTOCOL) || (ltb (idIn e) 1 || ltb ID-LIMIT (idIn e)))
 
 unfoldable pub rowB5 : List ℕ → ℕ
 rowB5 b = firstEntry badOffer 1 (entriesIn b)

@@ -2,6 +2,7 @@
 ghost use mathlib.Core.Path.{_≡_};
 ghost use Rattle.bundle_layout.specs.Layout.{idIn, offsetIn, lengthIn};
 ghost use Rattle.bundle_layout.specs.Rows.{badOffer};
+use wire::codes::ID_LIMIT;
 use wire::codes::PROTOCOL;
 use wire::words::byte_at;
 use wire::words::word32_at;
@@ -35,5 +36,5 @@ pub fn bad_offer(e: &[u8]) -> bool
         | (byte_at(e, 13) != 0)
         | (byte_at(e, 12) != PROTOCOL)
         | (byte_at(e, 2) < 1)
-        | (0xDF < byte_at(e, 2))
+        | (ID_LIMIT < byte_at(e, 2))
 }

@@ -18,7 +18,7 @@ use Rattle.image.specs.declared.judge.Image.the-variants.{Damaged, Foreign, Bea
 use Rattle.image.specs.declared.region.Region.{Region}
 use Rattle.device_component.specs.Record.{FitsStaged, FitsComponent, effective, listed, withStaged, afterReset, blankComponent}
 use Rattle.device_component.specs.Lists.{componentAt}
-use Rattle.device_component.specs.Setup.{refusesSetup, rowOf, setupVerdict}
+use Rattle.device_component.specs.Setup.{isRefused, rowOf, setupVerdict}
 use Rattle.device_component.specs.declared.record.Component.{Component}
 use Rattle.device_component.specs.declared.record.Staged.{Staged}
 use Rattle.device_component.specs.declared.record.Staged.the-variants.{Nothing, Pending}
@@ -43,6 +43,7 @@ use Rattle.device.specs.Refusals.{breaksD1}
 use Rattle.device.specs.Promises.{SetUpFits, ResetKeepsFits, ServeKeepsFits}
 use Rattle.wire.proofs.Bounds.{first-bytes, rest-bytes, version-fits}
 use Rattle.wire.proofs.Chain.{either}
+use Rattle.device_component.proofs.record.Fits.{blank-fits}
 use Rattle.device_component.proofs.list.Laws.{find-at}
 use Rattle.device_component.proofs.setup.Laws.{seen, fine-staging}
 use Rattle.device.proofs.Lists.{reset-seen, each-set, each-front}
@@ -110,29 +111,27 @@ all-same (suc n) zero a = refl
 all-same (suc n) (suc i) a = all-same n i a
 
 -- the values of the blank record
-blank-fits : FitsDevice blankDevice
-blank-fits = record {
+blank-device-fits : FitsDevice blankDevice
+blank-device-fits = record {
   platform = omega arith;
   staging = omega arith;
   count = omega arith;
   slots = refl;
-  each = λ k. rw (all-same COMPONENT-LIMIT k blankComponent) none-fits;
+  each = λ k. rw (all-same COMPONENT-LIMIT k blankComponent) blank-fits;
   session = idle-fits;
-} where
-  none-fits : FitsComponent blankComponent
-  none-fits = record { fixed = record { id = omega arith; region = record { base = omega arith; len = omega arith } }; running = omega arith; staged = tt }
+}
 
 pub set-up-fits : SetUpFits
 unfolding setUpOf
-set-up-fits platform list count n p k l e = go (refusesSetup verdict) refl where
+set-up-fits platform list count n p k l e = go (isRefused verdict) refl where
   verdict : SetupVerdict
   verdict = setupVerdict n count (map listed list)
 
   new : Device
   new = newDevice platform list count n
 
-  go : (b : Bool) → refusesSetup verdict ≡ b → FitsDevice (setUpBy (rowOf verdict) new .device)
-  go true r = rw (refused-set-up verdict new r) blank-fits
+  go : (b : Bool) → isRefused verdict ≡ b → FitsDevice (setUpBy (rowOf verdict) new .device)
+  go true r = rw (refused-set-up verdict new r) blank-device-fits
   go false r =
       let s = fine-staging n count (map listed list) (fine _ r) in
       rw (made-set-up verdict new r)

@@ -1,12 +1,11 @@
--- The bench examples E1 to E10 (document 01, "Bench examples"), rows of one table under one claim: what is sent, and the session and the staging
+-- The bench examples E1 to E10 (document 01, "Bench examples"), rows of one table under one claim: what is sent, and the stage and the staging
 -- buffer afterwards.
 use Prim.Native.Nat.{ℕ, _-_}
 use mathlib.Core.Path.{_≡_}
 use mathlib.Core.List.{List, [], _∷_, _++_}
 use lib.ListN.{replicate}
 use Rattle.wire.specs.Codes.{COMPONENT-LIMIT}
-use Rattle.device_component.specs.Record.{blankComponent}
-use Rattle.device_component.specs.declared.record.Staged.the-variants as staged
+use Rattle.device_component.specs.Record.{plain, blankComponent}
 use Rattle.device.specs.declared.record.Device.{Device}
 use Rattle.device_session.specs.Effect.{idle, inStage}
 use Rattle.device_session.specs.declared.stage.Stage.{Stage}
@@ -22,9 +21,7 @@ bench stage = record {
   «staging_len» = 128;
   count = 2;
   components =
-      record { fixed = record { id = 1; region = record { base = record { 0 = 0 }; len = 64 } }; running = record { 0 = 0x01000200 }; staged = staged.Nothing }
-      ∷ record { fixed = record { id = 2; region = record { base = record { 0 = 64 }; len = 64 } }; running = record { 0 = 0x01000100 }; staged = staged.Nothing }
-      ∷ replicate (COMPONENT-LIMIT - 2) blankComponent;
+      plain 1 0x01000200 0 64 ∷ plain 2 0x01000100 64 64 ∷ replicate (COMPONENT-LIMIT - 2) blankComponent;
   session = inStage idle stage;
 }
 
@@ -53,7 +50,7 @@ abbrev pub bytesLeft : Device → Asked → List ℕ
 bytesLeft d versions = untouched
 bytesLeft d (packet channel p) = serveStaging d channel untouched p
 
--- a row: the session before, what is asked, what is sent, the session and the staging buffer after
+-- a row: the stage before, what is asked, what is sent, the stage and the staging buffer after
 pub record Example : Type 0 where
   pub before : Stage
   pub asked : Asked

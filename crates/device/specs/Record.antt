@@ -21,10 +21,11 @@ pub record FitsDevice (d : Device) : Type 0 where
   pub each : (k : ℕ) → FitsComponent (lists.componentAt (d .components) k)
   pub session : FitsSession (d .session)
 
--- the slot of the component with this id, and the component there; slots at or past the count are never looked at
+-- the slot of the component with this id, among those below the count
 abbrev pub find : Device → ℕ → Found
 find d id = lists.find id (d .count) (d .components)
 
+-- the component in a slot, whatever the count
 abbrev pub component : Device → ℕ → Component
 component d slot = lists.componentAt (d .components) slot
 

@@ -1,7 +1,7 @@
 // The device's record (document 01, "The device").
 use device_component::record::Component;
+use device_component::record::blank_component;
 use device_session::effect::Session;
-use device_slots::slot::blank_component;
 use wire::codes::COMPONENT_LIMIT;
 ghost use mathlib.Core.Path.{_≡_};
 ghost use Rattle.device.specs.Record.{withSession, blankDevice};

@@ -1,27 +1,29 @@
 -- What makes bytes a record: their length, and the flags. Assumes nothing.
-use mathlib.Core.Path.{_≡_, ap, _∙_}
-use mathlib.Core.Bool.{true, _&&_}
+use mathlib.Core.Path.{_≡_, sym, ap, ap₂, _∙_}
+use mathlib.Core.Bool.{Bool, true, _&&_}
 use mathlib.Core.List.{List}
 use Prim.Native.Nat.{ℕ, suc, _+_, _-_, _<_}
 use native.Mathlib.Omega.{arith}
 use borrow.Author.Tests.{eq-eqb, eqb-true}
-use lib.Dec.{eqb, leb}
-use lib.ListN.{length, getD, drop}
-use lib.Seq.{drop-drop, getD-drop}
+use lib.Dec.{eqb}
+use lib.ListN.{length, take, drop}
+use lib.Seq.{drop-drop}
 use Rattle.wire.specs.Codes.{COMPONENT-LIMIT}
+use Rattle.wire.proofs.Pieces.{rest}
 use Rattle.wire.proofs.Tests.{both}
-use Rattle.device_bytes.specs.Layout.{STAGED-AT, COMPONENT-SIZE, DEVICE-SIZE, componentStart, stagedFit, flagsFit, isRecord}
+use Rattle.device_component_bytes.specs.Layout.{COMPONENT-SIZE, stagedFlagFits}
+use Rattle.device_bytes.specs.Layout.{DEVICE-SIZE, componentStart, deviceIn, fieldsIn, stagedFit, flagsFit, isRecord}
 
--- the next component's flag, and those of the components after it
-pub staged-step : (i : ℕ) (b : List ℕ) → i < COMPONENT-LIMIT
-    → stagedFit (COMPONENT-LIMIT - i) (drop (componentStart i) b) ≡ (leb (getD b (componentStart i + STAGED-AT) 0) 1 && stagedFit (COMPONENT-LIMIT - (i + 1)) (drop (componentStart (i + 1)) b))
+-- the flag of the next component, by the bytes from its place on, and those of the components after it
+pub staged-step : (i at : ℕ) (b : List ℕ) (fits : Bool) → i < COMPONENT-LIMIT → at ≡ componentStart i → fits ≡ stagedFlagFits (take (length b - at) (drop at b))
+    → stagedFit (COMPONENT-LIMIT - i) (drop (componentStart i) b) ≡ (fits && stagedFit (COMPONENT-LIMIT - (i + 1)) (drop (componentStart (i + 1)) b))
 unfolding stagedFit
-staged-step i b h =
+staged-step i at b fits h d g =
     let e : COMPONENT-LIMIT - i ≡ suc (COMPONENT-LIMIT - (i + 1)) = omega arith in
     let f : componentStart i + COMPONENT-SIZE ≡ componentStart (i + 1) = omega arith in
     ap (λ (n : ℕ). stagedFit n (drop (componentStart i) b)) e
-    ∙ ap (λ (x : ℕ). leb x 1 && stagedFit (COMPONENT-LIMIT - (i + 1)) (drop COMPONENT-SIZE (drop (componentStart i) b))) (getD-drop (componentStart i) b STAGED-AT 0)
-    ∙ ap (λ (l : List ℕ). leb (getD b (componentStart i + STAGED-AT) 0) 1 && stagedFit (COMPONENT-LIMIT - (i + 1)) l) (drop-drop COMPONENT-SIZE (componentStart i) b ∙ ap (λ (n : ℕ). drop n b) f)
+    ∙ ap₂ (λ (x : Bool) (l : List ℕ). x && stagedFit (COMPONENT-LIMIT - (i + 1)) l)
+    (ap (λ (n : ℕ). stagedFlagFits (drop n b)) (sym d) ∙ ap stagedFlagFits (sym (rest at b)) ∙ sym g) (drop-drop COMPONENT-SIZE (componentStart i) b ∙ ap (λ (n : ℕ). drop n b) f)
 
 -- a record has the one length, and its flags fit
 pub record-sized : (b : List ℕ) → isRecord b ≡ true → length b ≡ DEVICE-SIZE
@@ -36,3 +38,8 @@ record-flags b h = both (eqb (length b) DEVICE-SIZE) (flagsFit b) h .1
 pub is-record : (b : List ℕ) → length b ≡ DEVICE-SIZE → flagsFit b ≡ true → isRecord b ≡ true
 unfolding isRecord
 is-record b e f = rw (eq-eqb (length b) DEVICE-SIZE e, f)
+
+-- the fields of a record are those of its bytes
+pub record-fields : (b : List ℕ) → isRecord b ≡ true → fieldsIn b ≡ deviceIn b
+unfolding fieldsIn
+record-fields b h = rw (eq-eqb (length b) DEVICE-SIZE (record-sized b h))

@@ -1,30 +1,33 @@
 -- What the bytes of a record read as, and are, once a session or a component is stored in them. Assumes nothing.
 use mathlib.Core.Path.{_≡_, refl, sym, ap, ap₂, _∙_}
-use mathlib.Core.Bool.{Bool, true, false, _&&_}
+use mathlib.Core.Bool.{Bool, true, false}
 use mathlib.Core.List.{List, [], _∷_, _++_, append-assoc}
 use Prim.Native.Nat.{ℕ, zero, suc, _+_, _*_, _<_, _≤_}
 use native.Mathlib.Nat.{not-suc-le-zero, le-of-suc-le-suc}
 use native.Mathlib.Omega.{arith}
 use borrow.Author.Tests.{eq-eqb, ltb-true, ltb-false}
-use lib.Dec.{ltb, leb}
+use lib.Dec.{ltb}
 use lib.ListN.{length, getD, set, take, drop, length-append, length-take, length-drop}
-use lib.Seq.{take-at, drop-at, take-add, drop-drop, set-out, set-getD, length-take-le}
+use lib.Seq.{getD-drop, take-at, drop-at, take-add, drop-drop, set-out, set-getD, length-take-le}
 use Rattle.wire.specs.Bytes.{bytesAt}
 use Rattle.wire.specs.Codes.{COMPONENT-LIMIT}
 use Rattle.wire.proofs.Tests.{both}
 use Rattle.wire.proofs.words.Laws.{split}
 use Rattle.device_component.specs.Record.{FitsComponent, blankComponent}
 use Rattle.device_component.specs.declared.record.Component.{Component}
+use Rattle.device_component_bytes.specs.Layout.{COMPONENT-SIZE, componentBytes, componentIn, stagedFlagFits}
+use Rattle.device_component_bytes.proofs.Laws.{component-sized}
+use Rattle.device_component_bytes.proofs.Back.{component-back, component-flag}
 use Rattle.device_session.specs.Effect.{FitsSession}
 use Rattle.device_session.specs.declared.effect.Session.{Session}
+use Rattle.device_session_bytes.specs.Layout.{sessionBytes, sessionFlagsFit}
+use Rattle.device_session_bytes.proofs.Laws.{session-sized}
 use Rattle.device.specs.Record.{withSession}
 use Rattle.device.specs.declared.record.Device.{Device}
-use Rattle.device_bytes.specs.Layout.{SESSION-START, COMPONENTS-START, STAGE-AT, OWED-AT, STAGED-AT, COMPONENT-SIZE, DEVICE-SIZE, componentStart, sessionBytes, componentBytes, componentsBytes, headBytes, deviceBytes, componentIn, componentsIn, deviceIn, stagedFit, isRecord, withSessionBytes, withComponentBytes}
-use Rattle.device_bytes.proofs.component.Laws.{staged-sized, component-sized}
-use Rattle.device_bytes.proofs.session.Laws.{session-sized, head-sized}
-use Rattle.device_bytes.proofs.Back.{component-back, session-back, record-back, component-flag}
+use Rattle.device_bytes.specs.Layout.{SESSION-START, COMPONENTS-START, DEVICE-SIZE, componentStart, componentsBytes, headBytes, deviceBytes, componentsIn, sessionIn, deviceIn, stagedFit, isRecord, withSessionBytes, withComponentBytes}
+use Rattle.device_bytes.proofs.Back.{session-back, record-back}
 use Rattle.device_bytes.proofs.Flags.{record-sized, record-flags, is-record}
-use Rattle.device_bytes.proofs.Record.{components-full, components-sized, device-length}
+use Rattle.device_bytes.proofs.Record.{head-sized, components-full, components-sized, device-length}
 
 -- the first k bytes, each by its place
 first : (k : ℕ) (b : List ℕ) → length (bytesAt k 0 b) ≡ k → k ≤ length b → take k b ≡ bytesAt k 0 b
@@ -39,7 +42,7 @@ session-read t b h f =
     let q = drop COMPONENTS-START b in
     let e : take SESSION-START b ++ (sessionBytes t ++ q) ≡ bytesAt SESSION-START 0 b ++ (sessionBytes t ++ q) = ap (λ (l : List ℕ). l ++ (sessionBytes t ++ q)) (first SESSION-START b refl (omega arith)) in
     let n : length (bytesAt SESSION-START 0 b ++ (sessionBytes t ++ q)) ≡ DEVICE-SIZE = length-append (bytesAt SESSION-START 0 b) (sessionBytes t ++ q) ∙ rw (length-append (sessionBytes t) q, session-sized t, length-drop COMPONENTS-START b, whole) in
-    let staged = both (leb (getD b OWED-AT 0) 1) (stagedFit COMPONENT-LIMIT q) (both (leb (getD b STAGE-AT 0) 2) (leb (getD b OWED-AT 0) 1 && stagedFit COMPONENT-LIMIT q) (record-flags b h) .1) .1 in
+    let staged = both (sessionFlagsFit (drop SESSION-START b)) (stagedFit COMPONENT-LIMIT q) (record-flags b h) .1 in
     rw (eq-eqb (length b) DEVICE-SIZE whole, e)
     (is-record (bytesAt SESSION-START 0 b ++ (sessionBytes t ++ q)) n (session-back b q t f .1 ∙ staged), record-back b q t f)
 
@@ -63,7 +66,7 @@ spliced-read (suc n) zero m c q e h l f =
     let r = drop COMPONENT-SIZE q in
     let d = drop-at (componentBytes c) r COMPONENT-SIZE (component-sized c) in (
       rw z (ap₂ (λ (x : Component) (t : List ℕ). x ∷ componentsIn n t) (component-back c r f) d),
-      λ g. rw (z, component-flag c r, d) (both (leb (getD q STAGED-AT 0) 1) (stagedFit n r) g .1),
+      λ g. rw (z, component-flag c r, d) (both (stagedFlagFits q) (stagedFit n r) g .1),
     )
 spliced-read (suc n) (suc k) m c q e h l f =
     let j = k * COMPONENT-SIZE in
@@ -73,9 +76,13 @@ spliced-read (suc n) (suc k) m c q e h l f =
     let s = ap (λ (x : ℕ). spliced x c q) i ∙ spliced-next j c q (omega arith) in (
       ap (componentsIn (suc n)) s ∙ ap (λ (t : List Component). componentIn q ∷ t) (a .0),
       λ g.
-          let b = both (leb (getD q STAGED-AT 0) 1) (stagedFit n r) g in
+          let b = both (stagedFlagFits q) (stagedFit n r) g in
           ap (stagedFit (suc n)) s ∙ rw (b .0) (a .1 (b .1)),
     )
+
+-- what follows the first bytes of a record leaves its session alone, and the flags of that
+session-first : (b r : List ℕ) → let w = bytesAt COMPONENTS-START 0 b ++ r in (sessionIn w ≡ sessionIn b) × (sessionFlagsFit (drop SESSION-START w) ≡ sessionFlagsFit (drop SESSION-START b))
+session-first b r = (simp getD-drop, simp getD-drop)
 
 -- a component that is stored reads back, and all else stays
 module _ (slot : ℕ) (c : Component) (b : List ℕ) (h : isRecord b ≡ true) (f : FitsComponent c) where
@@ -100,12 +107,11 @@ module _ (slot : ℕ) (c : Component) (b : List ℕ) (h : isRecord b ≡ true) (
           let k = ltb-true slot COMPONENT-LIMIT e in
           let l : length q ≡ COMPONENT-LIMIT * COMPONENT-SIZE = length-drop COMPONENTS-START b ∙ omega (arith, record-sized b h) in
           let a = spliced-read COMPONENT-LIMIT slot m c q refl k (omega arith) f in
-          let n : length (spliced m c q) ≡ COMPONENT-LIMIT * COMPONENT-SIZE = simp (length-append, length-take, length-drop) (omega (arith, staged-sized (c .staged), record-sized b h)) in
-          let x = both (leb (getD b STAGE-AT 0) 2) (leb (getD b OWED-AT 0) 1 && stagedFit COMPONENT-LIMIT q) (record-flags b h) in
-          let y = both (leb (getD b OWED-AT 0) 1) (stagedFit COMPONENT-LIMIT q) (x .1) in
+          let n : length (spliced m c q) ≡ COMPONENT-LIMIT * COMPONENT-SIZE = simp (length-append, length-take, length-drop) (omega (arith, component-sized c, record-sized b h)) in
+          let x = both (sessionFlagsFit (drop SESSION-START b)) (stagedFit COMPONENT-LIMIT q) (record-flags b h) in
           rw (eq-eqb (length b) DEVICE-SIZE (record-sized b h), e, stored-form) (
-            is-record (bytesAt COMPONENTS-START 0 b ++ spliced m c q) (length-append (bytesAt COMPONENTS-START 0 b) (spliced m c q) ∙ ap (λ (j : ℕ). COMPONENTS-START + j) n) (rw (x .0, y .0) (a .1 (y .1))),
-            ap (λ (t : List Component). withSession (deviceIn b) t (deviceIn b .session)) (a .0),
+            is-record (bytesAt COMPONENTS-START 0 b ++ spliced m c q) (length-append (bytesAt COMPONENTS-START 0 b) (spliced m c q) ∙ ap (λ (j : ℕ). COMPONENTS-START + j) n) (rw (session-first b (spliced m c q) .1, x .0) (a .1 (x .1))),
+            ap₂ (λ (t : List Component) (s : Session). withSession (deviceIn b) t s) (a .0) (session-first b (spliced m c q) .0),
           )
       go false e =
           rw (eq-eqb (length b) DEVICE-SIZE (record-sized b h), e)

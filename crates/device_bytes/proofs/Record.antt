@@ -1,53 +1,75 @@
 -- The record's bytes as they are written and read, component by component. Assumes nothing.
 use mathlib.Core.Path.{_≡_, refl, sym, ap, _∙_}
 use mathlib.Core.Bool.{Bool, true, false}
-use mathlib.Core.List.{List, _++_, append-assoc}
-use Prim.Native.Nat.{ℕ, _+_, _*_, _<_}
+use mathlib.Core.List.{List, [], _∷_, _++_, append-assoc}
+use Prim.Native.Nat.{ℕ, _+_, _*_, _-_, _<_, min}
 use native.Mathlib.Omega.{arith}
-use borrow.Author.Tests.{eq-eqb, lt-ltb, ltb-true, ltb-false}
-use lib.Dec.{ltb}
-use lib.ListN.{length, getD, set, take, drop, length-append, List·getD-eq-default}
+use borrow.Author.Tests.{eq-eqb, lt-ltb, ltb-true, ltb-false, leb-true, leb-false}
+use lib.Dec.{ltb, leb}
+use lib.ListN.{length, set, take, drop, length-append, List·getD-eq-default}
 use lib.Seq.{take-all, drop-drop}
-use Rattle.wire.specs.Bytes.{copyOf}
+use Rattle.wire.specs.Bytes.{bytesOf, bytesAt, copyOf}
 use Rattle.wire.specs.Codes.{COMPONENT-LIMIT}
-use Rattle.wire.proofs.Pieces.{put-more, piece-written, pieces-sized, read-more, read-all, read-sized, read-at}
+use Rattle.wire.proofs.Pieces.{put-more, stored, piece-next, pieces-sized, read-more, read-all, read-sized, read-at, rest, rest-none}
 use Rattle.device_component.specs.Lists.{componentAt}
 use Rattle.device_component.specs.Record.{blankComponent}
 use Rattle.device_component.specs.declared.record.Component.{Component}
 use Rattle.device_component.specs.declared.record.Listed.{Listed}
+use Rattle.device_component_bytes.specs.Layout.{COMPONENT-SIZE, LISTED-SIZE, componentBytes, componentIn, listedIn}
+use Rattle.device_component_bytes.proofs.Laws.{component-sized}
+use Rattle.device_session_bytes.specs.Layout.{SESSION-SIZE, sessionBytes}
+use Rattle.device_session_bytes.proofs.Laws.{session-sized}
 use Rattle.device.specs.declared.record.Device.{Device}
-use Rattle.device_bytes.specs.Layout.{DEVICE-SIZE, COMPONENT-SIZE, COMPONENTS-START, LISTED-SIZE, sessionBytes, headBytes, componentBytes, componentsBytes, deviceBytes, componentIn, componentOf, componentsIn, deviceIn, listedIn, listIn}
-use Rattle.device_bytes.proofs.component.Laws.{component-sized}
-use Rattle.device_bytes.proofs.session.Laws.{head-sized}
+use Rattle.device_bytes.specs.Layout.{SESSION-START, COMPONENTS-START, DEVICE-SIZE, componentStart, headBytes, componentsBytes, deviceBytes, componentOf, componentsIn, deviceIn, withSessionBytes, withComponentBytes, listIn}
+
+-- what stands before the session, from the bytes of each field
+pub head-of : (d : Device) (p l : List ℕ) → p ≡ bytesOf 2 (d .platform) → l ≡ bytesOf 4 (d .«staging_len») → bytesAt 2 0 p ++ (bytesAt 4 0 l ++ (d .count ∷ [])) ≡ headBytes d
+head-of d p l e f = rw (e, f)
+
+-- with the session, as many bytes as stand before the components
+pub head-sized : (d : Device) → length (headBytes d ++ sessionBytes (d .session)) ≡ COMPONENTS-START
+head-sized d = length-append (headBytes d) (sessionBytes (d .session)) ∙ ap (λ (n : ℕ). SESSION-START + n) (session-sized (d .session))
+
+-- the bytes from a place on, or none where there are fewer
+pub rest-least : (n at : ℕ) (b : List ℕ) → at ≡ min n (length b) → take (length b - at) (drop at b) ≡ drop n b
+rest-least n at b e = rest at b ∙ go (leb n (length b)) refl
+  where
+    go : (t : Bool) → leb n (length b) ≡ t → drop at b ≡ drop n b
+    go true h = let f : at ≡ n = omega (arith, leb-true n (length b) h) in ap (λ (i : ℕ). drop i b) f
+    go false h = rest-none at n b (omega (arith, leb-false n (length b) h)) (omega (arith, leb-false n (length b) h))
 
 -- one component more is written
-pub component-written : (out front s last : List ℕ) (components : List Component) (i k : ℕ) → i < COMPONENT-LIMIT → length components ≡ COMPONENT-LIMIT → length out ≡ DEVICE-SIZE → k ≡ COMPONENT-SIZE
-    → s ≡ componentBytes (getD components i blankComponent) → last ≡ copyOf (take k (drop (COMPONENTS-START + i * COMPONENT-SIZE) out)) s
-    → take (COMPONENTS-START + i * COMPONENT-SIZE) out ≡ front ++ componentsBytes (take i components)
-    → (length (take (COMPONENTS-START + i * COMPONENT-SIZE) out ++ (last ++ drop k (drop (COMPONENTS-START + i * COMPONENT-SIZE) out))) ≡ DEVICE-SIZE)
-    × (take (COMPONENTS-START + (i + 1) * COMPONENT-SIZE) (take (COMPONENTS-START + i * COMPONENT-SIZE) out ++ (last ++ drop k (drop (COMPONENTS-START + i * COMPONENT-SIZE) out)))
-    ≡ front ++ componentsBytes (take (i + 1) components))
-unfolding componentsBytes
-component-written out front s last components i k h full whole e f g before =
-    let w = piece-written componentBytes componentsBytes refl (λ x l. refl) out front s last components blankComponent i (COMPONENTS-START + i * COMPONENT-SIZE) COMPONENT-SIZE
-    (COMPONENTS-START + (i + 1) * COMPONENT-SIZE) k (omega arith) e (omega arith) (ap length f ∙ component-sized (getD components i blankComponent)) (omega arith) f g before in
-    (w .0 ∙ whole, w .1)
+pub component-written : (out front : List ℕ) (components : List Component) (i : ℕ) → i < COMPONENT-LIMIT → length components ≡ COMPONENT-LIMIT → length out ≡ DEVICE-SIZE
+    → take (componentStart i) out ≡ front ++ componentsBytes (take i components) → let w = withComponentBytes i (componentAt components i) out in
+    (length w ≡ DEVICE-SIZE) × (take (componentStart (i + 1)) w ≡ front ++ componentsBytes (take (i + 1) components))
+unfolding componentsBytes withComponentBytes
+component-written out front components i h full whole before =
+    let c = componentAt components i in
+    let e : componentStart (i + 1) ≡ componentStart i + COMPONENT-SIZE = omega arith in
+    let s = stored out (componentBytes c) (componentStart i) COMPONENT-SIZE (component-sized c) (omega arith) in
+    rw (eq-eqb (length out) DEVICE-SIZE whole, lt-ltb i COMPONENT-LIMIT h)
+    (s .0 ∙ whole, piece-next componentBytes componentsBytes refl (λ x l. refl) out _ front components blankComponent i (componentStart i) (componentStart (i + 1)) (omega arith) before (rw e (s .1)))
 
 -- all of them are written
 pub written : (out front : List ℕ) (components : List Component) (i : ℕ) → i ≡ COMPONENT-LIMIT → length components ≡ COMPONENT-LIMIT → length out ≡ DEVICE-SIZE
-    → take (COMPONENTS-START + i * COMPONENT-SIZE) out ≡ front ++ componentsBytes (take i components) → out ≡ front ++ componentsBytes components
+    → take (componentStart i) out ≡ front ++ componentsBytes (take i components) → out ≡ front ++ componentsBytes components
 written out front components i e full whole h =
-    sym (take-all (COMPONENTS-START + i * COMPONENT-SIZE) out (omega arith)) ∙ h ∙ ap (λ (l : List Component). front ++ componentsBytes l) (take-all i components (omega arith))
+    sym (take-all (componentStart i) out (omega arith)) ∙ h ∙ ap (λ (l : List Component). front ++ componentsBytes l) (take-all i components (omega arith))
 
--- what stands before the components is copied to the start, and they follow
-pub device-of : (out h last : List ℕ) (d : Device) (k : ℕ) → k ≡ COMPONENTS-START → length out ≡ DEVICE-SIZE → h ≡ headBytes d ++ sessionBytes (d .session)
-    → last ≡ copyOf (take k (drop 0 out)) h
-    → take COMPONENTS-START (take 0 out ++ (last ++ drop k (drop 0 out))) ++ componentsBytes (d .components) ≡ deviceBytes d
-unfolding deviceBytes
-device-of out h last d k e whole f g =
-    let n : length h ≡ COMPONENTS-START = ap length f ∙ head-sized d in
-    ap (λ (l : List ℕ). l ++ componentsBytes (d .components)) (put-more out h last 0 COMPONENTS-START k e n (omega arith) g .1 ∙ f)
-    ∙ append-assoc (headBytes d) (sessionBytes (d .session)) (componentsBytes (d .components))
+-- what stands before the session is copied to the start
+pub head-put : (out h last : List ℕ) (d : Device) (k : ℕ) → k ≡ SESSION-START → length out ≡ DEVICE-SIZE → h ≡ headBytes d → last ≡ copyOf (take k (drop 0 out)) h
+    → let w = take 0 out ++ (last ++ drop k (drop 0 out)) in (length w ≡ DEVICE-SIZE) × (take SESSION-START w ≡ headBytes d)
+head-put out h last d k e whole f g =
+    let put = put-more out h last 0 SESSION-START k e (ap length f) (omega arith) g in (put .0 ∙ whole, put .1 ∙ f)
+
+-- the session is stored behind it, and the components follow
+pub device-of : (w : List ℕ) (d : Device) → length w ≡ DEVICE-SIZE → take SESSION-START w ≡ headBytes d → take COMPONENTS-START (withSessionBytes (d .session) w) ++ componentsBytes (d .components) ≡ deviceBytes d
+unfolding deviceBytes withSessionBytes
+device-of w d whole e =
+    let s = sessionBytes (d .session) in
+    rw (eq-eqb (length w) DEVICE-SIZE whole)
+    (ap (λ (l : List ℕ). l ++ componentsBytes (d .components)) (stored w s SESSION-START SESSION-SIZE (session-sized (d .session)) (omega arith) .1 ∙ ap (λ (l : List ℕ). l ++ s) e)
+    ∙ append-assoc (headBytes d) s (componentsBytes (d .components)))
 
 -- there are as many as the limit
 pub components-full : (q : List ℕ) → length (componentsIn COMPONENT-LIMIT q) ≡ COMPONENT-LIMIT

@@ -1,24 +1,30 @@
-// The device's record as bytes of a fixed length, and the list that set-up takes, as bytes. Nothing else knows where a byte of the record stands.
+// The device's record as bytes of a fixed length, and the list that set-up takes, as bytes. Nothing else knows where a part of the record stands; where the
+// bytes of a session and of a component stand in theirs is said in device_session_bytes and device_component_bytes.
 ghost use mathlib.Core.Path.{_≡_};
 ghost use mathlib.Core.List.{_++_};
 ghost use lib.ListN.{length, take, drop};
 ghost use Rattle.wire.specs.Codes.{COMPONENT-LIMIT};
-ghost use Rattle.device_bytes.specs.Layout.{DEVICE-SIZE, COMPONENTS-START, headBytes, sessionBytes, componentsBytes, platformIn, stagingLenIn, countIn, componentsIn, deviceBytes, deviceIn, fieldsIn, stagedFit, isRecord, readDevice, listIn};
-use crate::component::component_bytes;
+ghost use Rattle.device_bytes.specs.Layout.{DEVICE-SIZE, COMPONENTS-START, headBytes, componentsBytes, platformIn, stagingLenIn, countIn, componentsIn, deviceBytes, fieldsIn, stagedFit, isRecord, readDevice, listIn};
 use crate::component::component_of;
-use crate::list::listed_at;
-use crate::session::session_bytes;
+use crate::component::component_start;
+use crate::component::store_component;
 use crate::session::session_in;
+use crate::session::store_session;
 use device::record::Device;
 use device_component::record::Component;
 use device_component::record::Listed;
-use device_slots::slot::blank_component;
+use device_component::record::blank_component;
+use device_component_bytes::COMPONENT_SIZE;
+use device_component_bytes::LISTED_SIZE;
+use device_component_bytes::listed_in;
+use device_component_bytes::staged_flag_fits;
+use device_session_bytes::SESSION_SIZE;
+use device_session_bytes::session_flags_fit;
 use wire::codes::COMPONENT_LIMIT;
 use wire::words;
 
 pub mod component; // component.rt: a component
 pub mod session; // session.rt: the session
-mod list; // list.rt: a component of the list that set-up takes
 
 // Where the parts of a record stand: the platform, the length of the staging buffer, the count, the session, the components.
 const PLATFORM_AT: usize = 0;
@@ -29,72 +35,34 @@ const COUNT_AT: usize = STAGING_LEN_AT + 4;
 
 const SESSION_START: usize = COUNT_AT + 1;
 
-const SESSION_SIZE: usize = 7;
-
 const COMPONENTS_START: usize = SESSION_START + SESSION_SIZE;
-
-// Where the parts of the session stand: the stage, and what is owed.
-const STAGE_AT: usize = SESSION_START;
-
-const OWED_AT: usize = STAGE_AT + 5;
-
-// Where the parts of a component stand behind its id: the running version, the region, what is staged; and its length.
-const RUNNING_AT: usize = 1;
-
-const REGION_AT: usize = RUNNING_AT + 4;
-
-const STAGED_AT: usize = REGION_AT + 8;
-
-const COMPONENT_SIZE: usize = STAGED_AT + 5;
 
 // The length of a record.
 pub const DEVICE_SIZE: usize = COMPONENTS_START + COMPONENT_LIMIT * COMPONENT_SIZE;
 
-// The length of a component of the list, and of the list.
-const LISTED_SIZE: usize = REGION_AT + 8;
-
+// The length of the list.
 pub const LIST_SIZE: usize = COMPONENT_LIMIT * LISTED_SIZE;
 
-// What stands before the components.
-fn head(d: Device) -> [u8; COMPONENTS_START]
-    ensures { λ r. ⌜ r ≡ headBytes d ++ sessionBytes (d .session) ⌝ }
+// What stands before the session.
+fn head(d: Device) -> [u8; SESSION_START]
+    ensures { λ r. ⌜ r ≡ headBytes d ⌝ }
 {
     let p = words::bytes16(d.platform);
     let l = words::bytes32(d.staging_len);
-    let session = d.session;
-    let s = session_bytes(session);
-    [
-        p[0],
-        p[1],
-        l[0],
-        l[1],
-        l[2],
-        l[3],
-        d.count,
-        s[0],
-        s[1],
-        s[2],
-        s[3],
-        s[4],
-        s[5],
-        s[6],
-    ]
+    [p[0], p[1], l[0], l[1], l[2], l[3], d.count]
 }
 
-// The components, one after the other, from their start on.
+// The components, each in its slot.
 fn with_components(
     mut out: [u8; DEVICE_SIZE],
     components: [Component; COMPONENT_LIMIT],
 ) -> [u8; DEVICE_SIZE]
     ensures { λ r. ⌜ r ≡ take COMPONENTS-START out ++ componentsBytes components ⌝ }
 {
-    let mut i = 0;
-    while i < COMPONENT_LIMIT {
-        let component = components[i];
-        let b = component_bytes(component);
-        let at = COMPONENTS_START + i * COMPONENT_SIZE;
-        let end = at + COMPONENT_SIZE;
-        words::copy(&mut out[at..end], &b);
+    let mut i: u8 = 0;
+    while (i as usize) < COMPONENT_LIMIT {
+        let component = components[i as usize];
+        store_component(&mut out, i, component);
         i += 1;
     }
     out
@@ -105,7 +73,9 @@ pub fn device_bytes(d: Device) -> [u8; DEVICE_SIZE]
 {
     let mut out = [0u8; DEVICE_SIZE];
     let h = head(d);
-    words::copy(&mut out[0..COMPONENTS_START], &h);
+    words::copy(&mut out[0..SESSION_START], &h);
+    let session = d.session;
+    store_session(&mut out, session);
     let components = d.components;
     with_components(out, components)
 }
@@ -143,27 +113,20 @@ fn components_in(b: &[u8]) -> [Component; COMPONENT_LIMIT]
     components
 }
 
-fn device_in(b: &[u8]) -> Device
-    requires { ⌜ length (now b) ≡ DEVICE-SIZE ⌝ }
-    ensures { λ r. ⌜ r ≡ deviceIn (now (b .entry)) ⌝ }
-{
-    let components = components_in(b);
-    let session = session_in(b);
-    Device {
-        platform: platform_in(b),
-        staging_len: staging_len_in(b),
-        count: count_in(b),
-        components,
-        session,
-    }
-}
-
 // The fields that stand in the bytes, unjudged; bytes of another length are read as the blank record.
 pub fn fields_in(b: &[u8]) -> Device
     ensures { λ r. ⌜ r ≡ fieldsIn (now (b .entry)) ⌝ }
 {
     if b.len() == DEVICE_SIZE {
-        device_in(b)
+        let components = components_in(b);
+        let session = session_in(b);
+        Device {
+            platform: platform_in(b),
+            staging_len: staging_len_in(b),
+            count: count_in(b),
+            components,
+            session,
+        }
     } else {
         Device::blank()
     }
@@ -174,10 +137,10 @@ fn staged_fit(b: &[u8]) -> bool
     requires { ⌜ length (now b) ≡ DEVICE-SIZE ⌝ }
     ensures { λ r. ⌜ r ≡ stagedFit COMPONENT-LIMIT (drop COMPONENTS-START (now (b .entry))) ⌝ }
 {
-    let mut i: usize = 0;
-    while i < COMPONENT_LIMIT {
-        let at = COMPONENTS_START + i * COMPONENT_SIZE;
-        if 1 < b[at + STAGED_AT] {
+    let mut i: u8 = 0;
+    while (i as usize) < COMPONENT_LIMIT {
+        let at = component_start(i);
+        if !staged_flag_fits(&b[at..]) {
             return false;
         }
         i += 1;
@@ -192,7 +155,7 @@ pub fn is_record(b: &[u8]) -> bool
     if b.len() != DEVICE_SIZE {
         return false;
     }
-    (b[STAGE_AT] <= 2) & ((b[OWED_AT] <= 1) & staged_fit(b))
+    session_flags_fit(&b[SESSION_START..]) & staged_fit(b)
 }
 
 // Bytes that are no record are read as the blank one.
@@ -200,7 +163,7 @@ pub fn read_device(b: &[u8]) -> Device
     ensures { λ r. ⌜ r ≡ readDevice (now (b .entry)) ⌝ }
 {
     if is_record(b) {
-        device_in(b)
+        fields_in(b)
     } else {
         Device::blank()
     }
@@ -210,11 +173,12 @@ pub fn read_device(b: &[u8]) -> Device
 pub fn read_list(b: &[u8]) -> [Listed; COMPONENT_LIMIT]
     ensures { λ r. ⌜ r ≡ listIn COMPONENT-LIMIT (now (b .entry)) ⌝ }
 {
-    let first = listed_at(b, 0);
+    let first = listed_in(b);
     let mut list = [first; COMPONENT_LIMIT];
     let mut i = 0;
     while i < COMPONENT_LIMIT {
-        list[i] = listed_at(b, i * LISTED_SIZE);
+        let at = words::least(i * LISTED_SIZE, b.len());
+        list[i] = listed_in(&b[at..]);
         i += 1;
     }
     list

@@ -46,10 +46,14 @@ withStaged c v = record { fixed = c .fixed; running = c .running; staged = Pendi
 abbrev pub afterReset : Component → Component
 afterReset c = record { fixed = c .fixed; running = effective (c .running) (c .staged); staged = Nothing }
 
--- stands where the list has no component; no answer depends on it
-abbrev pub blankComponent : Component
-blankComponent = record {
-  fixed = record { id = 0; region = record { base = record { 0 = 0 }; len = 0 } };
-  running = record { 0 = 0 };
+-- a component by its numbers, with nothing staged
+abbrev pub plain : (id running base len : ℕ) → Component
+plain id running base len = record {
+  fixed = record { id = id; region = record { base = record { 0 = base }; len = len } };
+  running = record { 0 = running };
   staged = Nothing;
 }
+
+-- stands where the list has no component; no answer depends on it
+abbrev pub blankComponent : Component
+blankComponent = plain 0 0 0 0

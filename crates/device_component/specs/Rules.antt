@@ -1,4 +1,4 @@
--- The rules over the list as the code names them: D1's, and the tests of S3, S4 and `find`, which are values.
+-- The rules over a list of components, each as a test that the code computes: D1's, those of S3 and S4, and that of `find`.
 use Prim.Native.Nat.{ℕ}
 use mathlib.Core.Bool.{Bool, not, _||_}
 use mathlib.Core.List.{List}

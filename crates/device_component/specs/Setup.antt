@@ -1,10 +1,10 @@
 -- Rows S1 to S4 (document 01, "Numbered refusals"), tried one after another over the whole list.
 use Prim.Native.Nat.{ℕ, _+_}
-use mathlib.Core.Bool.{Bool, cond, _||_, _&&_}
+use mathlib.Core.Bool.{Bool, not, cond, _||_, _&&_}
 use mathlib.Core.List.{List, [], _∷_}
 use lib.Dec.{ltb, leb, eqb}
 use lib.ListN.{take}
-use Rattle.wire.specs.Codes.{COMPONENT-LIMIT}
+use Rattle.wire.specs.Codes.{COMPONENT-LIMIT, ID-LIMIT}
 use Rattle.wire.specs.Checks.{firstOf, any, pairs}
 use Rattle.image.specs.declared.region.Region.{Region}
 use Rattle.device_component.specs.declared.record.Component.{Component}
@@ -24,9 +24,9 @@ numberOf S2 = 2
 numberOf S3 = 3
 numberOf S4 = 4
 
--- breaks S1 to S4
-abbrev pub refusesSetup : SetupVerdict → Bool
-refusesSetup v = ltb 0 (numberOf v)
+-- a row refuses set-up
+abbrev pub isRefused : SetupVerdict → Bool
+isRefused v = not (eqb (numberOf v) 0)
 
 -- the row with a number
 abbrev pub rowAt : ℕ → Row
@@ -53,7 +53,7 @@ badCount count = ltb count 1 || ltb COMPONENT-LIMIT count
 
 -- S3: an id outside 1-0xDF
 abbrev pub badId : ℕ → Bool
-badId id = ltb id 1 || ltb 0xDF id
+badId id = ltb id 1 || ltb ID-LIMIT id
 
 -- S3: .. or repeated
 unfoldable pub badIds : List Component → Bool

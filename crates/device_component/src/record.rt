@@ -1,8 +1,9 @@
 // The record of a component (document 01, "The device").
 use image::region::Region;
+use image::region::StagingOffset;
 use wire::version::Version;
 ghost use mathlib.Core.Path.{_≡_};
-ghost use Rattle.device_component.specs.Record.{isPending, effective as effectiveOf, listed as listedAs, withStaged, afterReset};
+ghost use Rattle.device_component.specs.Record.{blankComponent, isPending, effective as effectiveOf, listed as listedAs, withStaged, afterReset};
 
 pub enum Staged {
     Nothing,
@@ -87,5 +88,23 @@ impl Component {
             Staged::Nothing => self.running,
             Staged::Pending(v) => v,
         }
+    }
+}
+
+// Stands where there is no component.
+pub fn blank_component() -> Component
+    ensures { λ r. ⌜ r ≡ blankComponent ⌝ }
+{
+    let running = Version::new(0, 0, 0);
+    Component {
+        fixed: Fixed {
+            id: 0,
+            region: Region {
+                base: StagingOffset::new(0),
+                len: 0,
+            },
+        },
+        running,
+        staged: Staged::Nothing,
     }
 }

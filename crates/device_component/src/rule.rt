@@ -4,6 +4,7 @@ use crate::record::Component;
 use crate::record::Staged;
 use crate::setup::REGION_LEAST;
 use image::region::Region;
+use wire::codes::ID_LIMIT;
 use wire::version::Version;
 ghost use mathlib.Core.Path.{_≡_};
 ghost use Rattle.device_component.specs.Versions.{offerVersion, imageVersionFits, stagedVersionFits, keepsStaged};
@@ -78,7 +79,7 @@ pub enum Pair {
 fn bad_id(id: u8) -> bool
     ensures { λ r. ⌜ r ≡ badId id ⌝ }
 {
-    (id < 1) | (0xDF < id)
+    (id < 1) | (ID_LIMIT < id)
 }
 
 fn bad_region(n: usize, r: Region) -> bool

@@ -7,7 +7,7 @@ use crate::rule::Rule;
 use wire::codes::COMPONENT_LIMIT;
 ghost use mathlib.Core.Path.{_≡_};
 ghost use lib.ListN.{take};
-ghost use Rattle.device_component.specs.Setup.{numberOf, refusesSetup, stagingTooLong, badCount, badIds, badRegions, setupVerdict};
+ghost use Rattle.device_component.specs.Setup.{numberOf, isRefused, stagingTooLong, badCount, badIds, badRegions, setupVerdict};
 
 // The largest staging buffer.
 pub const STAGING_LIMIT: u32 = 65536;
@@ -39,9 +39,9 @@ impl SetupVerdict {
 
     // S1 to S4 refuse it.
     pub fn is_refused(self) -> bool
-        ensures { λ r. ⌜ r ≡ refusesSetup self ⌝ }
+        ensures { λ r. ⌜ r ≡ isRefused self ⌝ }
     {
-        0 < self.number()
+        self.number() != 0
     }
 }
 

@@ -40,7 +40,8 @@ abbrev pub keptBy : Row → (before after : List ℕ) → List ℕ
 keptBy served before after = after
 keptBy (D k) before after = before
 
--- the bytes that an outcome leaves: of an offer with its session, of content with its session and with its component in the slot of the session before
+-- the bytes that a served call leaves: of the offer channel with its session written anew, of content with its session and the component in the slot of the
+-- session before (slot 0 while that is idle) written anew, also where the packet changes nothing
 abbrev pub offerLeaves : (before : List ℕ) → Outcome → List ℕ
 offerLeaves before o = keptBy (o .row) before (withSessionBytes (o .device .session) before)
 

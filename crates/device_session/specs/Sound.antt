@@ -8,7 +8,7 @@ use Rattle.wire.specs.Checks.{any}
 use Rattle.device_component.specs.Record.{isPending}
 use Rattle.device_component.specs.Lists.{componentAt}
 use Rattle.device_component.specs.Versions.{keepsStaged}
-use Rattle.device_component.specs.Setup.{refusesSetup, setupVerdict}
+use Rattle.device_component.specs.Setup.{isRefused, setupVerdict}
 use Rattle.device_component.specs.declared.record.Component.{Component}
 use Rattle.device_component.specs.declared.list.Found.{Found}
 use Rattle.device_component.specs.declared.list.Found.the-variants as found
@@ -20,7 +20,7 @@ use Rattle.device_session.specs.Owed.{owes}
 
 -- breaks S1 to S4
 abbrev pub breaksSetup : (n count : ℕ) → List Component → Bool
-breaksSetup n count components = refusesSetup (setupVerdict n count components)
+breaksSetup n count components = isRefused (setupVerdict n count components)
 
 -- opens on a slot that is unlisted, or whose component, c, is pending
 abbrev pub wrongSlot : (count : ℕ) → Component → Found → Bool

@@ -1,8 +1,8 @@
 // The components of all slots (document 01, "The device"): as they are listed, after a reset, and in the version reply.
-use crate::slot::blank_component;
 use device_component::list::within_slots;
 use device_component::record::Component;
 use device_component::record::Listed;
+use device_component::record::blank_component;
 use wire::codes::COMPONENT_LIMIT;
 use wire_version::Running;
 use wire_version::no_component;
@@ -17,7 +17,7 @@ pub fn components_of(list: [Listed; COMPONENT_LIMIT]) -> [Component; COMPONENT_L
 {
     let none = blank_component();
     let mut components = [none; COMPONENT_LIMIT];
-    let mut i: usize = 0;
+    let mut i = 0;
     while i < COMPONENT_LIMIT {
         let l = list[i];
         components[i] = Component::listed(l);

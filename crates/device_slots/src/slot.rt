@@ -1,35 +1,12 @@
 // The component in a slot (document 01, "The device").
 use device_component::list::Found;
 use device_component::record::Component;
-use device_component::record::Fixed;
-use device_component::record::Staged;
-use image::region::Region;
-use image::region::StagingOffset;
+use device_component::record::blank_component;
 use wire::codes::COMPONENT_LIMIT;
-use wire::version::Version;
 ghost use mathlib.Core.Path.{_≡_};
 ghost use lib.ListN.{set};
 ghost use Rattle.device_component.specs.Lists.{componentAt};
-ghost use Rattle.device_component.specs.Record.{blankComponent};
 ghost use Rattle.device_slots.specs.Slots.{slotOf, isAbsent};
-
-// Stands where there is no component.
-pub fn blank_component() -> Component
-    ensures { λ r. ⌜ r ≡ blankComponent ⌝ }
-{
-    let running = Version::new(0, 0, 0);
-    Component {
-        fixed: Fixed {
-            id: 0,
-            region: Region {
-                base: StagingOffset::new(0),
-                len: 0,
-            },
-        },
-        running,
-        staged: Staged::Nothing,
-    }
-}
 
 // The component in a slot; past the last slot there is none.
 pub fn component_at(components: [Component; COMPONENT_LIMIT], slot: u8) -> Component

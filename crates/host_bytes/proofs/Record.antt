@@ -19,7 +19,7 @@ use Rattle.host_record.specs.declared.record.HostStage.the-variants.{Fresh, Ope
 use Rattle.host_record.specs.declared.record.End.{End}
 use Rattle.host_record.specs.declared.record.End.the-variants as end
 use Rattle.host_bytes.specs.declared.stage.StageWords.{StageWords}
-use Rattle.host_bytes.specs.Layout.{TOKEN-AT, STAGE-START, FIRST-AT, SECOND-AT, MASK-AT, PACKETS-AT, PASSES-AT, SKIPPED-AT, LANDED-AT, HOST-SIZE, endWords, stageWords, stageBytes, flagByte, hostBytes, stageIn, hostIn, areFlags, flagsFit, lostHost, readHost}
+use Rattle.host_bytes.specs.Layout.{TOKEN-AT, STAGE-START, FIRST-AT, SECOND-AT, MASK-AT, PACKETS-AT, PASSES-AT, SKIPPED-AT, LANDED-AT, HOST-SIZE, endWords, stageWords, stageBytes, flagByte, hostBytes, stageIn, hostIn, areFlags, flagsFit, refusedHost, readHost}
 use Rattle.host_bytes.specs.Promises.{HostSized, HostReadsBack, OthersBreakN1}
 
 -- bytes that are stored in a record at a place
@@ -139,7 +139,7 @@ third true z = refl
 third false z = refl
 
 -- the lost record breaks N1 over every bundle: it counts too many packets
-lost-breaks : (bundle : List ℕ) → breaksN1 bundle lostHost ≡ true
+lost-breaks : (bundle : List ℕ) → breaksN1 bundle refusedHost ≡ true
 unfolding breaksN1
 lost-breaks bundle = third (ltb (countIn bundle) 0) (leb (2 ^ countIn bundle) 0)
 
@@ -167,6 +167,6 @@ pub read-fits : (b : List ℕ) (h : Host) → (eqb (length b) HOST-SIZE && flags
 unfolding readHost
 read-fits b h t e = rw t e
 
-pub read-lost : (b : List ℕ) (h : Host) → (eqb (length b) HOST-SIZE && flagsFit b) ≡ false → h ≡ lostHost → h ≡ readHost b
+pub read-lost : (b : List ℕ) (h : Host) → (eqb (length b) HOST-SIZE && flagsFit b) ≡ false → h ≡ refusedHost → h ≡ readHost b
 unfolding readHost
 read-lost b h t e = rw t e

@@ -128,12 +128,12 @@ unfoldable pub flagsFit : List ℕ → Bool
 flagsFit b = areFlags (getD b STAGE-START 0) (number (bytesAt 4 FIRST-AT b)) (getD b SKIPPED-AT 0) (getD b LANDED-AT 0)
 
 -- a record that N1 refuses over every bundle: it counts more packets than any host may
-abbrev pub lostHost : Host
-lostHost = record { token = 0; stage = Fresh; mask = 0; packets = 2 ^ 32 - 1; passes = 0; skipped = false; landed = false }
+abbrev pub refusedHost : Host
+refusedHost = record { token = 0; stage = Fresh; mask = 0; packets = 2 ^ 32 - 1; passes = 0; skipped = false; landed = false }
 
--- the record that stands in bytes; bytes of another length, or with a flag that no record has, are read as the lost record
+-- the record that stands in bytes; bytes of another length, or with a flag that no record has, are read as a record that N1 refuses
 unfoldable pub readHost : List ℕ → Host
-readHost b = cond (eqb (length b) HOST-SIZE && flagsFit b) (hostIn b) lostHost
+readHost b = cond (eqb (length b) HOST-SIZE && flagsFit b) (hostIn b) refusedHost
 
 -- the contents of a checked bundle: the number of the row that refuses it, 0 for none, and the entry that this names; the count; from BODIES-START on, for as
 -- many offers as a bundle may have, offset, length and records of a body; from HAND-START on the block that the cursor is kept for, its entry and its number; and the cursor

@@ -7,7 +7,7 @@ ghost use lib.ListN.{length, take};
 ghost use Prim.Native.Nat.{_+_, _≤_};
 ghost use Rattle.wire.specs.Bytes.{number, bytesAt};
 ghost use Rattle.bundle.specs.Contents.{toldChecked};
-ghost use Rattle.host_bytes.specs.Layout.{BODY-SIZE, BODIES-START, HAND-START, CONTENTS-SIZE, flagByte, hostBytes, areFlags, readHost, bodiesBytes, handBytes, noPlace, contentsBytes, bodyRead, cursorIn, areContents, isKept, keptIn, lostHost};
+ghost use Rattle.host_bytes.specs.Layout.{BODY-SIZE, BODIES-START, HAND-START, CONTENTS-SIZE, flagByte, hostBytes, areFlags, readHost, bodiesBytes, handBytes, noPlace, contentsBytes, bodyRead, cursorIn, areContents, isKept, keptIn, refusedHost};
 use crate::put::put32;
 use crate::stage::SENDING;
 use crate::stage::stage_in;
@@ -91,7 +91,7 @@ pub fn host_bytes(h: Host) -> [u8; HOST_SIZE]
 
 // A record that N1 refuses over every bundle.
 fn lost_host() -> Host
-    ensures { λ r. ⌜ r ≡ lostHost ⌝ }
+    ensures { λ r. ⌜ r ≡ refusedHost ⌝ }
 {
     Host {
         token: 0,

@@ -69,7 +69,7 @@ endingOf end.Foreign = H2
 endingOf end.Unexpected = H3
 endingOf end.Busy = H4
 
--- the number of the row that ends a host, 0 where none has; and the content status of H1, 0 otherwise
+-- the number of the end, 0 where the host runs or is done; and the content status of H1, 0 otherwise
 abbrev pub numberOf : Ending → ℕ
 numberOf running = 0
 numberOf done = 0

@@ -9,6 +9,7 @@ use Rattle.host_record.specs.declared.record.HostStage.the-variants.{Fre
 abbrev pub Spare : ℕ → Type 0
 Spare n = n + 1 < 2 ^ 32
 
+-- the entry and the block of a stage can go up by one, and the entry of a block has a bit in the mask
 abbrev pub RoomIn : HostStage → Type 0
 RoomIn Fresh = Unit {0}
 RoomIn Opening = Unit {0}
@@ -19,5 +20,6 @@ RoomIn (Sending p) = (p .entry < 32) × Spare (p .block)
 RoomIn Closing = Unit {0}
 RoomIn (Ended e) = Unit {0}
 
+-- the counts of packets and passes can go up by one
 abbrev pub Room : Host → Type 0
 Room h = Spare (h .packets) × Spare (h .passes)

@@ -46,7 +46,7 @@ use Rattle.update.proofs.Fitting.{blank-fits, all-fit, component-fits}
 use Rattle.wire.specs.Version.{versionOf}
 use Rattle.device_component.specs.declared.record.Staged.the-variants.{Pending}
 use Rattle.update.specs.Bench.{placed}
-use Rattle.update.specs.Cases.{at100, image16, seven, chain, mixed, tangle, ChainReaches, MixedDevice, MixedStaging, MixedRuns, CycleStops}
+use Rattle.update.specs.Cases.{at100, image16, seven, chain, mixed, mixedBundle, ChainReaches, MixedDevice, MixedStaging, MixedRuns, CycleStops}
 
 -- a component of the cases
 at100-fits : (id : ℕ) → id ≤ COMPONENT-LIMIT → FitsComponent (at100 id)
@@ -115,17 +115,17 @@ chain-reaches = record {
   figures = (refl, refl);
 }
 
-mixed-premise : Premise tangle 7 mixed (replicate 64 0)
+mixed-premise : Premise mixedBundle 7 mixed (replicate 64 0)
 unfolding firstOf any pairs bitStep bitSteps byteStep crcFrom crcOf flatten tableBytes bundleBytes written placed headIn parse entriesFrom entriesIn bodyIn firstEntry rowB5 repeated rowB6 gap rowB7 rowB8 bundleRow offer.fieldsIn kindIn content.fieldsIn content.cleared content.contentBytes within regionBytes blank put eraseOf writeOf imageIn firstFrom find badIds badRegions setupVerdict breaksD1 refusalOf rejections needUnmet offerVerdict onOffer onInformation offerEntry contentVerdict takeBlock finish onBlock contentEntry contentStaging serveEntry serveStaging table act hears hearsBlock decideIn breaksN1 packetOf stepOn stepOf deliver exchange run recordsFrom passesIn writes imageOf image16
 mixed-premise = record {
   small = omega arith;
   fits = mixed-fits;
   bytes = all-bytes (replicate 64 0) refl;
-  bundle = all-bytes tangle refl;
+  bundle = all-bytes mixedBundle refl;
   d1 = refl;
   d2 = refl;
   accepted = refl;
-  good = bodies-good tangle mixed refl;
+  good = bodies-good mixedBundle mixed refl;
 }
 
 mixed-device : MixedDevice

@@ -26,7 +26,7 @@ use Rattle.host_decide.specs.declared.Action.the-variants.{Notify, Offer, Block
 use Rattle.host_decide.specs.declared.Move.{Move}
 use Rattle.update.specs.Trace as trace
 use Rattle.update.specs.Trace.{Exchange, opensPass, passesIn, completedIn}
-use Rattle.update.specs.Ends.{heardAs, talk, completedOf, Masked, HostMasks, HostCounts, HostTallies}
+use Rattle.update.specs.Ends.{heardAs, hostSteps, completedOf, Masked, HostMasks, HostCounts, HostTallies}
 use Rattle.host_decide.proofs.Moves.{isTaken, opening-cases, listing-cases, offering-cases, waiting-cases, closing-cases, sending-cases, offer-cases}
 use Rattle.update.proofs.Mask.{no-bit, with-bit, onesBelow, ones-below}
 use Rattle.update.proofs.Packets.{offer-opens, offer-completes, offer-about, block-opens, block-about, block-completes}
@@ -242,21 +242,21 @@ ones-shown b xs mask (suc n) m =
 
 module _ (b : List ℕ) (token : ℕ) (replies : ℕ → List ℕ) (α : Accepted b) (s : bundle.bundleRow b ≡ bundle.served) (t : token < 256) where
   -- what a step leaves, of a record that is known
-  after-at : (k : ℕ) → KnownAt b (hostAt b token replies α s t k) (hostAt b token replies α s t k .stage) (talk b token replies k .trace) (replies k)
-      → After b (talk b token replies k .trace) (moveAt b token replies α s t k)
-  after-at k = after-by b α (hostAt b token replies α s t k) (talk b token replies k .trace) (replies k) (hostAt b token replies α s t k .stage) refl (ready-at b token replies α s t k)
+  after-at : (k : ℕ) → KnownAt b (hostAt b token replies α s t k) (hostAt b token replies α s t k .stage) (hostSteps b token replies k .trace) (replies k)
+      → After b (hostSteps b token replies k .trace) (moveAt b token replies α s t k)
+  after-at k = after-by b α (hostAt b token replies α s t k) (hostSteps b token replies k .trace) (replies k) (hostAt b token replies α s t k .stage) refl (ready-at b token replies α s t k)
 
   -- every record is known
-  known-at : (k : ℕ) → KnownAt b (talk b token replies k .host) (talk b token replies k .host .stage) (talk b token replies k .trace) (replies k)
-  unfolding talk passesIn completedIn
+  known-at : (k : ℕ) → KnownAt b (hostSteps b token replies k .host) (hostSteps b token replies k .host .stage) (hostSteps b token replies k .trace) (replies k)
+  unfolding hostSteps passesIn completedIn
   known-at zero = record { packets = refl; passes = refl; shown = λ i l. no-bit i }
   known-at (suc k) =
-      subst (λ (x : Step). KnownAt b (x .host) (x .host .stage) (talk b token replies k .trace ++ heardAs (x .sent) (replies (suc k))) (replies (suc k)))
+      subst (λ (x : Step). KnownAt b (x .host) (x .host .stage) (hostSteps b token replies k .trace ++ heardAs (x .sent) (replies (suc k))) (replies (suc k)))
       (sym (step-at b token replies α s t k)) (after-at k (known-at k) .1 (replies (suc k)))
 
   -- so every mask shows what was received
-  marks-at : (k : ℕ) → Marks b (talk b token replies k .trace) (hostAt b token replies α s t (suc k) .mask)
-  marks-at k = subst (λ (h : Host). Marks b (talk b token replies k .trace) (h .mask)) (sym (next-at b token replies α s t k)) (after-at k (known-at k) .0)
+  marks-at : (k : ℕ) → Marks b (hostSteps b token replies k .trace) (hostAt b token replies α s t (suc k) .mask)
+  marks-at k = subst (λ (h : Host). Marks b (hostSteps b token replies k .trace) (h .mask)) (sym (next-at b token replies α s t k)) (after-at k (known-at k) .0)
 
 -- after every step the mask's bits and ones are the completed offers up to the reply that it received
 pub host-masks : HostMasks
@@ -264,7 +264,7 @@ host-masks b token replies k bytes s t =
     let α = accepted b bytes s in
     let m = marks-at b token replies α s t k in
     let mask = hostAt b token replies α s t (suc k) .mask in
-    record { bits = m; ones = ones-below mask (countIn b) (ready-at b token replies α s t (suc k) .mask) ∙ ones-shown b (talk b token replies k .trace) mask (countIn b) m }
+    record { bits = m; ones = ones-below mask (countIn b) (ready-at b token replies α s t (suc k) .mask) ∙ ones-shown b (hostSteps b token replies k .trace) mask (countIn b) m }
 
 -- at every step the packets and passes are those of the list sent
 pub host-tallies : HostTallies
@@ -278,5 +278,5 @@ host-counts b token replies k bytes s t e =
     record {
       packets = n .0;
       passes = n .1;
-      mask = subst (λ (h : Host). Masked b (h .mask) (talk b token replies k .trace)) (ended-at b token replies (accepted b bytes s) s t k e) (host-masks b token replies k bytes s t);
+      mask = subst (λ (h : Host). Masked b (h .mask) (hostSteps b token replies k .trace)) (ended-at b token replies (accepted b bytes s) s t k e) (host-masks b token replies k bytes s t);
     }

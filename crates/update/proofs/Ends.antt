@@ -1,4 +1,4 @@
--- The host always ends, whatever it receives: N1 is never met, every packet is one that P2 allows, and an ended record is reached within the bound.
+-- The host always ends, whatever it receives: N1 is never met, every packet is one that a builder answers, and an ended record is reached within the bound.
 -- Assumes nothing.
 use mathlib.Core.Path.{_≡_, refl, sym, ap, subst, _∙_}
 use mathlib.Core.Logic.{_⊎_, inl, inr}
@@ -21,7 +21,7 @@ use Rattle.host_decide.specs.declared.Move.{Move}
 use Rattle.host_decide.specs.declared.Action.the-variants.{Nothing}
 use Rattle.update.specs.Run.{boundOf}
 use Rattle.wire.specs.Checks.{All}
-use Rattle.update.specs.Ends.{talk, Built, HostEnds}
+use Rattle.update.specs.Ends.{hostSteps, Built, HostEnds}
 use Rattle.update.proofs.Packets.{all-built}
 use Rattle.update.proofs.Ready.{Ready, Goes, goes, step-moves, fresh-ready, owed-step}
 
@@ -45,7 +45,7 @@ stays g n last h reply e = rw (is-end g e .1)
 module _ (b : List ℕ) (token : ℕ) (replies : ℕ → List ℕ) (α : Accepted b) (s : bundle.bundleRow b ≡ bundle.served) (t : token < 256) where
   -- the record before step k
   abbrev pub hostAt : ℕ → Host
-  hostAt k = talk b token replies k .host
+  hostAt k = hostSteps b token replies k .host
 
   -- the move of step k
   abbrev pub moveAt : ℕ → Move
@@ -53,7 +53,7 @@ module _ (b : List ℕ) (token : ℕ) (replies : ℕ → List ℕ) (α : Accepte
 
   -- every record is ready
   pub ready-at : (k : ℕ) → Ready b (hostAt k)
-  unfolding talk
+  unfolding hostSteps
   ready-at zero = fresh-ready b α token t
   ready-at (suc k) =
       let r = ready-at k in
@@ -69,7 +69,7 @@ module _ (b : List ℕ) (token : ℕ) (replies : ℕ → List ℕ) (α : Accepte
 
   -- the next record is what the move leaves
   pub next-at : (k : ℕ) → hostAt (suc k) ≡ moveAt k .host
-  unfolding talk
+  unfolding hostSteps
   next-at k = ap (λ (x : Step). x .host) (step-at k)
 
   -- an ended record stays
@@ -82,7 +82,7 @@ module _ (b : List ℕ) (token : ℕ) (replies : ℕ → List ℕ) (α : Accepte
 
   -- so it is after every number of steps
   counts-at : (k : ℕ) → Counts k (hostAt k)
-  unfolding talk Counts
+  unfolding hostSteps Counts
   counts-at zero = inr refl
   counts-at (suc k) = subst (Counts (suc k)) (sym (next-at k)) (go (counts-at k) (goes-at k .counted))
     where
@@ -101,7 +101,7 @@ module _ (b : List ℕ) (token : ℕ) (replies : ℕ → List ℕ) (α : Accepte
   ends-at false e (inr c) =
       absurd (omega (arith, ready-at (boundOf b) .room, owed-step b α (hostAt (boundOf b) .stage) e))
 
-  -- every packet is one that P2 allows
+  -- every packet is one that a builder answers
   built-at : (k : ℕ) → All Built (stepOf b (hostAt k) (replies k) .sent)
   built-at k =
       subst (λ (x : Step). All Built (x .sent)) (sym (step-at k))

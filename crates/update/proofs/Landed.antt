@@ -37,7 +37,7 @@ use Rattle.device.specs.Refusals.{breaksD1}
 use Rattle.device.specs.declared.record.Device.{Device}
 use Rattle.device.proofs.Opened.{staged-passes}
 use Rattle.host.specs.Step.{blocksAt}
-use Rattle.update.specs.Claim.{offerAt, isEligible, isMet, feeds, Spared}
+use Rattle.update.specs.Claim.{offerAt, isEligible, isMet, feeds, NotTargeted}
 use Rattle.update.proofs.Eligible.{ids-apart, rejected, rejected-is, absent-rejected, pending-rejected, Fresher, eligible-says}
 
 -- a slot was found there
@@ -87,7 +87,7 @@ module _ (b : List ℕ) (α : Accepted b) (d : Device) where
     pub here : find d (offerAt b j .id) ≡ found.At k
 
   -- there is one, or none
-  pub decide : (S : Set) (k : ℕ) → Source S k ⊎ Spared d b S k
+  pub decide : (S : Set) (k : ℕ) → Source S k ⊎ NotTargeted d b S k
   decide S k =
       bool-cases (any for (from 0 (countIn b)))
       (λ t. let x = some-out (from 0 (countIn b)) for t in
@@ -116,7 +116,7 @@ module _ (b : List ℕ) (α : Accepted b) (d : Device) where
     pub slots : length ps ≡ length (d .components)
     pub ids : map (λ c. c .fixed .id) ps ≡ map (λ c. c .fixed .id) (d .components)
     pub members : (i k : ℕ) → i < countIn b → T (S i) → find d (offerAt b i .id) ≡ found.At k → componentAt ps k ≡ withStaged (component d k) (offerAt b i .version)
-    pub others : (k : ℕ) → Spared d b S k → componentAt ps k ≡ component d k
+    pub others : (k : ℕ) → NotTargeted d b S k → componentAt ps k ≡ component d k
     pub d1 : breaksD1 (idleWith d ps) ≡ false
 
   -- at the start
@@ -130,7 +130,7 @@ module _ (b : List ℕ) (α : Accepted b) (d : Device) where
 
     module _ (e : ℕ) (l : e < countIn b) where
       -- the slot of an offer that has not landed is spared
-      pub spared : (k : ℕ) → S e ≡ false → find d (offerAt b e .id) ≡ found.At k → Spared d b S k
+      pub spared : (k : ℕ) → S e ≡ false → find d (offerAt b e .id) ≡ found.At k → NotTargeted d b S k
       spared k out f i m t g = true≢false (sym (is-true (S i) t) ∙ ap S (one-offer i e k m l g f) ∙ out)
 
       -- one landing more
@@ -232,7 +232,7 @@ module _ (b : List ℕ) (α : Accepted b) (d : Device) where
             fed-here : (j : ℕ) → j < countIn b → (y : Feeding j) → find d (offerAt b j .id) ≡ found.At k
             fed-here j m y = ap (find d) (y .for) ∙ g
 
-            go : Source S k ⊎ Spared d b S k → not (below (componentAt ps k) (o .least)) ≡ (not (below (component d k) (o .least)) || any fed os)
+            go : Source S k ⊎ NotTargeted d b S k → not (below (componentAt ps k) (o .least)) ≡ (not (below (component d k) (o .least)) || any fed os)
             go (inr s) =
                 rw (h .others k s)
                 (T-ext was (was || any fed os) (or-inl was (any fed os))

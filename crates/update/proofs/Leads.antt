@@ -17,7 +17,7 @@ use Rattle.host_packet.specs.Answer.{Step}
 use Rattle.host.specs.Step.{lastIn, moved}
 use Rattle.host_record.specs.declared.record.Host.{Host}
 use Rattle.update.specs.Trace.{Exchange}
-use Rattle.update.specs.Run.{System, channelOf, answerTo, flight, deliver}
+use Rattle.update.specs.Run.{System, channelOf, answerTo, afterPacket, deliver}
 
 -- a packet and its reply
 abbrev pub said : (packet reply : List ℕ) → Exchange
@@ -102,17 +102,17 @@ module _ (b : List ℕ) where
   -- a packet is answered
   arrives : (p : List ℕ) (h : Host) (d d′ : Device) (s s′ r : List ℕ) (trace : List Exchange)
       → answerTo p d s ≡ answeredWith r owed.Nothing d′ → serveStaging d (channelOf p) s p ≡ s′
-      → flight p h d s trace ≡ record { host = h; device = d′; staging = s′; reply = r; trace = trace ++ (said p r ∷ []) }
+      → afterPacket p h d s trace ≡ record { host = h; device = d′; staging = s′; reply = r; trace = trace ++ (said p r ∷ []) }
   arrives p h d d′ s s′ r trace a e = rw (a, e)
 
   -- and what the host makes of the reply is sent
   pub turn : (p p′ : List ℕ) (h h′ : Host) (d d′ : Device) (s s′ r : List ℕ) (trace : List Exchange)
       → answerTo p d s ≡ answeredWith r owed.Nothing d′ → serveStaging d (channelOf p) s p ≡ s′
       → steps h r .sent ≡ p′ ∷ [] → steps h r .host ≡ h′ → Answered (answerTo p′ d′ s′)
-      → Goes (flight p h d s trace) (flight p′ h′ d′ s′ (trace ++ (said p r ∷ [])))
+      → Goes (afterPacket p h d s trace) (afterPacket p′ h′ d′ s′ (trace ++ (said p r ∷ [])))
   unfolding goes deliver
   turn p p′ h h′ d d′ s s′ r trace a e m n f =
-      subst (λ (x : System). Goes x (flight p′ h′ d′ s′ (trace ++ (said p r ∷ [])))) (sym (arrives p h d d′ s s′ r trace a e))
+      subst (λ (x : System). Goes x (afterPacket p′ h′ d′ s′ (trace ++ (said p r ∷ [])))) (sym (arrives p h d d′ s s′ r trace a e))
       (record { comes = rw (m, n); fine = fine })
     where
       fine : (q : List ℕ) → steps h r .sent ≡ q ∷ [] → Answered (answerTo q d′ s′)
@@ -122,7 +122,7 @@ module _ (b : List ℕ) where
   pub stop : (p : List ℕ) (h h′ : Host) (d d′ : Device) (s s′ r : List ℕ) (trace : List Exchange)
       → answerTo p d s ≡ answeredWith r owed.Nothing d′ → serveStaging d (channelOf p) s p ≡ s′
       → steps h r .sent ≡ [] → steps h r .host ≡ h′
-      → Goes (flight p h d s trace) (record { host = h′; device = d′; staging = s′; reply = r; trace = trace ++ (said p r ∷ []) })
+      → Goes (afterPacket p h d s trace) (record { host = h′; device = d′; staging = s′; reply = r; trace = trace ++ (said p r ∷ []) })
   unfolding goes deliver
   stop p h h′ d d′ s s′ r trace a e m n =
       subst (λ (x : System). Goes x (record { host = h′; device = d′; staging = s′; reply = r; trace = trace ++ (said p r ∷ []) }))

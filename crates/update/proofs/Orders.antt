@@ -18,7 +18,7 @@ use Rattle.bundle.proofs.Accepted.{Accepted}
 use Rattle.device.specs.Record.{find, component, toIdle, idleWith}
 use Rattle.device.specs.declared.record.Device.{Device}
 use Rattle.host.specs.Step.{entryAt, blocksAt}
-use Rattle.update.specs.Claim.{offerAt, imageOf, isEligible, isMet, feeds, Fed, Closed, Smallest, Spared, Leaves, Fills}
+use Rattle.update.specs.Claim.{offerAt, imageOf, isEligible, isMet, feeds, Fed, Closed, Smallest, NotTargeted, Leaves, Fills}
 use Rattle.update.specs.Demand.{Reordered}
 use Rattle.update.proofs.Landed.{Source, decide}
 
@@ -119,6 +119,6 @@ pub leaves-same : (b : List ℕ) → Accepted b → (d : Device) (X : Set) (d′
 leaves-same b α d X d′ d″ h h′ =
     h .same ∙ ap (idleWith d) (ext-getD blankComponent (d′ .components) (d″ .components) (h .slots ∙ sym (h′ .slots)) (λ k l. at k (decide b α d X k))) ∙ sym (h′ .same)
   where
-    at : (k : ℕ) → Source b α d X k ⊎ Spared d b X k → componentAt (d′ .components) k ≡ componentAt (d″ .components) k
+    at : (k : ℕ) → Source b α d X k ⊎ NotTargeted d b X k → componentAt (d′ .components) k ≡ componentAt (d″ .components) k
     at k (inl x) = h .members (x .j) k (x .listed) (x .member) (x .here) ∙ sym (h′ .members (x .j) k (x .listed) (x .member) (x .here))
     at k (inr s) = h .others k s ∙ sym (h′ .others k s)

@@ -1,4 +1,4 @@
--- The packets of a host's actions over an accepted bundle: each is one that P2 allows, and what a list of packets reads in it. Assumes nothing.
+-- The packets of a host's actions over an accepted bundle: each is one that a builder answers, and what a list of packets reads in it. Assumes nothing.
 use mathlib.Core.Path.{_≡_, refl, sym, ap, subst, _∙_}
 use mathlib.Core.Bool.{Bool, true, false, _&&_}
 use mathlib.Core.List.{List, [], _∷_, _++_}
@@ -110,7 +110,7 @@ module _ (b : List ℕ) (α : Accepted b) where
       let c = α .carries (entryAt b (p .entry)) .each (p .block) noBlock m in
       content-built _ (rw (flags-sound (eqb (p .block) 0) (isLast b p), le-leb 1 (length (blockAt b p .bytes)) (c .some), le-leb (length (blockAt b p .bytes)) 52 (c .few)))
 
-  -- every packet is one that P2 allows
+  -- every packet is one that a builder answers
   pub all-built : (token : ℕ) (a : Action) → token < 256 → Has b a → All Built (packetOf b token a)
   unfolding packetOf
   all-built token Nothing t h = tt

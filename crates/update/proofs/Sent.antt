@@ -9,7 +9,7 @@ use borrow.Author.Tests.{ne-eqb, le-leb, le-ltb}
 use lib.Dec.{leb, eqb}
 use lib.ListN.{length, getD, set, take, drop, length-set}
 use lib.Seq.{take-append-seam}
-use Rattle.wire.specs.Codes.{KIND-INFORMATION, KIND-EXTENDED, FLAG-FIRST-BLOCK, FLAG-LAST-BLOCK}
+use Rattle.wire.specs.Codes.{KIND-INFORMATION, KIND-EXTENDED, FLAG-FIRST-BLOCK, FLAG-LAST-BLOCK, ID-LIMIT}
 use Rattle.wire_offer.specs.Offer.{fieldsIn}
 use Rattle.wire_offer.specs.Kind.{offer, kindIn}
 use Rattle.wire_offer.specs.declared.offer.OfferFields.{OfferFields}
@@ -106,6 +106,6 @@ module _ (b : List ℕ) where
     unfolding kindIn
     offer-reads token e t l =
         let q = offer-packet b α token e t l in
-        let id : getD (offerPacket b α token e) 2 0 ≤ 0xDF = omega (arith, offer-id b α token e, α .offer e l .high) in
+        let id : getD (offerPacket b α token e) 2 0 ≤ ID-LIMIT = omega (arith, offer-id b α token e, α .offer e l .high) in
         rw (ne-eqb (getD (offerPacket b α token e) 2 0) KIND-INFORMATION (omega arith), ne-eqb (getD (offerPacket b α token e) 2 0) KIND-EXTENDED (omega arith))
         (ap offer (token-set (offerIn (entryAt b e)) token (omega (arith, q .size, length-set (offerIn (entryAt b e)) 3 token))))

@@ -17,7 +17,7 @@ use Rattle.host_record.specs.declared.record.Host.{Host}
 use Rattle.host_decide.specs.declared.Move.{Move}
 use Rattle.update.specs.Trace.{Exchange}
 use Rattle.update.specs.Run.{System, boundOf, deliver, exchange, run, start}
-use Rattle.update.specs.Ends.{talk, heardAs, Counted, RunEnds}
+use Rattle.update.specs.Ends.{hostSteps, heardAs, Counted, RunEnds}
 use Rattle.update.proofs.Leads.{steps, goes, going, going-next}
 use Rattle.update.proofs.Ends.{stays, step-at, host-ends}
 use Rattle.update.proofs.Counts.{host-counts}
@@ -84,9 +84,9 @@ module _ (b : List ℕ) where
     abbrev pub hears : ℕ → List ℕ
     hears k = at k .reply
 
-    -- its host is that of `talk`
-    host-is : (k : ℕ) → talk b token hears k .host ≡ at k .host
-    unfolding talk run exchange
+    -- its host is that of `hostSteps`
+    host-is : (k : ℕ) → hostSteps b token hears k .host ≡ at k .host
+    unfolding hostSteps run exchange
     host-is zero = refl
     host-is (suc k) =
         ap (λ (h : Host). stepOf b h (hears k) .host) (host-is k)
@@ -94,11 +94,11 @@ module _ (b : List ℕ) where
         ∙ ap (λ (s : System). s .host) (sym (run-next k (start token d staging reply)))
 
     -- and so is its list
-    trace-is : (k : ℕ) → talk b token hears k .trace ≡ at k .trace
-    unfolding talk run exchange
+    trace-is : (k : ℕ) → hostSteps b token hears k .trace ≡ at k .trace
+    unfolding hostSteps run exchange
     trace-is zero = refl
     trace-is (suc k) =
-        ap (λ (x : List Exchange). x ++ heardAs (stepOf b (talk b token hears k .host) (hears k) .sent) (hears (suc k))) (trace-is k)
+        ap (λ (x : List Exchange). x ++ heardAs (stepOf b (hostSteps b token hears k .host) (hears k) .sent) (hears (suc k))) (trace-is k)
         ∙ ap (λ (h : Host). at k .trace ++ heardAs (stepOf b h (hears k) .sent) (hears (suc k))) (host-is k)
         ∙ ap (λ (s : System). at k .trace ++ heardAs (stepOf b (at k .host) (hears k) .sent) (s .reply)) (run-next k (start token d staging reply))
         ∙ sym (deliver-trace (stepOf b (at k .host) (hears k) .sent) (stepOf b (at k .host) (hears k) .host) (at k))
@@ -133,7 +133,7 @@ module _ (b : List ℕ) where
     pub run-counts : (k : ℕ) → hasEnded (at k .host .stage) ≡ true → Counted b (at k .host) (at k .trace)
     run-counts k e =
         subst (λ (h : Host). Counted b h (at k .trace)) (host-is k)
-        (subst (λ (x : List Exchange). Counted b (talk b token hears k .host) x) (trace-is k)
+        (subst (λ (x : List Exchange). Counted b (hostSteps b token hears k .host) x) (trace-is k)
         (host-counts b token hears k bytes accept small (subst (λ (h : Host). hasEnded (h .stage) ≡ true) (sym (host-is k)) e)))
 
 -- a run always ends, and stays

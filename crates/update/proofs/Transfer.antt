@@ -41,7 +41,7 @@ use Rattle.host_record.specs.declared.record.Place.{Place}
 use Rattle.host_decide.specs.declared.Move.{Move}
 use Rattle.host_decide.proofs.Heard.{hears-taken}
 use Rattle.update.specs.Trace.{Exchange}
-use Rattle.update.specs.Run.{System, channelOf, answerTo, flight}
+use Rattle.update.specs.Run.{System, channelOf, answerTo, afterPacket}
 use Rattle.update.specs.Claim.{writes, imageOf, Inside}
 use Rattle.update.proofs.Leads.{said, Goes, Leads, leads-none, leads-step, turn}
 use Rattle.update.proofs.Packets.{block-length}
@@ -106,7 +106,7 @@ module _ (b : List ℕ) (α : Accepted b) (t : ℕ) (small : t < 256) (d : Devic
   module _ (o : Opens) (m q : ℕ) (sk la : Bool) where
     -- block k is on its way
     abbrev pub blocking : (k packets : ℕ) → (s : List ℕ) → List Exchange → System
-    blocking k p s trace = flight (blockPacket b (spot k)) (hostAs t (Sending (spot k)) m p q sk la) (held d ps (awaits slot t k)) s trace
+    blocking k p s trace = afterPacket (blockPacket b (spot k)) (hostAs t (Sending (spot k)) m p q sk la) (held d ps (awaits slot t k)) s trace
 
     module _ (k : ℕ) (i : k < length (blocksAt b e)) (s : List ℕ) (d2 : length s ≡ d .«staging_len») where
       -- D1 and D2 let the block pass
@@ -163,7 +163,7 @@ module _ (b : List ℕ) (α : Accepted b) (t : ℕ) (small : t < 256) (d : Devic
         x-mid : (p : ℕ) (trace : List Exchange) → isLast b (spot k) ≡ false
             → Answered (answerTo (blockPacket b (spot (suc k))) (held d ps (awaits slot t (suc k))) s′)
             → Goes b (blocking k p s trace)
-            (flight (blockPacket b (spot (suc k))) (hostAs t (Sending (spot (suc k))) m (p + 1) q sk la) (held d ps (awaits slot t (suc k))) s′ (trace ++ (said (blockPacket b (spot k)) (taken k) ∷ [])))
+            (afterPacket (blockPacket b (spot (suc k))) (hostAs t (Sending (spot (suc k))) m (p + 1) q sk la) (held d ps (awaits slot t (suc k))) s′ (trace ++ (said (blockPacket b (spot k)) (taken k) ∷ [])))
         unfolding packetOf
         x-mid p trace z f =
             turn b (blockPacket b (spot k)) (blockPacket b (spot (suc k))) (hostAs t (Sending (spot k)) m p q sk la) (hostAs t (Sending (spot (suc k))) m (p + 1) q sk la)

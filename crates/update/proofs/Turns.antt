@@ -38,7 +38,7 @@ use Rattle.host_decide.specs.declared.Action.the-variants.{Information, Offer}
 use Rattle.host_decide.specs.declared.Move.{Move}
 use Rattle.host_decide.proofs.Heard.{hears-opening, hears-listing, hears-accept, hears-skip, hears-reject, hears-closing}
 use Rattle.update.specs.Trace.{Exchange}
-use Rattle.update.specs.Run.{System, channelOf, answerTo, flight, deliver, start}
+use Rattle.update.specs.Run.{System, channelOf, answerTo, afterPacket, deliver, start}
 use Rattle.update.proofs.Leads.{said, goes, Goes, turn, stop}
 use Rattle.update.proofs.Packets.{offerPacket, offer-packet}
 use Rattle.update.proofs.Sent.{withToken, offer-reads}
@@ -123,20 +123,20 @@ module _ (b : List ℕ) (α : Accepted b) (t : ℕ) (small : t < 256) where
   module _ (d : Device) where
     -- the offer of entry e, or code 2, is on its way to an idle device with these components
     abbrev pub turning : (e mask packets passes : ℕ) → (skipped landed : Bool) → List Component → (s : List ℕ) → List Exchange → System
-    turning e m p q sk la ps s trace = flight (turnPacket e) (hostAs t (turnStage e) m p q sk la) (idleWith d ps) s trace
+    turning e m p q sk la ps s trace = afterPacket (turnPacket e) (hostAs t (turnStage e) m p q sk la) (idleWith d ps) s trace
 
     -- code 1 is on its way
     abbrev pub listing : (mask packets passes : ℕ) → List Component → (s : List ℕ) → List Exchange → System
-    listing m p q ps s trace = flight (codeBytes 1 t) (hostAs t Listing m p q false false) (idleWith d ps) s trace
+    listing m p q ps s trace = afterPacket (codeBytes 1 t) (hostAs t Listing m p q false false) (idleWith d ps) s trace
 
     -- code 0 is sent
-    pub x-open : (s r : List ℕ) → Sound d s → Goes b (start t d s r) (flight (codeBytes 0 t) (hostAs t Opening 0 1 0 false false) d s [])
+    pub x-open : (s r : List ℕ) → Sound d s → Goes b (start t d s r) (afterPacket (codeBytes 0 t) (hostAs t Opening 0 1 0 false false) d s [])
     unfolding goes deliver decideIn packetOf
     x-open s r h = record { comes = refl; fine = λ p z. let y : codeBytes 0 t ≡ p = cc in subst (λ (x : List ℕ). Answered (answerTo x d s)) y (code-answered 0 d s h) }
 
     -- its answer opens the first pass
     pub x-list : (m p q : ℕ) (sk la : Bool) (s : List ℕ) (trace : List Exchange) → Sound d s → Sound (toIdle d) s
-        → Goes b (flight (codeBytes 0 t) (hostAs t Opening m p q sk la) d s trace)
+        → Goes b (afterPacket (codeBytes 0 t) (hostAs t Opening m p q sk la) d s trace)
         (listing m (p + 1) (q + 1) (d .components) s (trace ++ (said (codeBytes 0 t) (replied t 0 OFFER-ACCEPT) ∷ [])))
     unfolding packetOf serveStaging
     x-list m p q sk la s trace h k =
@@ -169,7 +169,7 @@ module _ (b : List ℕ) (α : Accepted b) (t : ℕ) (small : t < 256) where
         h = hostAs t waits m p q sk la
 
         -- an entry of the bundle is offered
-        is-offering : turning e m p q sk la ps s trace ≡ flight (offerPacket b α t e) h (idleWith d ps) s trace
+        is-offering : turning e m p q sk la ps s trace ≡ afterPacket (offerPacket b α t e) h (idleWith d ps) s trace
         is-offering = rw (lt-ltb e (countIn b) l)
 
         -- the answer of a verdict
@@ -207,7 +207,7 @@ module _ (b : List ℕ) (α : Accepted b) (t : ℕ) (small : t < 256) where
         pub x-accept : (k : ℕ) → offerVerdict (idleWith d ps) (withToken (offerAt b e) t) ≡ Accept k
             → Answered (answerTo (blockPacket b (record { entry = e; block = 0 })) (held d ps (awaits k t 0)) s)
             → Goes b (turning e m p q sk la ps s trace)
-            (flight (blockPacket b (record { entry = e; block = 0 })) (hostAs t (Sending (record { entry = e; block = 0 })) m (p + 1) q sk la) (held d ps (awaits k t 0)) s
+            (afterPacket (blockPacket b (record { entry = e; block = 0 })) (hostAs t (Sending (record { entry = e; block = 0 })) m (p + 1) q sk la) (held d ps (awaits k t 0)) s
             (trace ++ (said (offerPacket b α t e) (replied t 0 OFFER-ACCEPT) ∷ [])))
         unfolding packetOf
         x-accept k z f =
@@ -220,7 +220,7 @@ module _ (b : List ℕ) (α : Accepted b) (t : ℕ) (small : t < 256) where
 
       module _ (e : ℕ) (l : ltb e (countIn b) ≡ false) (m p q : ℕ) (sk la : Bool) where
         -- past the last entry code 2 is on its way
-        closing : turning e m p q sk la ps s trace ≡ flight (codeBytes 2 t) (hostAs t Closing m p q sk la) (idleWith d ps) s trace
+        closing : turning e m p q sk la ps s trace ≡ afterPacket (codeBytes 2 t) (hostAs t Closing m p q sk la) (idleWith d ps) s trace
         closing = rw l
 
         -- ACCEPT to code 2: another pass

@@ -82,21 +82,21 @@ mixed = record {
   session = record { stage = Receiving (record { slot = 0; token = 3; next = 5 }); owed = owed.Token 9 };
 }
 
-abbrev pub tangle : List ℕ
-tangle = bundleBytes (needing 1 3 ∷ needing 3 1 ∷ alone 9 ∷ alone 2 ∷ alone 4 ∷ [])
+abbrev pub mixedBundle : List ℕ
+mixedBundle = bundleBytes (needing 1 3 ∷ needing 3 1 ∷ alone 9 ∷ alone 2 ∷ alone 4 ∷ [])
 
 -- only component 4 lands
 abbrev pub MixedDevice : Type 0
-MixedDevice = map (λ c. isPending (c .staged)) (comes tangle mixed .device .components) ≡ false ∷ true ∷ false ∷ true ∷ replicate (COMPONENT-LIMIT - 4) false
+MixedDevice = map (λ c. isPending (c .staged)) (comes mixedBundle mixed .device .components) ≡ false ∷ true ∷ false ∷ true ∷ replicate (COMPONENT-LIMIT - 4) false
 
 abbrev pub MixedStaging : Type 0
-MixedStaging = comes tangle mixed .staging ≡ replicate 48 0 ++ image16 4
+MixedStaging = comes mixedBundle mixed .staging ≡ replicate 48 0 ++ image16 4
 
 -- the cycle is skipped twice, the absent and the pending component are rejected twice
 pub record MixedRuns : Type 0 where
-  pub premise : Premise tangle 7 mixed (replicate 64 0)
-  pub done : comes tangle mixed .host .stage ≡ Ended Done
-  pub says : map said (comes tangle mixed .trace)
+  pub premise : Premise mixedBundle 7 mixed (replicate 64 0)
+  pub done : comes mixedBundle mixed .host .stage ≡ Ended Done
+  pub says : map said (comes mixedBundle mixed .trace)
       ≡ code 0
       ∷ code 1 ∷ offered 1 OFFER-SKIP 0 ∷ offered 3 OFFER-SKIP 0 ∷ offered 9 OFFER-REJECT REJECT-INV-COMPONENT
       ∷ offered 2 OFFER-REJECT REJECT-SWAP-PENDING ∷ offered 4 OFFER-ACCEPT 0 ∷ block SUCCESS ∷ block SUCCESS ∷ code 2

@@ -83,15 +83,15 @@ pub record Smallest (d : Device) (b : List ℕ) (X : Set) : Type 0 where
   pub least : (Y : Set) → Closed d b Y → Within b X Y
 
 -- no member of X is for the component in slot k
-abbrev pub Spared : Device → (b : List ℕ) → Set → (k : ℕ) → Type 0
-Spared d b X k = (i : ℕ) → i < countIn b → T (X i) → find d (offerAt b i .id) ≡ At k → ⊥
+abbrev pub NotTargeted : Device → (b : List ℕ) → Set → (k : ℕ) → Type 0
+NotTargeted d b X k = (i : ℕ) → i < countIn b → T (X i) → find d (offerAt b i .id) ≡ At k → ⊥
 
 -- the device that a set leaves: each member's component is pending with the offered version, no other differs; idle, nothing owed, all else as before
 pub record Leaves (d : Device) (b : List ℕ) (X : Set) (d′ : Device) : Type 0 where
   pub same : d′ ≡ idleWith d (d′ .components)
   pub slots : length (d′ .components) ≡ length (d .components)
   pub members : (i k : ℕ) → i < countIn b → T (X i) → find d (offerAt b i .id) ≡ At k → component d′ k ≡ withStaged (component d k) (offerAt b i .version)
-  pub others : (k : ℕ) → Spared d b X k → component d′ k ≡ component d k
+  pub others : (k : ℕ) → NotTargeted d b X k → component d′ k ≡ component d k
 
 -- place j lies outside the regions of the members
 abbrev pub Untouched : Device → (b : List ℕ) → Set → (j : ℕ) → Type 0

@@ -25,7 +25,7 @@ use Rattle.update.specs.Trace.{Exchange, passesIn, completedIn}
 use Rattle.update.specs.Run.{run, boundOf, lastOf}
 
 -- a host that receives any replies, with the list of what it sent: step k receives reply k, which answers what step k - 1 sent
-pub record Talk : Type 0 where
+pub record HostRun : Type 0 where
   pub host : Host
   pub trace : List Exchange
 
@@ -33,14 +33,14 @@ abbrev pub heardAs : List (List ℕ) → (reply : List ℕ) → List Exchange
 heardAs [] reply = []
 heardAs (p ∷ ps) reply = record { packet = p; reply = reply } ∷ []
 
-unfoldable pub talk : (b : List ℕ) → (token : ℕ) → (replies : ℕ → List ℕ) → (steps : ℕ) → Talk
-talk b token replies zero = record { host = freshHost token; trace = [] }
-talk b token replies (suc k) = record {
-  host = stepOf b (talk b token replies k .host) (replies k) .host;
-  trace = talk b token replies k .trace ++ heardAs (stepOf b (talk b token replies k .host) (replies k) .sent) (replies (suc k));
+unfoldable pub hostSteps : (b : List ℕ) → (token : ℕ) → (replies : ℕ → List ℕ) → (steps : ℕ) → HostRun
+hostSteps b token replies zero = record { host = freshHost token; trace = [] }
+hostSteps b token replies (suc k) = record {
+  host = stepOf b (hostSteps b token replies k .host) (replies k) .host;
+  trace = hostSteps b token replies k .trace ++ heardAs (stepOf b (hostSteps b token replies k .host) (replies k) .sent) (replies (suc k));
 }
 
--- a packet that P2 allows: one of the builders builds it
+-- a packet that a builder answers, of fields of any size
 pub data Built : List ℕ → Type 0 where
   anInformation : (s : Signal) → Built (informationBytes s)
   anExtended : (s : Signal) → Built (extendedBytes s)
@@ -66,11 +66,11 @@ pub record Counted (b : List ℕ) (h : Host) (trace : List Exchange) : Type 0 wh
 -- from a fresh record over an accepted bundle, whatever replies are received
 pub record Ends (b : List ℕ) (token : ℕ) (replies : ℕ → List ℕ) : Type 0 where
   -- N1 is never met
-  pub served : (k : ℕ) → stepOf b (talk b token replies k .host) (replies k) .row ≡ served
+  pub served : (k : ℕ) → stepOf b (hostSteps b token replies k .host) (replies k) .row ≡ served
   -- an ended record is reached within the bound
-  pub ended : hasEnded (talk b token replies (boundOf b) .host .stage) ≡ true
-  -- every packet is one that P2 allows
-  pub built : (k : ℕ) → All Built (stepOf b (talk b token replies k .host) (replies k) .sent)
+  pub ended : hasEnded (hostSteps b token replies (boundOf b) .host .stage) ≡ true
+  -- every packet is one that a builder answers
+  pub built : (k : ℕ) → All Built (stepOf b (hostSteps b token replies k .host) (replies k) .sent)
 
 abbrev pub HostEnds : Type 0
 HostEnds = (b : List ℕ) (token : ℕ) (replies : ℕ → List ℕ) → Bytes b → bundle.bundleRow b ≡ bundle.served → token < 256 → Ends b token replies
@@ -83,17 +83,17 @@ RunEnds = (b : List ℕ) (token : ℕ) (d : Device) (staging reply : List ℕ) �
 -- at every step the packets and passes of the record are those of the list sent
 abbrev pub HostTallies : Type 0
 HostTallies = (b : List ℕ) (token : ℕ) (replies : ℕ → List ℕ) (k : ℕ) → Bytes b → bundle.bundleRow b ≡ bundle.served → token < 256
-    → (talk b token replies k .host .packets ≡ length (talk b token replies k .trace))
-    × (talk b token replies k .host .passes ≡ passesIn (talk b token replies k .trace))
+    → (hostSteps b token replies k .host .packets ≡ length (hostSteps b token replies k .trace))
+    × (hostSteps b token replies k .host .passes ≡ passesIn (hostSteps b token replies k .trace))
 
 -- after every step: the mask shows the completed offers of the list up to the reply that the step received, the packets that were sent before it with their
 -- replies
 abbrev pub HostMasks : Type 0
 HostMasks = (b : List ℕ) (token : ℕ) (replies : ℕ → List ℕ) (k : ℕ) → Bytes b → bundle.bundleRow b ≡ bundle.served → token < 256
-    → Masked b (talk b token replies (suc k) .host .mask) (talk b token replies k .trace)
+    → Masked b (hostSteps b token replies (suc k) .host .mask) (hostSteps b token replies k .trace)
 
 -- once it has ended, and so has received every reply of the list, all its counts are those of the list sent
 abbrev pub HostCounts : Type 0
 HostCounts = (b : List ℕ) (token : ℕ) (replies : ℕ → List ℕ) (k : ℕ) → Bytes b → bundle.bundleRow b ≡ bundle.served → token < 256
-    → hasEnded (talk b token replies k .host .stage) ≡ true
-    → Counted b (talk b token replies k .host) (talk b token replies k .trace)
+    → hasEnded (hostSteps b token replies k .host .stage) ≡ true
+    → Counted b (hostSteps b token replies k .host) (hostSteps b token replies k .trace)

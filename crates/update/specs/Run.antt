@@ -38,8 +38,8 @@ abbrev pub answerTo : List ℕ → Device → (staging : List ℕ) → Outcome
 answerTo p d staging = serveEntry d (channelOf p) staging p
 
 -- a packet is sent, and answered
-abbrev pub flight : List ℕ → Host → Device → (staging : List ℕ) → List Exchange → System
-flight p h d staging trace = record {
+abbrev pub afterPacket : List ℕ → Host → Device → (staging : List ℕ) → List Exchange → System
+afterPacket p h d staging trace = record {
   host = h;
   device = answerTo p d staging .device;
   staging = serveStaging d (channelOf p) staging p;
@@ -50,7 +50,7 @@ flight p h d staging trace = record {
 -- a step takes effect
 unfoldable pub deliver : List (List ℕ) → Host → System → System
 deliver [] h s = record { host = h; device = s .device; staging = s .staging; reply = s .reply; trace = s .trace }
-deliver (p ∷ ps) h s = flight p h (s .device) (s .staging) (s .trace)
+deliver (p ∷ ps) h s = afterPacket p h (s .device) (s .staging) (s .trace)
 
 -- one turn: the host's step on the last reply, and what it sends is answered
 unfoldable pub exchange : (b : List ℕ) → System → System

@@ -33,7 +33,7 @@ stepFrom b count hand e = innerOf b bundle.served count hand (e .cursor) (e .hos
 abbrev pub afterOf : Host → (cursor : ℕ) → Answer → BothEnds
 afterOf host cursor a = record { host = host; device = a .device; replies = a .replies; cursor = cursor }
 
--- what was sent takes effect, whichever record and cursor the step came to
+-- what was sent takes effect, whichever record and cursor the step came to; where nothing was sent, the answer has the device and the replies as they were
 abbrev pub Delivered : List (List ℕ) → BothEnds → (staging : List ℕ) → Answer → (staging : List ℕ) → Type 0
 Delivered sent e staging a staging′ =
     (host : Host) → (cursor : ℕ) → (trace : List Exchange) → Comes (deliver sent host (systemOf e staging trace)) (afterOf host cursor a) staging′

@@ -9,6 +9,10 @@ PROTOCOL = 2
 abbrev pub COMPONENT-LIMIT : ℕ
 COMPONENT-LIMIT = 7
 
+-- The highest id of a component; the lowest is 1.
+abbrev pub ID-LIMIT : ℕ
+ID-LIMIT = 0xDF
+
 -- Byte 2 of a 16-byte packet on the offer channel that is no offer.
 abbrev pub KIND-INFORMATION : ℕ
 KIND-INFORMATION = 0xFF

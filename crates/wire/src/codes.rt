@@ -6,6 +6,9 @@ pub const PROTOCOL: u8 = 2;
 // The most components that a device has: as many as a version reply holds.
 pub const COMPONENT_LIMIT: usize = 7;
 
+// The highest id of a component; the lowest is 1.
+pub const ID_LIMIT: u8 = 0xDF;
+
 // Byte 2 of a 16-byte packet on the offer channel that is no offer.
 pub const KIND_INFORMATION: u8 = 0xFF;
 

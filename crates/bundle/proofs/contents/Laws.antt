@@ -10,7 +10,7 @@ use lib.Dec.{eqb, ltb}
 use lib.ListN.{length, getD, set, take, drop, replicate, length-take, length-drop, length-map}
 use lib.Seq.{set-at, length-take-le}
 use Rattle.wire.specs.Checks.{any}
-use Rattle.wire.specs.Codes.{PROTOCOL}
+use Rattle.wire.specs.Codes.{PROTOCOL, ID-LIMIT}
 use Rattle.wire.specs.Rows.{served, Told}
 use Rattle.wire_offer.specs.declared.offer.OfferFields.{OfferFields}
 use Rattle.wire_offer.specs.declared.kind.OfferPacket.{OfferPacket}
@@ -33,15 +33,15 @@ use Rattle.bundle.proofs.table.Laws.{entryAt, length-entries, take-more
 -- the offer
 
 -- an id that row B5 allows
-pub good-id : (e : List ℕ) → badOffer e ≡ false → idIn e ≤ 0xDF
+pub good-id : (e : List ℕ) → badOffer e ≡ false → idIn e ≤ ID-LIMIT
 good-id e h =
-    let outside = ltb (idIn e) 1 || ltb 0xDF (idIn e) in
+    let outside = ltb (idIn e) 1 || ltb ID-LIMIT (idIn e) in
     let other = not (eqb (getD e 12 0) PROTOCOL) in
     let nonzero = any (λ (i : ℕ). not (eqb (getD e i 0) 0)) (0 ∷ 1 ∷ 3 ∷ 13 ∷ []) in
-    inside 1 0xDF (idIn e) (neither other outside (neither nonzero (other || outside) h .1) .1) .1
+    inside 1 ID-LIMIT (idIn e) (neither other outside (neither nonzero (other || outside) h .1) .1) .1
 
 -- sixteen bytes with such an id are an offer
-pub read-offer : (p : List ℕ) → length p ≡ 16 → idIn p ≤ 0xDF → readOf p ≡ record { row = served; value = offer (fieldsIn p) }
+pub read-offer : (p : List ℕ) → length p ≡ 16 → idIn p ≤ ID-LIMIT → readOf p ≡ record { row = served; value = offer (fieldsIn p) }
 unfolding readOf kindIn
 read-offer p l h = simp (l, ne-eqb (idIn p) 0xFF (λ z. omega arith), ne-eqb (idIn p) 0xFE (λ z. omega arith))
 

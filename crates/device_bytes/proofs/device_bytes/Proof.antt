@@ -1,17 +1,26 @@
--- `device_bytes` meets its contract: what stands before the components, and these. Assumes nothing.
-use mathlib.Core.Path.{refl, _∙_}
-use lib.ListN.{replicate}
-use Rattle.device_bytes.specs.Layout.{COMPONENTS-START, DEVICE-SIZE}
-use Rattle.device_bytes.proofs.Record.{device-of}
+-- `device_bytes` meets its contract: what stands before the session, the session, and the components. Assumes nothing.
+use mathlib.Core.Path.{refl, sym, ap, _∙_}
+use mathlib.Core.List.{List, _++_}
+use Prim.Native.Nat.{ℕ}
+use lib.ListN.{take, replicate}
+use Rattle.device_bytes.specs.Layout.{SESSION-START, COMPONENTS-START, DEVICE-SIZE, componentsBytes}
+use Rattle.device_bytes.proofs.Record.{head-put, device-of}
 use borrow.Author.Needs.{needs}
 use Rattle.device_bytes.proofs.device_bytes.Statement.{statement}
 use Rattle.device_bytes.proofs.device_bytes.Tie as tie
 
+slice-aggregate-store-session : tie.Need-slice-aggregate-store-session
+slice-aggregate-store-session c =
+    let h = c .before .before .before .before .before .before .head in
+    sym (head-put (replicate DEVICE-SIZE 0) (h .result) _ (c .before .before .before .before .before .before .before .args .d) SESSION-START refl refl (h .ensures) (c .before .before .before .copy .ensures) .0)
+
 returns : tie.Need-returns
 returns c =
-    c .with-components .ensures
-    ∙ device-of (replicate DEVICE-SIZE 0) (c .before .before .before .before .before .before .head .result) (c .before .before .before .copy .last .0) (c .before .before .before .before .before .before .before .args .d) COMPONENTS-START refl refl (c .before .before .before .before .before .before .head .ensures)
-    (c .before .before .before .copy .ensures)
+    let s = c .before .before .before .before in
+    let h = s .before .before .before .before .before .before .head in
+    let d = s .before .before .before .before .before .before .before .args .d in
+    let p = head-put (replicate DEVICE-SIZE 0) (h .result) _ d SESSION-START refl refl (h .ensures) (s .before .before .before .copy .ensures) in
+    c .with-components .ensures ∙ ap (λ (l : List ℕ). take COMPONENTS-START l ++ componentsBytes (d .components)) (c .before .before .before .store-session .ensures) ∙ device-of _ d (p .0) (p .1)
 
 pub device-bytes-spec : {M : Type 1} → statement M
 device-bytes-spec =
@@ -22,6 +31,8 @@ device-bytes-spec =
     (λ c. search needs)
     (λ c. search needs)
     (λ c. search needs)
+    (λ c κs. search needs)
+    slice-aggregate-store-session
     (λ c κs. search needs)
     (λ c κs. search needs)
     returns)

@@ -1,12 +1,11 @@
 -- `head` meets its contract: the fields' bytes, in their order. Assumes nothing.
-use Rattle.device_bytes.proofs.session.Laws.{head-of}
+use Rattle.device_bytes.proofs.Record.{head-of}
 use borrow.Author.Needs.{needs}
 use Rattle.device_bytes.proofs.head.Statement.{statement}
 use Rattle.device_bytes.proofs.head.Tie as tie
 
 returns : tie.Need-returns
-returns c =
-    head-of (c .before .before .before .before .args .d) _ _ _ (c .before .before .before .bytes16 .ensures) (c .before .before .bytes32 .ensures) (c .session-bytes .ensures)
+returns c = head-of (c .before .before .args .d) _ _ (c .before .bytes16 .ensures) (c .bytes32 .ensures)
 
 pub head-spec : {M : Type 1} → statement M
 head-spec =
@@ -14,14 +13,6 @@ head-spec =
     (tie.spec
     (λ c κs. search needs)
     (λ c κs. search needs)
-    (λ c κs. search needs)
-    (λ c. search needs)
-    (λ c. search needs)
-    (λ c. search needs)
-    (λ c. search needs)
-    (λ c. search needs)
-    (λ c. search needs)
-    (λ c. search needs)
     (λ c. search needs)
     (λ c. search needs)
     (λ c. search needs)

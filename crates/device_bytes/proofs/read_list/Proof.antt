@@ -1,11 +1,12 @@
 -- `read_list` meets its contract. After i turns the first i components are read. Assumes nothing.
-use mathlib.Core.Path.{_≡_, refl}
-use Prim.Native.Nat.{_-_, _≤_}
+use mathlib.Core.Path.{_≡_, refl, ap, _∙_}
+use Prim.Native.Nat.{_*_, _-_, _≤_}
 use native.Mathlib.Omega.{arith}
 use lib.ListN.{length, take}
 use Rattle.wire.specs.Codes.{COMPONENT-LIMIT}
+use Rattle.device_component_bytes.specs.Layout.{LISTED-SIZE, listedIn}
 use Rattle.device_bytes.specs.Layout.{listIn}
-use Rattle.device_bytes.proofs.Record.{listed-read, list-read}
+use Rattle.device_bytes.proofs.Record.{rest-least, listed-read, list-read}
 use borrow.Author.Needs.{needs}
 use Rattle.device_bytes.proofs.read_list.Statement.{statement}
 use Rattle.device_bytes.proofs.read_list.Tie as tie
@@ -22,8 +23,10 @@ loop-holds c = (search needs, search needs, refl)
 
 loop-again : tie.Need-loop-again Inv-loop μ-loop
 loop-again c =
-    let l = c .before .before .loop in
-    (search needs, search needs, listed-read (l .i) _ (l .list) _ (omega arith) (l .inv .2) (c .listed-at2 .ensures))
+    let l = c .before .before .before .before .loop in
+    let b = c .before .before .before .before .before .before .before .args .b .now in
+    let e = c .listed-in2 .ensures ∙ ap listedIn (rest-least (l .i * LISTED-SIZE) _ b (c .before .before .least .ensures)) in
+    (search needs, search needs, listed-read (l .i) b (l .list) _ (omega arith) (l .inv .2) e)
 
 returns : tie.Need-returns Inv-loop μ-loop
 returns c = let l = c .before .loop in list-read (l .i) _ (l .list) (omega arith) (l .inv .1) (l .inv .2)
@@ -36,6 +39,10 @@ read-list-spec =
     μ-loop
     (λ c κs. search needs)
     loop-holds
+    (λ c. search needs)
+    (λ c κs. search needs)
+    (λ c. search needs)
+    (λ c. search needs)
     (λ c. search needs)
     (λ c κs. search needs)
     (λ c. search needs)

@@ -1,18 +1,18 @@
 -- `with_components` meets its contract. After i turns the first i components are written. Assumes nothing.
 use Rattle.device_bytes.proofs.Record.{component-written, written}
-use mathlib.Core.Path.{_≡_, sym}
+use mathlib.Core.Path.{_≡_, sym, ap, _∙_}
 use mathlib.Core.List.{_++_, append-nil}
-use Prim.Native.Nat.{_+_, _*_, _-_, _≤_}
+use Prim.Native.Nat.{_+_, _-_, _≤_}
 use native.Mathlib.Omega.{arith}
 use lib.ListN.{length, take}
 use Rattle.wire.specs.Codes.{COMPONENT-LIMIT}
-use Rattle.device_bytes.specs.Layout.{DEVICE-SIZE, COMPONENTS-START, COMPONENT-SIZE, componentsBytes}
+use Rattle.device_bytes.specs.Layout.{DEVICE-SIZE, COMPONENTS-START, componentStart, componentsBytes}
 use borrow.Author.Needs.{needs}
 use Rattle.device_bytes.proofs.with_components.Statement.{statement}
 use Rattle.device_bytes.proofs.with_components.Tie as tie
 
 abbrev Inv-loop : tie.InvT-loop
-Inv-loop out₀ components i₀ out i = (i ≤ COMPONENT-LIMIT) × (length out ≡ DEVICE-SIZE) × (take (COMPONENTS-START + i * COMPONENT-SIZE) out ≡ take COMPONENTS-START out₀ ++ componentsBytes (take i components))
+Inv-loop out₀ components i₀ out i = (i ≤ COMPONENT-LIMIT) × (length out ≡ DEVICE-SIZE) × (take (componentStart i) out ≡ take COMPONENTS-START out₀ ++ componentsBytes (take i components))
 
 abbrev μ-loop : tie.MeasureT-loop
 μ-loop out₀ components i₀ out i = COMPONENT-LIMIT - i
@@ -23,12 +23,11 @@ loop-holds c = (search needs, search needs, sym (append-nil _))
 
 loop-again : tie.Need-loop-again Inv-loop μ-loop
 loop-again c =
-    let l = c .before .before .before .before .before .before .before .loop in
-    let a = c .before .before .before .before .before .before .before .before .args in
-    let at = COMPONENTS-START + l .i * COMPONENT-SIZE in
-    let p = c .before .before .before .before .component-bytes in
-    let w = component-written (l .out) (take COMPONENTS-START (a .t1)) (p .result) (c .before .copy .last .0) (a .t2) (l .i) (at + COMPONENT-SIZE - at) (omega arith) (search needs) (l .inv .1) (omega arith) (p .ensures) (c .before .copy .ensures) (l .inv .2) in
-    (omega arith, w .0, w .1)
+    let l = c .before .before .before .before .before .loop in
+    let a = c .before .before .before .before .before .before .args in
+    let w = component-written (l .out) (take COMPONENTS-START (a .t1)) (a .t2) (l .i) (omega arith) (search needs) (l .inv .1) (l .inv .2) in
+    let e = c .before .store-component .ensures in
+    (omega arith, ap length e ∙ w .0, ap (take (componentStart (l .i + 1))) e ∙ w .1)
 
 returns : tie.Need-returns Inv-loop μ-loop
 returns c =
@@ -42,11 +41,6 @@ with-components-spec =
     Inv-loop
     μ-loop
     loop-holds
-    (λ c. search needs)
-    (λ c. search needs)
-    (λ c κs. search needs)
-    (λ c. search needs)
-    (λ c. search needs)
     (λ c. search needs)
     (λ c. search needs)
     (λ c. search needs)

@@ -10,7 +10,7 @@ use borrow.Author.Tests.{ltb-false}
 use lib.Dec.{ltb, eqb}
 use lib.ListN.{length, take, set}
 use lib.Seq.{getD-take, map-set-same}
-use Rattle.wire.specs.Codes.{COMPONENT-LIMIT}
+use Rattle.wire.specs.Codes.{COMPONENT-LIMIT, ID-LIMIT}
 use Rattle.wire.specs.Checks.{firstOf, any, pairs}
 use Rattle.wire.specs.declared.version.Version.{Version}
 use Rattle.image.specs.declared.region.Region.{Region}
@@ -74,12 +74,12 @@ module _ (n count : ℕ) (components : List Component) (fine : setupVerdict n co
     taken k h = slot-taken count components k h (fine-slot k h)
 
     -- S3: an id is 1 to 0xDF
-    pub fine-id : (k : ℕ) → k < count → (1 ≤ componentAt components k .fixed .id) × (componentAt components k .fixed .id ≤ 0xDF)
+    pub fine-id : (k : ℕ) → k < count → (1 ≤ componentAt components k .fixed .id) × (componentAt components k .fixed .id ≤ ID-LIMIT)
     unfolding badIds
     fine-id k h =
         let e = any-none blankComponent (λ c. badId (c .fixed .id)) (take count components) (neither (any (λ c. badId (c .fixed .id)) (take count components)) _ (rows .2) .0) k (taken k h) in
-        let s = neither (ltb (componentAt components k .fixed .id) 1) (ltb 0xDF (componentAt components k .fixed .id)) (rw (getD-take count components k blankComponent h) at e) in
-        (ltb-false (componentAt components k .fixed .id) 1 (s .0), ltb-false 0xDF (componentAt components k .fixed .id) (s .1))
+        let s = neither (ltb (componentAt components k .fixed .id) 1) (ltb ID-LIMIT (componentAt components k .fixed .id)) (rw (getD-take count components k blankComponent h) at e) in
+        (ltb-false (componentAt components k .fixed .id) 1 (s .0), ltb-false ID-LIMIT (componentAt components k .fixed .id) (s .1))
 
     -- S3: two slots with one id are one slot
     pub fine-differ : (i j : ℕ) → i < count → j < count → componentAt components i .fixed .id ≡ componentAt components j .fixed .id → i ≡ j

@@ -7,7 +7,7 @@ use lib.Dec.{eqb}
 use lib.ListN.{take}
 use Rattle.wire.specs.Checks.{firstOf, any, pairs}
 use Rattle.device_component.specs.Versions.{keepsStaged}
-use Rattle.device_component.specs.Setup.{refusesSetup, stagingTooLong, badCount, badId, badIds, badRegion, badRegions, overlap, setupVerdict}
+use Rattle.device_component.specs.Setup.{isRefused, stagingTooLong, badCount, badId, badIds, badRegion, badRegions, overlap, setupVerdict}
 use Rattle.device_component.specs.Rules.{unsound}
 use Rattle.device_component.specs.declared.record.Component.{Component}
 use Rattle.device_component.specs.declared.setup.SetupVerdict.the-variants.{Fine, S1, S2, S3, S4}
@@ -33,7 +33,7 @@ module _ {A : Type 0} where
   pairs-or p q (x ∷ l) = rw (any-or (p x) (q x) l, pairs-or p q l) (exchange (any (p x) l) (any (q x) l) (pairs p l) (pairs q l))
 
 -- set-up's rows, as tests
-refuses : (t k x y : Bool) → refusesSetup (firstOf ((t, S1) ∷ (k, S2) ∷ (x, S3) ∷ (y, S4) ∷ []) Fine) ≡ (t || (k || (x || y)))
+refuses : (t k x y : Bool) → isRefused (firstOf ((t, S1) ∷ (k, S2) ∷ (x, S3) ∷ (y, S4) ∷ []) Fine) ≡ (t || (k || (x || y)))
 unfolding firstOf
 refuses true k x y = refl
 refuses false true x y = refl

@@ -13,7 +13,7 @@ use Rattle.image.specs.Region.{isInside}
 use Rattle.image.proofs.region.Within.{lies-inside}
 use Rattle.device_component.specs.Record.{isPending}
 use Rattle.device_component.specs.Lists.{componentAt}
-use Rattle.device_component.specs.Setup.{refusesSetup, setupVerdict}
+use Rattle.device_component.specs.Setup.{isRefused, setupVerdict}
 use Rattle.device_component.specs.declared.record.Component.{Component}
 use Rattle.device_component.specs.declared.list.Found.the-variants.{At}
 use Rattle.device_component.specs.declared.setup.SetupVerdict.{SetupVerdict}
@@ -31,7 +31,7 @@ pub record Passes (n count : ℕ) (components : List Component) (session : Sessi
   pub staged : stagedBelow count components ≡ false
 
 -- what no row of set-up refuses is fine
-pub fine : (v : SetupVerdict) → refusesSetup v ≡ false → v ≡ Fine
+pub fine : (v : SetupVerdict) → isRefused v ≡ false → v ≡ Fine
 fine Fine h = refl
 fine S1 h = absurd (true≢false h)
 fine S2 h = absurd (true≢false h)

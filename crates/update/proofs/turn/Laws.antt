@@ -58,7 +58,7 @@ use Rattle.host_decide.specs.declared.Move.{Move}
 use Rattle.host.proofs.inner.IsStep.{inner-is-step}
 use Rattle.update.specs.declared.turn.BothEnds.{BothEnds}
 use Rattle.update.specs.Trace.{Exchange}
-use Rattle.update.specs.Run.{System, channelOf, heard, flight, deliver, exchange, run, start, boundOf, lastOf}
+use Rattle.update.specs.Run.{System, channelOf, heard, afterPacket, deliver, exchange, run, start, boundOf, lastOf}
 use Rattle.update.specs.Turn.{replyOf, systemOf, Comes, stepFrom, afterOf, Delivered, Turned}
 use Rattle.update.proofs.Ready.{InStage, Ready, Goes, goes, step-moves, fresh-ready, owed-step}
 use Rattle.update.proofs.Talks.{deliver-host, run-next, ended-last}
@@ -144,7 +144,7 @@ module _ (e : BothEnds) where
       → Delivered (p ∷ []) e staging a staging′
   unfolding deliver
   answer-delivered p staging staging′ channel a c t s host cursor trace =
-      let last = flight p host (e .device) staging trace .trace in (
+      let last = afterPacket p host (e .device) staging trace .trace in (
         last,
         ap (λ (x : Channel). record {
           host = host;

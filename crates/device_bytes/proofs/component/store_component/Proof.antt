@@ -3,7 +3,7 @@ use mathlib.Core.Path.{_≡_}
 use Prim.Native.Nat.{_+_, _-_}
 use native.Mathlib.Omega.{arith}
 use Rattle.wire.proofs.Chain.{by}
-use Rattle.device_bytes.specs.Layout.{COMPONENT-SIZE, componentStart}
+use Rattle.device_component_bytes.specs.Layout.{COMPONENT-SIZE}
 use Rattle.device_bytes.proofs.component.Laws.{slot-within}
 use Rattle.device_bytes.proofs.Stored.{component-stored, component-stays}
 use borrow.Author.Needs.{needs}
@@ -11,14 +11,18 @@ use Rattle.device_bytes.proofs.component.store_component.Statement.{sta
 use Rattle.device_bytes.proofs.component.store_component.Tie as tie
 
 part-copy-end : tie.Need-part-copy-end
-part-copy-end c = slot-within (c .before .before .before .before .before .args .slot) (c .before .before .before .before .before .args .b .now) (by (c .before .before .has-slot .ensures) (c .before .if1 .taken))
+part-copy-end c =
+    let b = c .before in
+    let a = b .before .before .before .before .before .args in slot-within (a .slot) _ (a .b .now) (c .component-start .ensures) (by (b .before .before .has-slot .ensures) (b .before .if1 .taken))
 
 returns : tie.Need-returns
 returns c =
-    let b = c .before .before .before .before .before in
+    let s = c .before .before .before .before .before in
+    let b = s .before in
     let a = b .before .before .before .before .before .args in
-    let k : (componentStart (a .slot) + COMPONENT-SIZE) - componentStart (a .slot) ≡ COMPONENT-SIZE = omega arith in
-    component-stored (a .b .now) _ _ (a .slot) _ (a .component) (by (b .before .before .has-slot .ensures) (b .before .if1 .taken)) k (b .component-bytes .ensures) (c .before .before .copy .ensures)
+    let n = s .component-start .result in
+    let k : (n + COMPONENT-SIZE) - n ≡ COMPONENT-SIZE = omega arith in
+    component-stored (a .b .now) _ _ (a .slot) n _ (a .component) (by (b .before .before .has-slot .ensures) (b .before .if1 .taken)) (s .component-start .ensures) k (b .component-bytes .ensures) (c .before .before .copy .ensures)
 
 returns-2 : tie.Need-returns-2
 returns-2 c =
@@ -30,8 +34,7 @@ store-component-spec =
     (tie.spec
     (λ c κs. search needs)
     (λ c κs. search needs)
-    (λ c. search needs)
-    (λ c. search needs)
+    (λ c κs. search needs)
     (λ c. search needs)
     (λ c. search needs)
     (λ c. search needs)

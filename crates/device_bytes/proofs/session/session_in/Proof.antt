@@ -1,12 +1,15 @@
--- `session::session_in` meets its contract: each part from its bytes. Assumes nothing.
+-- `session::session_in` meets its contract: the bytes from the session's place on, or none. Assumes nothing.
+use mathlib.Core.Path.{ap, _∙_}
+use Rattle.device_session_bytes.specs.Layout.{sessionIn}
+use Rattle.device_bytes.specs.Layout.{SESSION-START}
+use Rattle.device_bytes.proofs.Record.{rest-least}
 use borrow.Author.Needs.{needs}
 use Rattle.device_bytes.proofs.session.session_in.Statement.{statement}
 use Rattle.device_bytes.proofs.session.session_in.Tie as tie
 
 returns : tie.Need-returns
 returns c =
-    let s = c .before .before .before in
-    rw (c .owed-in .ensures, c .before .byte-at7 .ensures, c .before .before .byte-at6 .ensures, s .stage-in .ensures, s .before .word16 .ensures, s .before .before .byte-at5 .ensures, s .before .before .before .byte-at4 .ensures, s .before .before .before .before .byte-at3 .ensures, s .before .before .before .before .before .byte-at2 .ensures, s .before .before .before .before .before .before .byte-at .ensures)
+    c .session-in .ensures ∙ ap sessionIn (rest-least SESSION-START _ (c .before .before .before .before .args .b .now) (c .before .before .least .ensures))
 
 pub session-in-spec : {M : Type 1} → statement M
 session-in-spec =
@@ -14,17 +17,7 @@ session-in-spec =
     (tie.spec
     (λ c κs. search needs)
     (λ c. search needs)
-    (λ c κs. search needs)
     (λ c. search needs)
-    (λ c κs. search needs)
     (λ c. search needs)
-    (λ c κs. search needs)
-    (λ c. search needs)
-    (λ c κs. search needs)
-    (λ c κs. search needs)
-    (λ c κs. search needs)
-    (λ c κs. search needs)
-    (λ c. search needs)
-    (λ c κs. search needs)
     (λ c κs. search needs)
     returns)

@@ -1,6 +1,6 @@
 -- `session::store_session` meets its contract: the session over its own bytes. Assumes nothing.
 use mathlib.Core.Path.{refl}
-use Rattle.device_bytes.specs.Layout.{SESSION-SIZE}
+use Rattle.device_session_bytes.specs.Layout.{SESSION-SIZE}
 use Rattle.device_bytes.proofs.Stored.{session-stored, session-stays}
 use borrow.Author.Needs.{needs}
 use Rattle.device_bytes.proofs.session.store_session.Statement.{statement}

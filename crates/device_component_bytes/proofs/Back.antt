@@ -1,0 +1,60 @@
+-- A component is bytes and reads back, its flag fits, and what is read of bytes fits. Assumes nothing.
+use mathlib.Core.Path.{_≡_, refl}
+use mathlib.Core.Bool.{Bool, true, false, cond}
+use mathlib.Core.List.{List, _++_}
+use Prim.Native.Nat.{ℕ}
+use native.Mathlib.Omega.{arith}
+use lib.Dec.{eqb, leb}
+use lib.ListN.{getD}
+use Rattle.wire.specs.Bytes.{Bytes, bytesOf}
+use Rattle.wire.specs.Version.{FitsVersion, versionAt, versionBytes}
+use Rattle.wire.specs.declared.version.Version.{Version}
+use Rattle.wire.proofs.Bounds.{cons-bytes, join-bytes, word-bytes, version-bytes, word-fits, version-fits}
+use Rattle.wire.proofs.version.Laws.{parts}
+use Rattle.wire.proofs.words.Laws.{round}
+use Rattle.device_component.specs.Record.{FitsStaged, FitsComponent}
+use Rattle.device_component.specs.declared.record.Component.{Component}
+use Rattle.device_component.specs.declared.record.Staged.{Staged}
+use Rattle.device_component.specs.declared.record.Staged.the-variants.{Nothing, Pending}
+use Rattle.device_component_bytes.specs.Layout.{WORD-SIZE, VERSION-SIZE, RUNNING-AT, REGION-AT, REGION-LEN-AT, STAGED-AT, STAGED-VERSION-AT, stagedBytes, regionBytes, componentBytes, componentIn, stagedFlagFits}
+
+-- what is staged is bytes, and so is a component
+staged-bytes : (s : Staged) → FitsStaged s → Bytes (stagedBytes s)
+staged-bytes Nothing f = cons-bytes 0 (bytesOf VERSION-SIZE 0) (omega arith) (word-bytes VERSION-SIZE 0)
+staged-bytes (Pending v) f = cons-bytes 1 (versionBytes v) (omega arith) (version-bytes v f)
+
+pub component-bytes : (c : Component) → FitsComponent c → Bytes (componentBytes c)
+component-bytes c f =
+    let r = c .fixed .region in
+    cons-bytes (c .fixed .id) (versionBytes (c .running) ++ (regionBytes r ++ stagedBytes (c .staged))) (f .fixed .id)
+    (join-bytes (versionBytes (c .running)) (regionBytes r ++ stagedBytes (c .staged)) (version-bytes (c .running) (f .running))
+    (join-bytes (regionBytes r) (stagedBytes (c .staged)) (join-bytes (bytesOf WORD-SIZE (r .base .0)) (bytesOf WORD-SIZE (r .len)) (word-bytes WORD-SIZE (r .base .0)) (word-bytes WORD-SIZE (r .len)))
+    (staged-bytes (c .staged) (f .staged))))
+
+-- a component reads back, whatever follows it
+pub component-back : (c : Component) (rest : List ℕ) → FitsComponent c → componentIn (componentBytes c ++ rest) ≡ c
+component-back c rest f = go (c .staged)
+  where
+    go : (s : Staged) → let x : Component = record { fixed = c .fixed; running = c .running; staged = s } in componentIn (componentBytes x ++ rest) ≡ x
+    go Nothing = simp (parts (c .running), round WORD-SIZE (c .fixed .region .base .0) (f .fixed .region .base), round WORD-SIZE (c .fixed .region .len) (f .fixed .region .len))
+    go (Pending w) = simp (parts (c .running), parts w, round WORD-SIZE (c .fixed .region .base .0) (f .fixed .region .base), round WORD-SIZE (c .fixed .region .len) (f .fixed .region .len))
+
+-- and its flag fits
+pub component-flag : (c : Component) (rest : List ℕ) → stagedFlagFits (componentBytes c ++ rest) ≡ true
+component-flag c rest = go (c .staged)
+  where
+    go : (s : Staged) → leb (getD (stagedBytes s ++ rest) 0 0) 1 ≡ true
+    go Nothing = refl
+    go (Pending v) = refl
+
+-- what is read of bytes fits
+staged-fits : (x : Bool) (v : Version) → FitsVersion v → FitsStaged (cond x (Pending v) Nothing)
+staged-fits true v f = f
+staged-fits false v f = tt
+
+pub component-fits : (q : List ℕ) → Bytes q → FitsComponent (componentIn q)
+component-fits q h = record {
+  fixed = record { id = h 0; region = record { base = word-fits WORD-SIZE REGION-AT q h; len = word-fits WORD-SIZE REGION-LEN-AT q h } };
+  running = version-fits RUNNING-AT q h;
+  staged = staged-fits (eqb (getD q STAGED-AT 0) 1) (versionAt STAGED-VERSION-AT q) (version-fits STAGED-VERSION-AT q h);
+}

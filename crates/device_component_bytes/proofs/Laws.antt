@@ -1,0 +1,33 @@
+-- The bytes of a component, and their number. Assumes nothing.
+use mathlib.Core.Path.{_≡_, refl, ap, _∙_}
+use mathlib.Core.List.{List, _∷_, _++_}
+use Prim.Native.Nat.{ℕ}
+use lib.ListN.{length}
+use Rattle.wire.specs.Version.{versionBytes}
+use Rattle.wire.specs.Bytes.{bytesOf, bytesAt}
+use Rattle.device_component.specs.declared.record.Staged.{Staged}
+use Rattle.device_component.specs.declared.record.Staged.the-variants.{Nothing, Pending}
+use Rattle.device_component.specs.declared.record.Component.{Component}
+use Rattle.device_component_bytes.specs.Layout.{WORD-SIZE, VERSION-SIZE, STAGED-SIZE, COMPONENT-SIZE, stagedBytes, componentBytes}
+
+-- what is staged is so many bytes, each by its place
+staged-each : (s : Staged) → bytesAt STAGED-SIZE 0 (stagedBytes s) ≡ stagedBytes s
+staged-each Nothing = refl
+staged-each (Pending v) = refl
+
+staged-sized : (s : Staged) → length (stagedBytes s) ≡ STAGED-SIZE
+staged-sized Nothing = refl
+staged-sized (Pending v) = refl
+
+-- a component is as many bytes as it has in a record
+pub component-sized : (c : Component) → length (componentBytes c) ≡ COMPONENT-SIZE
+component-sized c = rw (staged-sized (c .staged))
+
+-- a component, from the bytes of each field
+pub component-of : (c : Component) (v b l s : List ℕ) → v ≡ versionBytes (c .running) → b ≡ bytesOf WORD-SIZE (c .fixed .region .base .0)
+    → l ≡ bytesOf WORD-SIZE (c .fixed .region .len) → s ≡ stagedBytes (c .staged)
+    → c .fixed .id ∷ bytesAt VERSION-SIZE 0 v ++ (bytesAt WORD-SIZE 0 b ++ (bytesAt WORD-SIZE 0 l ++ bytesAt STAGED-SIZE 0 s)) ≡ componentBytes c
+component-of c v b l s e f g h =
+    rw (e, f, g)
+    (ap (λ (t : List ℕ). c .fixed .id ∷ versionBytes (c .running) ++ (bytesOf WORD-SIZE (c .fixed .region .base .0) ++ (bytesOf WORD-SIZE (c .fixed .region .len) ++ t)))
+    (ap (bytesAt STAGED-SIZE 0) h ∙ staged-each (c .staged)))

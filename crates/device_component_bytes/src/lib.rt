@@ -1,0 +1,139 @@
+// A component of the device as bytes: id, running version, region, what is staged; and one of the list that set-up takes. What is read stands in bytes
+// that start at the component; past their end a byte is 0.
+ghost use mathlib.Core.Path.{_≡_};
+ghost use mathlib.Core.Bool.{cond};
+ghost use lib.Dec.{eqb};
+ghost use Rattle.device_component.specs.declared.record.Staged.the-variants.{Nothing, Pending};
+ghost use Rattle.device_component_bytes.specs.Layout.{stagedBytes, componentBytes, fixedIn, componentIn, listedIn, stagedFlagFits};
+use device_component::record::Component;
+use device_component::record::Fixed;
+use device_component::record::Listed;
+use device_component::record::Staged;
+use image::region::Region;
+use image::region::StagingOffset;
+use wire::version::Version;
+use wire::words;
+
+// The lengths of a word, of a version, of a region, and of what is staged: a flag and a version.
+const WORD_SIZE: usize = 4;
+
+const VERSION_SIZE: usize = 4;
+
+const REGION_SIZE: usize = WORD_SIZE + WORD_SIZE;
+
+const STAGED_SIZE: usize = 1 + VERSION_SIZE;
+
+// Where the parts of a component stand behind its id: the running version, the region and its length, what is staged and its version; and the length of all.
+const RUNNING_AT: usize = 1;
+
+const REGION_AT: usize = RUNNING_AT + VERSION_SIZE;
+
+const REGION_LEN_AT: usize = REGION_AT + WORD_SIZE;
+
+const STAGED_AT: usize = REGION_AT + REGION_SIZE;
+
+const STAGED_VERSION_AT: usize = STAGED_AT + 1;
+
+pub const COMPONENT_SIZE: usize = STAGED_AT + STAGED_SIZE;
+
+// The length of a component of the list, of which nothing is staged.
+pub const LISTED_SIZE: usize = REGION_AT + REGION_SIZE;
+
+fn staged_bytes(s: Staged) -> [u8; STAGED_SIZE]
+    ensures { λ r. ⌜ r ≡ stagedBytes s ⌝ }
+{
+    match s {
+        Staged::Nothing => [0u8; STAGED_SIZE],
+        Staged::Pending(v) => {
+            let b = v.bytes();
+            [1, b[0], b[1], b[2], b[3]]
+        }
+    }
+}
+
+pub fn component_bytes(c: Component) -> [u8; COMPONENT_SIZE]
+    ensures { λ r. ⌜ r ≡ componentBytes c ⌝ }
+{
+    let running = c.running;
+    let v = running.bytes();
+    let b = words::bytes32(c.fixed.region.base.number());
+    let l = words::bytes32(c.fixed.region.len);
+    let staged = c.staged;
+    let s = staged_bytes(staged);
+    [
+        c.fixed.id,
+        v[0],
+        v[1],
+        v[2],
+        v[3],
+        b[0],
+        b[1],
+        b[2],
+        b[3],
+        l[0],
+        l[1],
+        l[2],
+        l[3],
+        s[0],
+        s[1],
+        s[2],
+        s[3],
+        s[4],
+    ]
+}
+
+// What is fixed of a component.
+fn fixed_in(q: &[u8]) -> Fixed
+    ensures { λ r. ⌜ r ≡ fixedIn (now (q .entry)) ⌝ }
+{
+    let region = Region {
+        base: StagingOffset::new(words::word32_at(q, REGION_AT as u16)),
+        len: words::word32_at(q, REGION_LEN_AT as u16),
+    };
+    Fixed {
+        id: words::byte_at(q, 0),
+        region,
+    }
+}
+
+fn staged_in(staged: u8, v: Version) -> Staged
+    ensures { λ r. ⌜ r ≡ cond (eqb staged 1) (Pending v) Nothing ⌝ }
+{
+    if staged == 1 {
+        Staged::Pending(v)
+    } else {
+        Staged::Nothing
+    }
+}
+
+// The component, unjudged.
+pub fn component_in(q: &[u8]) -> Component
+    ensures { λ r. ⌜ r ≡ componentIn (now (q .entry)) ⌝ }
+{
+    let fixed = fixed_in(q);
+    let running = Version::read_at(q, RUNNING_AT as u16);
+    let version = Version::read_at(q, STAGED_VERSION_AT as u16);
+    let staged = staged_in(words::byte_at(q, STAGED_AT), version);
+    Component {
+        fixed,
+        running,
+        staged,
+    }
+}
+
+// A component of the list that set-up takes.
+pub fn listed_in(q: &[u8]) -> Listed
+    ensures { λ r. ⌜ r ≡ listedIn (now (q .entry)) ⌝ }
+{
+    Listed {
+        fixed: fixed_in(q),
+        running: Version::read_at(q, RUNNING_AT as u16),
+    }
+}
+
+// The flag of what is staged is one that a component has.
+pub fn staged_flag_fits(q: &[u8]) -> bool
+    ensures { λ r. ⌜ r ≡ stagedFlagFits (now (q .entry)) ⌝ }
+{
+    words::byte_at(q, STAGED_AT) <= 1
+}

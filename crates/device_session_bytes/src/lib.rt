@@ -1,0 +1,103 @@
+// The session of a device as bytes: the stage, and the ready-reply that is owed. What is read stands in bytes that start at the session; past their end a
+// byte is 0.
+ghost use mathlib.Core.Path.{_≡_};
+ghost use Rattle.device_session_bytes.specs.Layout.{stageBytes, owedBytes, sessionBytes, stageIn, owedIn, sessionIn, sessionFlagsFit};
+use device_session::effect::Session;
+use device_session::owed::Owed;
+use device_session::stage::Offered;
+use device_session::stage::Receiving;
+use device_session::stage::Stage;
+use wire::words;
+
+// Where the parts of a stage stand behind its number: the slot, the token, the next sequence; and its length.
+const SLOT_AT: usize = 1;
+
+const TOKEN_AT: usize = SLOT_AT + 1;
+
+const NEXT_AT: usize = TOKEN_AT + 1;
+
+const STAGE_SIZE: usize = NEXT_AT + 2;
+
+// Where what is owed stands behind the stage, and its token; its length, and that of the session.
+const OWED_AT: usize = STAGE_SIZE;
+
+const OWED_TOKEN_AT: usize = OWED_AT + 1;
+
+const OWED_SIZE: usize = 1 + 1;
+
+pub const SESSION_SIZE: usize = STAGE_SIZE + OWED_SIZE;
+
+fn stage_bytes(stage: Stage) -> [u8; STAGE_SIZE]
+    ensures { λ r. ⌜ r ≡ stageBytes stage ⌝ }
+{
+    match stage {
+        Stage::Idle => [0u8; STAGE_SIZE],
+        Stage::Offered(o) => [1, o.slot, o.token, 0, 0],
+        Stage::Receiving(r) => {
+            let n = words::bytes16(r.next);
+            [2, r.slot, r.token, n[0], n[1]]
+        }
+    }
+}
+
+fn owed_bytes(owed: Owed) -> [u8; OWED_SIZE]
+    ensures { λ r. ⌜ r ≡ owedBytes owed ⌝ }
+{
+    match owed {
+        Owed::Nothing => [0u8; OWED_SIZE],
+        Owed::Token(t) => [1, t],
+    }
+}
+
+pub fn session_bytes(session: Session) -> [u8; SESSION_SIZE]
+    ensures { λ r. ⌜ r ≡ sessionBytes session ⌝ }
+{
+    let stage = session.stage;
+    let owed = session.owed;
+    let s = stage_bytes(stage);
+    let o = owed_bytes(owed);
+    [s[0], s[1], s[2], s[3], s[4], o[0], o[1]]
+}
+
+fn stage_in(stage: u8, slot: u8, token: u8, next: u16) -> Stage
+    ensures { λ r. ⌜ r ≡ stageIn stage slot token next ⌝ }
+{
+    if stage == 1 {
+        return Stage::Offered(Offered { slot, token });
+    }
+    if stage == 2 {
+        return Stage::Receiving(Receiving { slot, token, next });
+    }
+    Stage::Idle
+}
+
+fn owed_in(owed: u8, token: u8) -> Owed
+    ensures { λ r. ⌜ r ≡ owedIn owed token ⌝ }
+{
+    if owed == 1 {
+        Owed::Token(token)
+    } else {
+        Owed::Nothing
+    }
+}
+
+// The session, unjudged.
+pub fn session_in(q: &[u8]) -> Session
+    ensures { λ r. ⌜ r ≡ sessionIn (now (q .entry)) ⌝ }
+{
+    let stage = stage_in(
+        words::byte_at(q, 0),
+        words::byte_at(q, SLOT_AT),
+        words::byte_at(q, TOKEN_AT),
+        words::word16_at(q, NEXT_AT as u16),
+    );
+    let owed = owed_in(words::byte_at(q, OWED_AT), words::byte_at(q, OWED_TOKEN_AT));
+    Session { stage, owed }
+}
+
+// The flags are such as a session has.
+pub fn session_flags_fit(q: &[u8]) -> bool
+    ensures { λ r. ⌜ r ≡ sessionFlagsFit (now (q .entry)) ⌝ }
+{
+    (words::byte_at(q, 0) <= 2) & (words::byte_at(q, OWED_AT) <= 1)
+}

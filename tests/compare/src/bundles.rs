@@ -42,7 +42,7 @@ pub fn entries_in(bundle: &[u8]) -> Vec<Entry> {
 
 /// Any offers and any records, of a bundle that the check accepts.
 pub fn any_entries(r: &mut Random, most_records: usize) -> Vec<Entry> {
-    let mut ids: Vec<u8> = (1..=9).chain([0xDF]).collect();
+    let mut ids: Vec<u8> = (1..=9).chain([ID_LIMIT]).collect();
     r.shuffle(&mut ids);
     let count = r.between(1, OFFER_LIMIT);
     ids.iter()
@@ -108,7 +108,7 @@ fn damage(r: &mut Random, bytes: &mut Vec<u8>) {
             bytes[own + r.pick(&[offer_at::SEGMENT, offer_at::FLAGS, offer_at::TOKEN, offer_at::PROTOCOL, offer_at::RESERVED])] =
                 r.pick(&[0, 1, 2, 3, 0x12, 255])
         }
-        7 if has_table => bytes[own + offer_at::ID] = r.pick(&[0, 1, 0xDF, 0xE0, 0xFE, 0xFF]),
+        7 if has_table => bytes[own + offer_at::ID] = r.pick(&[0, 1, ID_LIMIT, ID_LIMIT + 1, 0xFE, 0xFF]),
         8 if has_table => bytes[own + offer_at::ID] = bytes[entry_start(r.below(count)) + offer_at::ID],
         9 if has_table => add(bytes, offset, r.pick(&[1, -1, 24, -24, i32::MIN])),
         10 if has_table => add(bytes, length, r.pick(&[1, -1, 5, -5, i32::MIN])),

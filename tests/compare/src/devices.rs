@@ -38,7 +38,7 @@ pub fn valid_device(r: &mut Random) -> DeviceRecord {
     // Ids near each other, so that offers meet them; sometimes those at the border.
     let mut ids: Vec<u8> = (1..=9).collect();
     if r.percent(20) {
-        ids.extend([0xDF, 0xDE, 0x80]);
+        ids.extend([ID_LIMIT, ID_LIMIT - 1, 0x80]);
     }
     r.shuffle(&mut ids);
     for (slot, id) in ids.iter().enumerate().take(count) {
@@ -174,7 +174,7 @@ pub fn broken_device(r: &mut Random, aim: &'static str) -> Vec<u8> {
         "D1: count 0" => record.count = 0,
         "D1: count over 7" => record.count = r.pick(&[COMPONENT_LIMIT as u8 + 1, COMPONENT_LIMIT as u8 + 2, 128, 255]),
         "D1: id 0" => record.parts[slot].id = 0,
-        "D1: id over 0xDF" => record.parts[slot].id = r.pick(&[0xE0, 0xFD, 0xFE, 0xFF]),
+        "D1: id over 0xDF" => record.parts[slot].id = r.pick(&[ID_LIMIT + 1, 0xFD, 0xFE, 0xFF]),
         "D1: id repeated" => record.parts[slot].id = record.parts[next_slot].id,
         "D1: region under 8" => record.parts[slot].length = r.below(REGION_LEAST) as u32,
         "D1: region past the buffer" => {
@@ -442,7 +442,7 @@ fn signal(r: &mut Random, kind: u8, codes: &[u8]) -> Vec<u8> {
 fn offer(r: &mut Random, record: &DeviceRecord) -> Vec<u8> {
     let listed = record.listed();
     let chosen = if listed.is_empty() { Part::default() } else { r.pick(listed) };
-    let id = if r.percent(92) { chosen.id } else { r.pick(&[0, 10, 0xDF, 0xE0, 0xFD, r.clone().byte()]) };
+    let id = if r.percent(92) { chosen.id } else { r.pick(&[0, 10, ID_LIMIT, ID_LIMIT + 1, 0xFD, r.clone().byte()]) };
     let version = match r.below(20) {
         0 => chosen.running,
         1 => chosen.running.wrapping_sub(1),

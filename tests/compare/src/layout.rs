@@ -22,6 +22,7 @@ pub const BUNDLE_LIMIT: usize = 65536;
 pub const COMPONENT_LIMIT: usize = 7;
 pub const OFFER_LIMIT: usize = 7;
 pub const REGION_LEAST: usize = 8;
+pub const ID_LIMIT: u8 = 0xDF;
 
 pub const SERVED: u32 = 0;
 pub const C1: u32 = 0x4301;

@@ -1,5 +1,5 @@
 /*
- * cfu.h: the C interface of the proved CFU updater (library libc_api.a, crate crates/c_api).
+ * cfu.h: the C interface of the proved CFU updater (library libcfu.a, crates crates/c_*).
  *
  * The device end, the host end, the check of a bundle, and the building and reading of each packet of CFU, Microsoft's Component Firmware Update protocol.
  * C99, also C++.
@@ -20,10 +20,10 @@
  *   - the number of a refusal. Refusals are rows of the updater's build document (docs/RULES.md restates them): a letter and a number, here the letter's
  *     ASCII code times 256 plus the number, so that D1 is 0x4401 ('D' is 0x44).
  *
- * A refusal leaves every record and the staging buffer as they were, and every other field of a returned struct is 0, except the entry that a B row names and
- * the fields of a report with N1, which are those of the record as it is read. What it leaves in a buffer for output is said at each call. The first row that
- * applies is returned: C1, C2, C3, then the others in the order of their numbers, B rows before N1. C1 to C3 are this interface's own: with one of them nothing
- * at all is changed.
+ * A refusal leaves every record, the staging buffer and the contents that are lent to a step as they were, and every other field of a returned struct is 0,
+ * except the entry that a B row names and the fields of a report with N1, which are those of the record as it is read. What it leaves in a buffer for output is
+ * said at each call. The first row that applies is returned: C1, C2, C3, then the others in the order of their numbers, B rows before N1. C1 to C3 are this
+ * interface's own: with one of them nothing at all is changed.
  *
  * CFU_SERVED says that the call was carried out, not that the peer agreed: REJECT, SKIP, BUSY and the errors of a block stand in the packets, and how a host
  * ended stands in its report.
@@ -39,7 +39,7 @@
 
 /* The library is built for x86-64. For another target take the Rust crate that tools/rust_crate makes. */
 #if SIZE_MAX != 0xFFFFFFFFFFFFFFFF
-#error "libc_api.a has a size_t of 64 bits"
+#error "libcfu.a has a size_t of 64 bits"
 #endif
 
 #ifdef __cplusplus
@@ -49,14 +49,53 @@ extern "C" {
 /* ---- Sizes of lent buffers, in bytes ---- */
 
 #define CFU_DEVICE_SIZE 140     /* a device's record */
-#define CFU_LIST_SIZE 91        /* the list that set-up takes: seven times 13 */
+#define CFU_LIST_SIZE 91        /* the list that set-up takes: CFU_COMPONENT_LIMIT times 13 */
 #define CFU_HOST_SIZE 24        /* a host's record */
 #define CFU_CONTENTS_SIZE 103   /* what the check of a bundle answers, with the host's cursor */
 #define CFU_REPLIES_SIZE 32     /* up to two replies of the device */
 #define CFU_SHORT_SIZE 16       /* offer, information, extended, and both replies */
 #define CFU_LONG_SIZE 60        /* content, version reply */
+#define CFU_DATA_AT 8           /* where the data of a content packet stand */
 #define CFU_DATA_SIZE 52        /* the data of a content packet */
-#define CFU_COMPONENTS_SIZE 49  /* the components of a version reply: seven times 7 */
+#define CFU_COMPONENTS_SIZE 49  /* the components of a version reply: CFU_COMPONENT_LIMIT times 7 */
+
+/* ---- Places in lent bytes, and the sizes of parts that stand there several times ---- */
+
+/* A device's record: its session, the ready-reply in it, the components. A component: its running version, its region (base, then length), whether a version is
+ * staged (then that version). A component of set-up's list: what stands before that. */
+#define CFU_DEVICE_SESSION_AT 7
+#define CFU_DEVICE_OWED_AT 12
+#define CFU_DEVICE_COMPONENTS_AT 14
+#define CFU_COMPONENT_SIZE 18
+#define CFU_COMPONENT_RUNNING_AT 1
+#define CFU_COMPONENT_REGION_AT 5
+#define CFU_COMPONENT_STAGED_AT 13
+#define CFU_LISTED_SIZE 13
+
+/* A component of a version reply as it is lent: its running version, its id, the platform. */
+#define CFU_RUNNING_SIZE 7
+#define CFU_RUNNING_ID_AT 4
+
+/* A bundle: what stands before the table, and an entry of it, which begins with the offer. */
+#define CFU_BUNDLE_HEAD_SIZE 8
+#define CFU_BUNDLE_ENTRY_SIZE 24
+
+/* The contents of a checked bundle: the bodies, the block that the cursor is kept for, the cursor. A body: how many records it has. */
+#define CFU_CONTENTS_BODIES_AT 3
+#define CFU_BODY_SIZE 12
+#define CFU_BODY_RECORDS_AT 8
+#define CFU_CONTENTS_HAND_AT 87
+#define CFU_CONTENTS_CURSOR_AT 95
+
+/* A host's record: the stage and its two numbers, the mask, and the two flags of the pass. */
+#define CFU_HOST_STAGE_AT 1
+#define CFU_HOST_FIRST_AT 2
+#define CFU_HOST_SECOND_AT 6
+#define CFU_HOST_MASK_AT 10
+#define CFU_HOST_SKIPPED_AT 22
+#define CFU_HOST_LANDED_AT 23
+
+/* ---- Limits ---- */
 
 /* The largest staging buffer and the largest bundle, the most components and the most offers, the smallest region, the highest id of a component. */
 #define CFU_STAGING_LIMIT 65536
@@ -70,13 +109,14 @@ extern "C" {
 
 #define CFU_SERVED 0
 
-/* A lent buffer is not of its size. C1: a record; or contents with a row or a count that no check leaves. C2: a list or data that is read. C3: a
- * buffer for what comes out. */
+/* A lent buffer is not of its size. C1: a record or contents; also contents with a row over that of CFU_B8, or with no row and a count of offers that is not 1
+ * to CFU_OFFER_LIMIT. C2: a list or data that is read. C3: a buffer for what comes out. */
 #define CFU_C1 0x4301
 #define CFU_C2 0x4302
 #define CFU_C3 0x4303
 
-/* Set-up: staging over 65,536 bytes; a count not 1 to 7; an id outside 1 to 0xDF or repeated; a region under 8 bytes, past the buffer or over another. */
+/* Set-up: staging over 65,536 bytes; a count not 1 to CFU_COMPONENT_LIMIT; an id outside 1 to 0xDF or repeated; a region under 8 bytes, past the buffer or over
+ * another. */
 #define CFU_S1 0x5301
 #define CFU_S2 0x5302
 #define CFU_S3 0x5303
@@ -90,8 +130,8 @@ extern "C" {
 #define CFU_D3 0x4403
 
 /* Packets. P1, reading: another length than the packet's. P2, building: an offer with an id over 0xFD, a least version of 2^24 or more, a protocol over 15,
- * or I or V over 1; content with a flag other than the two or a length not 1 to 52; a version reply, also when read, with a count over 7 or a protocol other
- * than 2. */
+ * or I or V over 1; content with a flag other than the two or a length not 1 to 52; a version reply, also when read, with a count over CFU_COMPONENT_LIMIT or
+ * a protocol other than 2. */
 #define CFU_P1 0x5001
 #define CFU_P2 0x5002
 
@@ -99,10 +139,10 @@ extern "C" {
  * passes than offers or 2^31 packets or more, or has a mask bit past its offers. */
 #define CFU_N1 0x4E01
 
-/* Bundle. B1: under 8 or over 65,536 bytes. B2: byte 1 not 1, or bytes 2 to 7 not zero. B3: a count not 1 to 7. B4: a table past the end. B5: an offer whose
- * bytes 0, 1, 3 or 13 are not zero, whose byte 12 is not 2 or whose id is outside 1 to 0xDF. B6: an id that an earlier entry has. B7: a body that does not
- * start where the table or the body before ends, or a last one that does not end with the file. B8: an empty body, a cut record, or a record of length 0 or
- * over 52. */
+/* Bundle. B1: under 8 or over 65,536 bytes. B2: byte 1 not 1, or bytes 2 to 7 not zero. B3: a count not 1 to CFU_OFFER_LIMIT. B4: a table past the end. B5: an
+ * offer whose bytes 0, 1, 3 or 13 are not zero, whose byte 12 is not 2 or whose id is outside 1 to 0xDF. B6: an id that an earlier entry has. B7: a body that
+ * does not start where the table or the body before ends, or a last one that does not end with the file. B8: an empty body, a cut record, or a record of length
+ * 0 or over 52. */
 #define CFU_B1 0x4201
 #define CFU_B2 0x4202
 #define CFU_B3 0x4203
@@ -260,18 +300,20 @@ typedef struct cfu_report {
  *     7  stage (1): 0 idle, 1 offered, 2 receiving
  *     8  slot (1): the component's place in the list, from 0; 9 token (1), 10 next sequence (2)
  *    12  owed ready-reply (1): 0 none, 1 owed; 13 its token (1)
- *    14  seven times 18 bytes: id (1), running version (4), region base (4), region length (4), staged (1): 0 nothing, 1 pending; staged version (4)
+ *    14  CFU_COMPONENT_LIMIT times 18 bytes: id (1), running version (4), region base (4), region length (4), staged (1): 0 nothing, 1 pending; staged
+ *        version (4)
  * Only these calls need to write one; byte 14 + 18 i + 13 tells whether component i is pending. Fields that the stage does not have, the token where none is
  * owed and the staged version where nothing is staged are not looked at, whatever stands there; a call that writes the session or the component writes zero
  * there. A served offer call writes the session anew, a served content call the session and the component that it was on (the first while it was idle), set-up
- * and a reset the whole record. Bytes with another stage, owed or staged than these are refused by D1, in the components that are not in use too, and so is a record that breaks the
- * rules of a device. All zeros are such: zero a record before set-up, and a refused set-up leaves one that no call serves.
+ * and a reset the whole record; so a packet that changes nothing of the record may still put zeros for bytes that are not looked at. Bytes with another stage,
+ * owed or staged than these are refused by D1, in the components that are not in use too, and so is a record that breaks the rules of a device. All zeros are
+ * such: zero a record before set-up, and a refused set-up leaves one that no call serves.
  */
 
 /*
- * Makes the record of a device that is idle, with nothing staged and nothing owed. list: seven times id (1), running version (4), region base (4), region
- * length (4), CFU_LIST_SIZE bytes, of which the first `count` are used; all seven are copied into the record. Of the staging buffer, plain memory, only the
- * length counts, which later calls must lend again. Returns CFU_SERVED, C1 (device), C2 (list) or S1 to S4. A refusal leaves the record as it was.
+ * Makes the record of a device that is idle, with nothing staged and nothing owed. list: CFU_COMPONENT_LIMIT times id (1), running version (4), region base
+ * (4), region length (4), CFU_LIST_SIZE bytes, of which the first `count` are used; all are copied into the record. Of the staging buffer, plain memory, only
+ * the length counts, which later calls must lend again. Returns CFU_SERVED, C1 (device), C2 (list) or S1 to S4. A refusal leaves the record as it was.
  */
 uint32_t cfu_device_set_up(uint8_t *device, size_t device_len, uint16_t platform, const uint8_t *list, size_t list_len, uint8_t count,
                            const uint8_t *staging, size_t staging_len);
@@ -309,11 +351,11 @@ uint32_t cfu_device_reset(uint8_t *device, size_t device_len);
  * The contents of a checked bundle, CFU_CONTENTS_SIZE bytes:
  *     0  row (1): 1 to 8 for B1 to B8, 0 where none refuses the bundle; 1 the entry that it names (1)
  *     2  count of offers (1), 0 where a row refuses
- *     3  seven times 12 bytes: body offset (4), body length (4), records (4); zero past the count
+ *     3  CFU_OFFER_LIMIT times 12 bytes: body offset (4), body length (4), records (4); zero past the count
  *    87  the block that the cursor is kept for: its entry (4), and 91 its number in the body (4), both counted from 0; all ones where there is none
  *    95  the host's cursor (8): the offset in the bundle of the record after that block's
- * Only these calls need to write them. Contents of another size, of another row, or of no or more than 7 offers where no row refuses, are refused by C1: all
- * zeros are such.
+ * Only these calls need to write them. Contents of another size, of another row, or of no offer or more than CFU_OFFER_LIMIT where no row refuses, are refused
+ * by C1: all zeros are such.
  */
 
 /*
@@ -364,17 +406,18 @@ cfu_step cfu_host_step_checked(uint8_t *host, size_t host_len, uint8_t *contents
 
 /*
  * How far a host is. Returns CFU_SERVED, C1 (host) with zeros, or N1 for a record that counts 2^31 packets or more or has a stage, an end or a flag that
- * no record has; the other clauses of N1 need a bundle. With such a stage, end or flag the bytes are read as a running host of 4,294,967,295 packets, whose
- * other counts are zero.
+ * no record has; the other clauses of N1 are judged by the steps and not here. With such a stage, end or flag the bytes are read as a running host of
+ * 4,294,967,295 packets, whose other counts are zero.
  */
 cfu_report cfu_host_report(const uint8_t *host, size_t host_len);
 
 /*
  * ---- Packets ----
  *
- * Building writes a packet of CFU_LONG_SIZE bytes (version reply, content) or CFU_SHORT_SIZE bytes (all others) and returns CFU_SERVED, C2, C3, or P2 with
- * the packet zeroed. Information, extended and the two replies hold any value of their fields and are never refused by P2. What is built reads back to the same
- * fields, unused data as zero. The components of a version reply, CFU_COMPONENTS_SIZE bytes: seven times running version (4), id (1), platform (2).
+ * Building writes a packet of CFU_LONG_SIZE bytes (version reply, content) or CFU_SHORT_SIZE bytes (all others) and returns CFU_SERVED, C2, C3, or P2 with the
+ * packet zeroed. Information, extended and the two replies hold any value of their fields and are never refused by P2. What is built reads back to the same
+ * fields, unused data and components past the count as zero. The components of a version reply, CFU_COMPONENTS_SIZE bytes: CFU_COMPONENT_LIMIT times running
+ * version (4), id (1), platform (2).
  */
 
 uint32_t cfu_build_version_reply(uint8_t count, uint8_t protocol, const uint8_t *components, size_t components_len, uint8_t *packet, size_t packet_len);

@@ -1,12 +1,14 @@
 """The formats that the tests in Python write and read, each stated once: packets, image, bundle, the records as bytes, and the frames of scripts.
 
 Sizes and limits are read from include/cfu.h. Layouts and codes are document 01's; where the header has them too, the two are compared here.
-A layout is a struct.Struct: its fields in the order of their bytes, numbers little-endian, `x` for a byte that is written as zero and not looked at.
+A layout is a struct.Struct: its fields in the order of their bytes, numbers little-endian, `x` for a byte that is written as zero and not looked at. Beside it
+stand the places of its fields by their names, with _AT.
 """
 import os
 import re
 import struct
 import sys
+import types
 
 HEADER = os.path.join(os.path.dirname(os.path.abspath(__file__)), "..", "include", "cfu.h")
 with open(HEADER, encoding="utf-8") as file:
@@ -32,6 +34,15 @@ INFORMATION, EXTENDED = 0xFF, 0xFE
 
 # The platform of the bench device
 PLATFORM = 0x0042
+
+
+def places(layout, names):
+    """Where each field of a layout stands; names has one for each field but the `x`, in the order of their bytes."""
+    fields = re.findall(r"\d*[A-Za-z]", layout.format[1:])
+    begins = [struct.calcsize(layout.format[0] + "".join(fields[:i])) for i in range(len(fields))]
+    starts = [at for at, field in zip(begins, fields) if field[-1] != "x"]
+    assert len(starts) == len(names.split()), f"{layout.format}: {names}"
+    return types.SimpleNamespace(**dict(zip(names.split(), starts)))
 
 
 # ---- Versions and images ----
@@ -76,19 +87,22 @@ def image(component, number, size=64, free=filling):
 
 # ---- Packets ----
 
-# Segment, flags, id, token, version, need, least version of it (3), protocol, reserved, platform
+# need: a component; least: the least version of it without its variant, 3 bytes
 OFFER = struct.Struct("<BBBBIB3sBBH")
+OFFER_AT = places(OFFER, "segment flags id token version need least protocol reserved platform")
 FLAG_I, FLAG_V = 0x40, 0x80
-# Code, reserved, INFORMATION or EXTENDED, token, reserved
+# kind: INFORMATION or EXTENDED; rest: reserved too
 SIGNAL = struct.Struct("<BBBB12s")
-# Token, reason, status
+SIGNAL_AT = places(SIGNAL, "code reserved kind token rest")
 OFFER_REPLY = struct.Struct("<3xB4xB3xB3x")
-# Flags, length, sequence, address, data
+OFFER_REPLY_AT = places(OFFER_REPLY, "token reason status")
 CONTENT = struct.Struct(f"<BBHI{DATA_SIZE}s")
-# Sequence, status
+CONTENT_AT = places(CONTENT, "flags length sequence address data")
 CONTENT_REPLY = struct.Struct("<H2xB11x")
-# Count, protocol; then for each component running version, id, platform
+CONTENT_REPLY_AT = places(CONTENT_REPLY, "sequence status")
+# Then for each component running version, id, platform
 VERSION_REPLY = struct.Struct("<B2xB")
+VERSION_REPLY_AT = places(VERSION_REPLY, "count protocol")
 VERSION_REPLY_ENTRY = struct.Struct("<IxBH")
 
 
@@ -133,14 +147,16 @@ def blocks(data):
 
 # ---- The bundle ----
 
-# Count, the format's number; then for each offer an entry; then the bodies
+# How many offers, the format's number; then for each offer an entry; then the bodies
 BUNDLE_HEAD = struct.Struct("<BB6x")
+BUNDLE_HEAD_AT = places(BUNDLE_HEAD, "count format")
 BUNDLE_FORMAT = 1
-# Offer, body offset, body length
+# offset, length: those of the body
 ENTRY = struct.Struct(f"<{OFFER.size}sII")
-ENTRY_OFFSET, ENTRY_LENGTH = OFFER.size, OFFER.size + 4
-# Address, length; then the data
+ENTRY_AT = places(ENTRY, "offer offset length")
+# Then the data
 BODY_RECORD = struct.Struct("<IB")
+BODY_RECORD_AT = places(BODY_RECORD, "address length")
 
 
 def entry_start(place):
@@ -166,10 +182,29 @@ def bundle(offers):
     return BUNDLE_HEAD.pack(len(offers), BUNDLE_FORMAT) + table + bodies
 
 
+def split(data):
+    """The offers of a bundle, each with its body, as `bundle` takes them. Only what cutting needs is judged, and a ValueError has the words."""
+    if len(data) < BUNDLE_HEAD.size:
+        raise ValueError("the head runs past the end")
+    count, number = BUNDLE_HEAD.unpack_from(data)
+    if number != BUNDLE_FORMAT:
+        raise ValueError(f"the format's number is {number}, not {BUNDLE_FORMAT}")
+    if len(data) < entry_start(count):
+        raise ValueError("the table runs past the end")
+    offers = []
+    for place in range(count):
+        packet, offset, length = ENTRY.unpack_from(data, entry_start(place))
+        if offset + length > len(data):
+            raise ValueError(f"the body of entry {place + 1} runs past the end")
+        offers.append((packet, data[offset:offset + length]))
+    return offers
+
+
 # ---- Records ----
 
-# Id, running version, region base, region length
+# base, length: those of the region
 LISTED = struct.Struct("<BIII")
+LISTED_AT = places(LISTED, "id running base length")
 # 0 nothing, 1 pending; the staged version
 STAGED = struct.Struct("<BI")
 # Platform, staging length, count
@@ -179,13 +214,15 @@ SESSION = struct.Struct("<BBBH")
 IDLE, OFFERED, RECEIVING = 0, 1, 2
 # 0 nothing, 1 owed; the token
 OWED = struct.Struct("<BB")
-# Token, stage, two numbers of the stage, mask, packets, passes, skipped, landed
+# first, second: two numbers of the stage
 HOST = struct.Struct("<BBIIIIIBB")
+HOST_AT = places(HOST, "token stage first second mask packets passes skipped landed")
 HOST_FRESH, HOST_OPENING, HOST_LISTING, HOST_OFFERING, HOST_WAITING, HOST_SENDING, HOST_CLOSING, HOST_ENDED = range(8)
 DONE, H1, H2, H3, H4 = range(5)
 
-# A component of a version reply as it is lent: running version, id, platform
+# A component of a version reply as it is lent
 RUNNING = struct.Struct("<IBH")
+RUNNING_AT = places(RUNNING, "version id platform")
 
 NO_COMPONENT = (0, 0, 0, 0)
 NO_SESSION = (IDLE, 0, 0, 0)
@@ -221,15 +258,12 @@ def host_record(token, stage, first=0, second=0, mask=0, packets=0, passes=0, sk
 # status
 OFFER_FIELDS = struct.Struct("<BBBBBIBIBH")
 CONTENT_REPLY_FIELDS = struct.Struct("<HB")
-# How long that is, by the frame's kind: version reply (count, protocol, components), offer, information and extended (code, token), offer reply (token,
-# reason, status), content (as in the packet), content reply
-BUILT_FROM = {"V": 2 + COMPONENTS_SIZE, "O": OFFER_FIELDS.size, "I": 2, "E": 2, "R": 3, "C": CONTENT.size, "S": CONTENT_REPLY_FIELDS.size}
 
 
 class Script:
     """Frames for a program: kind (1 byte), the payload's length, the payload."""
 
-    # The programs that read one byte of length: run_packets, run_device, main_loop; and two: run_host, run_update
+    # One byte of length: what main_loop reads; two: what the programs that run a script read
     SHORT, LONG = "<cB", "<cH"
 
     def __init__(self, head):
@@ -240,11 +274,11 @@ class Script:
         self.bytes += self.head.pack(kind.encode(), len(payload)) + payload
 
     def text(self, text):
-        """A line that the program prints as it stands."""
+        """What the program prints as it stands."""
         self.frame("#", text.encode("ascii"))
 
     def case(self, text):
-        self.text("# " + text)
+        self.text(f"# {text}\n")
 
     def write(self):
         sys.stdout.buffer.write(self.bytes)
@@ -266,15 +300,24 @@ assert crc(b"123456789") == 0x31C3 and crc(b"123456789", 0xFFFF) == 0x29B1
 for layout in (OFFER, SIGNAL, OFFER_REPLY, CONTENT_REPLY):
     hold("SHORT_SIZE", layout.size)
 hold("LONG_SIZE", CONTENT.size)
+hold("DATA_AT", CONTENT_AT.data)
 hold("LONG_SIZE", VERSION_REPLY.size + COMPONENT_LIMIT * VERSION_REPLY_ENTRY.size)
 hold("LIST_SIZE", COMPONENT_LIMIT * LISTED.size)
 hold("DEVICE_SIZE", DEVICE.size + SESSION.size + OWED.size + COMPONENT_LIMIT * (LISTED.size + STAGED.size))
 hold("HOST_SIZE", HOST.size)
 hold("COMPONENTS_SIZE", COMPONENT_LIMIT * RUNNING.size)
-hold_comment(r"\n \* +(\d+)  seven times (\d+) bytes: id \(1\), running version", DEVICE.size + SESSION.size + OWED.size, LISTED.size + STAGED.size)
+for name, number in dict(
+        DEVICE_SESSION_AT=DEVICE.size, DEVICE_OWED_AT=DEVICE.size + SESSION.size, DEVICE_COMPONENTS_AT=DEVICE.size + SESSION.size + OWED.size,
+        COMPONENT_SIZE=LISTED.size + STAGED.size, COMPONENT_RUNNING_AT=LISTED_AT.running, COMPONENT_REGION_AT=LISTED_AT.base, COMPONENT_STAGED_AT=LISTED.size,
+        LISTED_SIZE=LISTED.size, RUNNING_SIZE=RUNNING.size, RUNNING_ID_AT=RUNNING_AT.id, BUNDLE_HEAD_SIZE=BUNDLE_HEAD.size, BUNDLE_ENTRY_SIZE=ENTRY.size,
+        HOST_STAGE_AT=HOST_AT.stage, HOST_FIRST_AT=HOST_AT.first, HOST_SECOND_AT=HOST_AT.second, HOST_MASK_AT=HOST_AT.mask, HOST_SKIPPED_AT=HOST_AT.skipped,
+        HOST_LANDED_AT=HOST_AT.landed).items():
+    hold(name, number)
+hold_comment(r"\n \* +(\d+)  CFU_COMPONENT_LIMIT times (\d+) bytes: id \(1\), running version", DEVICE.size + SESSION.size + OWED.size,
+             LISTED.size + STAGED.size)
 hold_comment(r"(\d+)  stage \(1\): 0 idle", DEVICE.size)
 hold_comment(r"(\d+)  owed ready-reply", DEVICE.size + SESSION.size)
-hold_comment(r"(\d+)  mask of completed offers \(4\), (\d+) packets \(4\), (\d+) passes \(4\)", *(struct.calcsize(HOST.format[:end]) for end in (5, 6, 7)))
+hold_comment(r"(\d+)  mask of completed offers \(4\), (\d+) packets \(4\), (\d+) passes \(4\)", HOST_AT.mask, HOST_AT.packets, HOST_AT.passes)
 hold_comment(r"the 16 bytes of the bundle at (\d+) \+ (\d+) i", BUNDLE_HEAD.size, ENTRY.size)
 for code, number in dict(
         PROTOCOL=PROTOCOL, OFFER_SKIP=SKIP, OFFER_ACCEPT=ACCEPT, OFFER_REJECT=REJECT, OFFER_BUSY=BUSY, OFFER_READY=READY, OFFER_UNSUPPORTED=UNSUPPORTED,

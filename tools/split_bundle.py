@@ -4,35 +4,37 @@
 split_bundle.py BUNDLE DIR
 
 For each offer, DIR/ID.offer.bin is CFU's 16 bytes, and DIR/ID.payload.bin is its body: records of an address (4 bytes, little-endian),
-a length (1 byte) and data, one after the other. The bundle is not checked beyond what cutting needs: run `inspect` on it first.
+a length (1 byte) and data, one after the other. The bundle is not checked beyond what cutting needs: run `inspect` on it first. With a bundle that cannot
+be read or cut it writes no file, says why and ends with status 1.
 """
 import os
 import sys
 
-HEAD = 8
-ENTRY = 24
+sys.path.append(os.path.join(os.path.dirname(os.path.abspath(__file__)), "..", "tests"))
+import cfu  # noqa: E402
+
+
+def cut(source, folder):
+    with open(source, "rb") as file:
+        offers = cfu.split(file.read())
+    os.makedirs(folder, exist_ok=True)
+    for offer, body in offers:
+        for kind, data in (("offer", offer), ("payload", body)):
+            name = os.path.join(folder, f"{offer[cfu.OFFER_AT.id]}.{kind}.bin")
+            with open(name, "wb") as out:
+                out.write(data)
+            print(f"{name}: {len(data)} bytes")
 
 
 def main():
     if len(sys.argv) != 3:
         sys.exit(__doc__)
-    with open(sys.argv[1], "rb") as source:
-        bundle = source.read()
-    if len(bundle) < HEAD or len(bundle) < HEAD + ENTRY * bundle[0]:
-        sys.exit("split_bundle.py: the table runs past the end; see what `inspect` says")
-    os.makedirs(sys.argv[2], exist_ok=True)
-    for i in range(bundle[0]):
-        entry = bundle[HEAD + ENTRY * i:HEAD + ENTRY * (i + 1)]
-        offset = int.from_bytes(entry[16:20], "little")
-        length = int.from_bytes(entry[20:24], "little")
-        if offset + length > len(bundle):
-            sys.exit(f"split_bundle.py: the body of entry {i + 1} runs past the end; see what `inspect` says")
-        parts = {"offer": entry[:16], "payload": bundle[offset:offset + length]}
-        for kind, data in parts.items():
-            name = os.path.join(sys.argv[2], f"{entry[2]}.{kind}.bin")
-            with open(name, "wb") as out:
-                out.write(data)
-            print(f"{name}: {len(data)} bytes")
+    try:
+        cut(*sys.argv[1:])
+    except OSError as error:
+        sys.exit(f"split_bundle.py: {error.filename}: {error.strerror}")
+    except ValueError as error:
+        sys.exit(f"split_bundle.py: {sys.argv[1]}: {error}; see what `inspect` says")
 
 
 main()

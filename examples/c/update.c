@@ -28,14 +28,18 @@
 
 enum status { ALL_COMPLETED, NOT_ALL_TAKEN, WRONG_COMMAND, NO_FILE, BUNDLE_REFUSED, SET_UP_REFUSED, UPDATE_ENDED, CALL_REFUSED };
 
+/* A number of cfu.h as text. */
+#define TEXT_OF(number) #number
+#define TEXT(number) TEXT_OF(number)
+
 static const char USAGE[] =
     "usage: update [options] BUNDLE\n"
     "Updates a simulated device from a bundle file, prints what happened, and resets the device.\n"
     "\n"
     "  --platform NUMBER           the device's platform (0x0042)\n"
     "  --component ID:VERSION:BASE:LENGTH\n"
-    "                              a component, its running version as major.minor.variant, and its region of the staging memory; up to seven times\n"
-    "                              (1:1.2.0:0:64 and 2:1.1.0:64:64)\n"
+    "                              a component, its running version as major.minor.variant, and its region of the staging memory; up to\n"
+    "                              " TEXT(CFU_COMPONENT_LIMIT) " times (1:1.2.0:0:64 and 2:1.1.0:64:64)\n"
     "  --staging BYTES             the device's staging memory (up to the end of the last region)\n"
     "  --token NUMBER              the host's token (0xA5)\n"
     "  --packets                   print each packet and each reply\n"
@@ -64,9 +68,9 @@ static const struct words ROWS[] = {
     {CFU_C2, "a list or data to be read is not of its size"},
     {CFU_C3, "a buffer for what comes out is not of its size"},
     {CFU_S1, "the staging memory is over 65,536 bytes"},
-    {CFU_S2, "a device has 1 to 7 components"},
+    {CFU_S2, "a device has 1 to " TEXT(CFU_COMPONENT_LIMIT) " components"},
     {CFU_S3, "a component's id is not 1 to 223, or two have the same"},
-    {CFU_S4, "a region is under 8 bytes, reaches past the staging memory, or overlaps another"},
+    {CFU_S4, "a region is under " TEXT(CFU_REGION_LEAST) " bytes, reaches past the staging memory, or overlaps another"},
     {CFU_D1, "the device's record breaks its rules"},
     {CFU_D2, "the staging memory has not the length that it had at set-up"},
     {CFU_D3, "the packet has not the length of its kind"},
@@ -75,7 +79,7 @@ static const struct words ROWS[] = {
     {CFU_N1, "the host's record does not fit the bundle"},
     {CFU_B1, "a bundle has 8 to 65,536 bytes"},
     {CFU_B2, "the head is not that of a bundle: byte 1 must be 1, bytes 2 to 7 zero"},
-    {CFU_B3, "a bundle has 1 to 7 offers"},
+    {CFU_B3, "a bundle has 1 to " TEXT(CFU_OFFER_LIMIT) " offers"},
     {CFU_B4, "the file ends inside the table of offers"},
     {CFU_B5, "the offer's bytes 0, 1, 3 and 13 must be zero, byte 12 must be 2, and the id 1 to 223"},
     {CFU_B6, "an earlier entry offers the same component"},
@@ -158,6 +162,14 @@ static void put_number(uint8_t *bytes, unsigned size, uint32_t number)
         bytes[i] = (uint8_t)(number >> 8 * i);
 }
 
+/* A version in bytes: variant, minor (2), major. */
+static void put_version(uint8_t *bytes, cfu_version v)
+{
+    bytes[0] = v.variant;
+    put_number(bytes + 1, 2, v.minor);
+    bytes[3] = v.major;
+}
+
 static cfu_version version_in(const uint8_t *bytes)
 {
     cfu_version v = {bytes[3], (uint16_t)number_in(bytes + 1, 2), bytes[0]};
@@ -190,13 +202,11 @@ static uint32_t set_up(struct device *d)
 {
     uint8_t list[CFU_LIST_SIZE] = {0};
     for (uint8_t i = 0; i < d->count; i++) {
-        uint8_t *at = list + 13 * i;
+        uint8_t *at = list + CFU_LISTED_SIZE * i;
         at[0] = d->list[i].id;
-        at[1] = d->list[i].running.variant;
-        put_number(at + 2, 2, d->list[i].running.minor);
-        at[4] = d->list[i].running.major;
-        put_number(at + 5, 4, d->list[i].base);
-        put_number(at + 9, 4, d->list[i].length);
+        put_version(at + CFU_COMPONENT_RUNNING_AT, d->list[i].running);
+        put_number(at + CFU_COMPONENT_REGION_AT, 4, d->list[i].base);
+        put_number(at + CFU_COMPONENT_REGION_AT + 4, 4, d->list[i].length);
     }
     memset(d->record, 0, sizeof d->record);
     return cfu_device_set_up(d->record, sizeof d->record, d->platform, list, sizeof list, d->count, d->staging, d->staging_len);
@@ -213,12 +223,12 @@ static uint32_t show_device(const struct device *d)
     if (reply.number != CFU_SERVED)
         return reply.number;
     for (unsigned i = 0; i < reply.count; i++) {
-        const uint8_t *running = components + 7 * i, *part = d->record + 14 + 18 * i;
-        printf("  component %u runs ", (unsigned)running[4]);
+        const uint8_t *running = components + CFU_RUNNING_SIZE * i, *own = d->record + CFU_DEVICE_COMPONENTS_AT + CFU_COMPONENT_SIZE * i;
+        printf("  component %u runs ", (unsigned)running[CFU_RUNNING_ID_AT]);
         print_version(version_in(running));
-        if (part[13] == 1) {
+        if (own[CFU_COMPONENT_STAGED_AT] == 1) {
             printf(", pending ");
-            print_version(version_in(part + 14));
+            print_version(version_in(own + CFU_COMPONENT_STAGED_AT + 1));
         }
         printf("\n");
     }
@@ -267,13 +277,13 @@ static bool read_file(const char *name, struct bundle *b)
 
 static cfu_offer offer_of(const struct bundle *b, uint32_t entry)
 {
-    return cfu_read_offer(b->bytes + 8 + 24 * (entry - 1), CFU_SHORT_SIZE).offer;
+    return cfu_read_offer(b->bytes + CFU_BUNDLE_HEAD_SIZE + CFU_BUNDLE_ENTRY_SIZE * (entry - 1), CFU_SHORT_SIZE).offer;
 }
 
 /* The count of records that the check wrote into the contents. */
 static uint32_t records_of(const struct bundle *b, uint32_t entry)
 {
-    return number_in(b->contents + 3 + 12 * (entry - 1) + 8, 4);
+    return number_in(b->contents + CFU_CONTENTS_BODIES_AT + CFU_BODY_SIZE * (entry - 1) + CFU_BODY_RECORDS_AT, 4);
 }
 
 static void show_bundle(const char *name, const struct bundle *b)

@@ -82,7 +82,7 @@ static BUFFER(contents, CFU_CONTENTS_SIZE);
 static BUFFER(new_contents, CFU_CONTENTS_SIZE);
 static BUFFER(third_host, CFU_HOST_SIZE);
 
-/* The bench device of document 01, as seven times id, version, base, length. */
+/* The bench device of document 01, as CFU_COMPONENT_LIMIT times id, version, base, length. */
 static const uint8_t BENCH[CFU_LIST_SIZE] = {1, 0, 2, 0, 1, 0, 0, 0, 0, 64, 0, 0, 0, 2, 0, 1, 0, 1, 64, 0, 0, 0, 64, 0, 0, 0};
 
 static void bench(void)
@@ -131,9 +131,9 @@ static void block(uint8_t length, uint32_t address, uint16_t sequence, uint8_t s
     CHECK(SAME(replies, (uint8_t)sequence, (uint8_t)(sequence >> 8), 0, 0, status));
 }
 
-/* Places in a device's record: the session with its flag for a ready-reply, and the flag for a staged version of component i, which that version follows. */
-enum { SESSION = 7, SESSION_SIZE = 7, OWED = 12 };
-#define STAGED(i) (14 + 18 * (i) + 13)
+/* The size of the session in a device's record, and the place of the flag for a staged version of component i, which that version follows. */
+enum { SESSION_SIZE = CFU_DEVICE_COMPONENTS_AT - CFU_DEVICE_SESSION_AT };
+#define STAGED(i) (CFU_DEVICE_COMPONENTS_AT + CFU_COMPONENT_SIZE * (i) + CFU_COMPONENT_STAGED_AT)
 
 /* With another value at a place no call serves the record, and it stays as it is. */
 static void no_device(unsigned place, uint8_t value)
@@ -160,8 +160,8 @@ static void device_bytes(void)
     bench();
     memcpy(new_device, device, sizeof device);
     /* idle, nothing owed, nothing staged: slot, token, sequence, owed token and staged versions have no meaning */
-    memset(device + EDGE + SESSION + 1, 0x99, OWED - SESSION - 1);
-    device[EDGE + OWED + 1] = 0x99;
+    memset(device + EDGE + CFU_DEVICE_SESSION_AT + 1, 0x99, CFU_DEVICE_OWED_AT - CFU_DEVICE_SESSION_AT - 1);
+    device[EDGE + CFU_DEVICE_OWED_AT + 1] = 0x99;
     for (unsigned i = 0; i < CFU_COMPONENT_LIMIT; i++)
         memset(device + EDGE + STAGED(i) + 1, 0x99, 4);
     memcpy(wanted, device, sizeof device);
@@ -169,17 +169,17 @@ static void device_bytes(void)
     CHECK(SAME(longer, 2, 0, 0, 2, 0, 2, 0, 1, 0, 1, 0x42, 0, 0, 1, 0, 1, 0, 2, 0x42, 0));
     /* an offer writes the session anew and leaves the rest */
     offered(0, 0, 0, CFU_OFFER_ACCEPT);
-    memcpy(wanted + EDGE + SESSION, (const uint8_t[SESSION_SIZE]){1, 0, 0xA5}, SESSION_SIZE);
+    memcpy(wanted + EDGE + CFU_DEVICE_SESSION_AT, (const uint8_t[SESSION_SIZE]){1, 0, 0xA5}, SESSION_SIZE);
     CHECK(memcmp(device, wanted, sizeof device) == 0);
     /* content also writes the session's component */
-    device[EDGE + OWED + 1] = 0x99;
+    device[EDGE + CFU_DEVICE_OWED_AT + 1] = 0x99;
     block(1, 0, 7, CFU_SUCCESS);
-    memcpy(wanted + EDGE + SESSION, (const uint8_t[SESSION_SIZE]){2, 0, 0xA5, 8}, SESSION_SIZE);
+    memcpy(wanted + EDGE + CFU_DEVICE_SESSION_AT, (const uint8_t[SESSION_SIZE]){2, 0, 0xA5, 8}, SESSION_SIZE);
     memset(wanted + EDGE + STAGED(0) + 1, 0, 4);
     CHECK(memcmp(device, wanted, sizeof device) == 0);
     /* a flag past its range is D1, in a component that is not in use too */
-    no_device(SESSION, 3);
-    no_device(OWED, 2);
+    no_device(CFU_DEVICE_SESSION_AT, 3);
+    no_device(CFU_DEVICE_OWED_AT, 2);
     no_device(STAGED(0), 2);
     no_device(STAGED(CFU_COMPONENT_LIMIT - 1), 2);
     /* a reset writes the whole record */
@@ -358,12 +358,12 @@ static void packet_calls(void)
     CHECK(cfu_read_version_reply(AT(longer), components + EDGE, CFU_COMPONENTS_SIZE + 1).number == CFU_C3);
 }
 
-/* Contents that a check leaves: these bytes, zeros up to the block in hand (8), which is none, and the cursor (8), which is 0. */
+/* Contents that a check leaves: these bytes, zeros up to the block in hand, which is none, and the cursor, which is 0. */
 static int new_check(const uint8_t *buffer, const uint8_t *bytes, size_t count)
 {
     uint8_t wanted[CFU_CONTENTS_SIZE] = { 0 };
     memcpy(wanted, bytes, count);
-    memset(wanted + CFU_CONTENTS_SIZE - 16, 0xFF, 8);
+    memset(wanted + CFU_CONTENTS_HAND_AT, 0xFF, CFU_CONTENTS_CURSOR_AT - CFU_CONTENTS_HAND_AT);
     return memcmp(buffer + EDGE, wanted, sizeof wanted) == 0;
 }
 
@@ -387,25 +387,25 @@ static void host_bytes(const uint8_t *bundle, size_t length)
 {
     /* the two numbers of a fresh host: the step is served, and writes the whole record */
     CHECK(cfu_host_fresh(AT(host), 0xA5) == CFU_SERVED);
-    memset(host + EDGE + 2, 0x99, 8);
+    memset(host + EDGE + CFU_HOST_FIRST_AT, 0x99, CFU_HOST_MASK_AT - CFU_HOST_FIRST_AT);
     CHECK(cfu_host_report(AT(host)).number == CFU_SERVED);
     CHECK(cfu_host_step(AT(host), bundle, length, replies + EDGE, 0, AT(longer)).length == CFU_SHORT_SIZE);
     CHECK(SAME(host, 0xA5, 1, 0, 0, 0, 0, 0, 0, 0, 0, 0, 0, 0, 0, 1));
-    no_host(bundle, length, 1, 8);
-    no_host(bundle, length, 22, 2);
-    no_host(bundle, length, 23, 2);
+    no_host(bundle, length, CFU_HOST_STAGE_AT, 8);
+    no_host(bundle, length, CFU_HOST_SKIPPED_AT, 2);
+    no_host(bundle, length, CFU_HOST_LANDED_AT, 2);
     /* H1 with status 5: of its four bytes the low one is read */
     const uint8_t ended[CFU_HOST_SIZE] = {0xA5, 7, 1, 0, 0, 0, 5, 0x99, 0x99, 0x99};
     memcpy(host + EDGE, ended, sizeof ended);
     cfu_report r = cfu_host_report(AT(host));
     CHECK(r.number == CFU_SERVED && r.ending == CFU_H1 && r.status == 5);
-    no_host(bundle, length, 2, 5);
-    no_host(bundle, length, 5, 1);
+    no_host(bundle, length, CFU_HOST_FIRST_AT, 5);
+    no_host(bundle, length, CFU_HOST_SECOND_AT - 1, 1);
     cfu_step a = cfu_host_step(AT(host), bundle, length, replies + EDGE, 0, AT(longer));
     CHECK(a.number == CFU_SERVED && a.length == 0 && SAME(host, 0xA5, 7, 1, 0, 0, 0, 5));
     /* done: the status is not read */
     memcpy(host + EDGE, ended, sizeof ended);
-    host[EDGE + 2] = 0;
+    host[EDGE + CFU_HOST_FIRST_AT] = 0;
     r = cfu_host_report(AT(host));
     CHECK(r.number == CFU_SERVED && r.ending == CFU_DONE && r.status == 0);
     a = cfu_host_step(AT(host), bundle, length, replies + EDGE, 0, AT(longer));
@@ -419,7 +419,7 @@ static void host_calls(const uint8_t *bundle, size_t length)
     CLEAR(contents, 0x33);
     cfu_check k = cfu_bundle_check(bundle, length, AT(contents));
     CHECK(k.number == CFU_SERVED && k.entry == 0 && k.count == 2);
-    static const uint8_t two[27] = { 0, 0, 2, 56, 0, 0, 0, 74, 0, 0, 0, 2, 0, 0, 0, 130, 0, 0, 0, 74, 0, 0, 0, 2 };
+    static const uint8_t two[CFU_CONTENTS_BODIES_AT + 2 * CFU_BODY_SIZE] = { 0, 0, 2, 56, 0, 0, 0, 74, 0, 0, 0, 2, 0, 0, 0, 130, 0, 0, 0, 74, 0, 0, 0, 2 };
     CHECK(new_check(contents, two, sizeof two));
     EDGES(contents);
     memcpy(new_contents, contents, sizeof contents);
@@ -510,7 +510,7 @@ static void host_calls(const uint8_t *bundle, size_t length)
     a = cfu_host_step_checked(AT(host), AT(contents), bundle, length - 1, replies + EDGE, 0, AT(longer));
     CHECK(a.number == CFU_B7 && a.entry == 2 && a.length == 0 && FILLED(longer, 0) && SAME(host, 0xA5) && new_check(contents, (const uint8_t[]){ 7, 2 }, 2));
 
-    /* contents that no check leaves: a row over 8, and no row with a count that is not 1 to 7 */
+    /* contents that no check leaves: a row over 8, and no row with a count that is not 1 to CFU_OFFER_LIMIT */
     contents[EDGE] = 9;
     CHECK(cfu_host_step_checked(AT(host), AT(contents), bundle, length, replies + EDGE, 0, AT(longer)).number == CFU_C1);
     contents[EDGE] = 0;

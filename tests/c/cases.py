@@ -234,7 +234,7 @@ def further(command, work, case, refusal, report):
     for args in ([], ["--packets"], [path, path], [path, "--token"], [path, "--colour", "1"], [path, "--token", "256"], [path, "--token", "x"], [path, "--token", ""],
                  [path, "--token", "-1"], [path, "--platform", "0x10000"], [path, "--platform", "0x"], [path, "--staging", "0x1000000"], [path, "--component", "1:1.2:0:64"],
                  [path, "--component", "1:1.2.0:0:64:"], [path, "--component", "1:1.2.0:0:4294967296"], [path, "--component", "1:256.2.0:0:64"],
-                 [path] + 8 * ["--component", "1:1.2.0:0:64"]):
+                 [path] + (cfu.COMPONENT_LIMIT + 1) * ["--component", "1:1.2.0:0:64"]):
         got, out, err = ran(command, args)
         checked(f"the command line {args}", got == COMMAND_LINE and out == "" and err.startswith("update: ") and err.endswith("(update --help)\n"), f"status {got}; {err}{out}")
     got, out, err = ran(command, ["--help"])

@@ -1,6 +1,6 @@
 #!/usr/bin/env bash
-# The proved library from C: `rt staticlib c_api`, then calls.c (each function of include/cfu.h on document 01's values) and the example (cases.py), as they
-# are, with the compiler's checks of addresses and of undefined behaviour, and under valgrind.
+# The proved library from C (tools/library): calls.c (each function of include/cfu.h on document 01's values) and the example (cases.py), as they are, with the
+# compiler's checks of addresses and of undefined behaviour, and under valgrind.
 set -u
 cd "$(dirname "$0")/../.." || exit 1
 
@@ -13,8 +13,8 @@ for tool in rt make cc gcc python3 valgrind; do
     command -v "$tool" >/dev/null 2>&1 || fail "$tool is not installed"
 done
 
-bash tests/library.sh || fail "the library is not made"
-library=target/staticlib/libc_api.a
+tools/library || fail "the library is not made"
+library=target/staticlib/libcfu.a
 out=target/c
 rm -rf "$out"
 make -s -C examples/c || fail "the example does not build"

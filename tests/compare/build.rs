@@ -1,4 +1,4 @@
-//! Links the static library that `rt staticlib c_api` writes, and checks the numbers of src/layout.rs against include/cfu.h.
+//! Links the static library that tools/library makes, and checks the numbers of src/layout.rs against include/cfu.h.
 use std::collections::HashMap;
 
 /// A number as C and Rust write it.
@@ -13,8 +13,8 @@ fn main() {
     let own = std::env::var("CARGO_MANIFEST_DIR").unwrap();
     let top = format!("{own}/../..");
     println!("cargo:rustc-link-search=native={top}/target/staticlib");
-    println!("cargo:rustc-link-lib=static=c_api");
-    println!("cargo:rerun-if-changed={top}/target/staticlib/libc_api.a");
+    println!("cargo:rustc-link-lib=static=cfu");
+    println!("cargo:rerun-if-changed={top}/target/staticlib/libcfu.a");
 
     let (header, layout) = (format!("{top}/include/cfu.h"), format!("{own}/src/layout.rs"));
     println!("cargo:rerun-if-changed={header}");

@@ -10,7 +10,7 @@ import sys
 
 sys.path.append(os.path.join(os.path.dirname(os.path.abspath(__file__)), ".."))
 import cfu  # noqa: E402
-from cfu import FIRST, LAST, NO_SESSION as IDLE, STAGING_LIMIT, image, with_crc  # noqa: E402
+from cfu import COMPONENT_LIMIT, FIRST, LAST, NO_SESSION as IDLE, REGION_LEAST, STAGING_LIMIT, image, with_crc  # noqa: E402
 
 V1 = 0x01000200          # running version of component 1
 V2 = 0x01000100          # running version of component 2
@@ -21,24 +21,42 @@ TOKEN = 0xA5
 
 # ----------------------------------------------------------------- frames
 
-script = cfu.Script(cfu.Script.SHORT)
-frame, case = script.frame, script.case
+script = cfu.Script(cfu.Script.LONG)
+frame, case, tell = script.frame, script.case, script.text
+lending = 0           # how many bytes the calls lend
+
+
+def four(value):
+    return value.to_bytes(4, 'little')
 
 
 def note(text):
-    script.text('## ' + text)
+    tell('## %s\n' % text)
 
 
 def setup(components, lent=128, platform=cfu.PLATFORM, count=None):
     """components: (id, running version, base, length)."""
-    frame('S', cfu.DEVICE.pack(platform, lent, len(components) if count is None else count) + cfu.setup_list(components))
+    global lending
+    lending = lent
+    count = len(components) if count is None else count
+    frame('S', four(lent) + platform.to_bytes(2, 'little') + bytes([count]) + cfu.setup_list(components))
 
 
 BENCH = [(1, V1, 0, 64), (2, V2, 64, 64)]
 
+# As many components as there may be, each with the smallest region, one after the other
+MOST = [(10 + i, 0x02000000 + i, REGION_LEAST * i, REGION_LEAST) for i in range(COMPONENT_LIMIT)]
+MOST_LENT = REGION_LEAST * COMPONENT_LIMIT
+LAST_SLOT = COMPONENT_LIMIT - 1
+
 
 def bench():
     setup(BENCH)
+
+
+def with_last(component=MOST[LAST_SLOT][0], base=MOST[LAST_SLOT][2], length=REGION_LEAST):
+    """Set-up of as many components as there may be, the last one another."""
+    setup(MOST[:LAST_SLOT] + [(component, 0, base, length)], lent=MOST_LENT)
 
 
 def version_reply():
@@ -53,15 +71,23 @@ def show():
     frame('D')
 
 
-def lend(number):
-    frame('L', number.to_bytes(4, 'little'))
+def lend(count):
+    global lending
+    lending = count
+    tell('lent %d\n' % count)
+
+
+def report(kind, packet):
+    frame(kind, four(lending) + packet)
 
 
 def staging(offset, count):
-    frame('B', offset.to_bytes(4, 'little') + bytes([count]))
+    tell('staging from %d: ' % offset)
+    frame('B', four(offset) + bytes([count]))
 
 
 def fill(value):
+    tell('filled %02x\n' % value)
     frame('F', bytes([value]))
 
 
@@ -78,6 +104,7 @@ def record(components, stage=IDLE, lent=128, lends=True, **fields):
     is lent at the record's length, unless the case has its own."""
     if lends:
         lend(lent)
+    tell('record set\n')
     frame('K', cfu.device_record(components, lent, stage, **fields))
 
 
@@ -86,15 +113,15 @@ def offer_bytes(component, version, token=TOKEN, need=(0, 0), **fields):
 
 
 def offer(component, version, **fields):
-    frame('O', offer_bytes(component, version, **fields))
+    report('O', offer_bytes(component, version, **fields))
 
 
 def information(code, token=0x11, rest=0):
-    frame('O', cfu.information(code, token, rest))
+    report('O', cfu.information(code, token, rest))
 
 
 def extended(code, token=0x22, rest=0):
-    frame('O', cfu.extended(code, token, rest))
+    report('O', cfu.extended(code, token, rest))
 
 
 def notify(token):
@@ -102,7 +129,7 @@ def notify(token):
 
 
 def content(*fields, **more):
-    frame('C', cfu.content(*fields, **more))
+    report('C', cfu.content(*fields, **more))
 
 
 def block(flags, sequence, address, length):
@@ -158,28 +185,28 @@ version_reply()
 
 case('E2: offer for component 1 at 1.3.0: ACCEPT')
 bench()
-frame('O', bytes.fromhex('000001A5000300010000000002004200'))
+report('O', bytes.fromhex('000001A5000300010000000002004200'))
 show()
 
 case('E3: the same at the running version: REJECT 0')
 bench()
-frame('O', bytes.fromhex('000001A5000200010000000002004200'))
+report('O', bytes.fromhex('000001A5000200010000000002004200'))
 show()
 
 case('E4: byte 12 = 01: REJECT 0xE0, also when the version is old')
 bench()
-frame('O', bytes.fromhex('000001A5000300010000000001004200'))
-frame('O', bytes.fromhex('000001A5000200010000000001004200'))
+report('O', bytes.fromhex('000001A5000300010000000001004200'))
+report('O', bytes.fromhex('000001A5000200010000000001004200'))
 show()
 
 case('E5: need 02 02 00 01: SKIP')
 bench()
-frame('O', bytes.fromhex('000001A5000300010202000102004200'))
+report('O', bytes.fromhex('000001A5000300010202000102004200'))
 show()
 
 case('E6: need 02 01 00 01: ACCEPT')
 bench()
-frame('O', bytes.fromhex('000001A5000300010201000102004200'))
+report('O', bytes.fromhex('000001A5000300010201000102004200'))
 show()
 
 case('E7: content when idle, sequence 0x1234: 0x0A')
@@ -219,9 +246,9 @@ show()
 case('S1: staging of 65,600 bytes')
 setup(BENCH, lent=65600)
 case('S1 before S2, S3 and S4: all four faults at once')
-setup([(0, V1, 70000, 1)] * 7, lent=STAGING_LIMIT + 1, count=0)
+setup([(0, V1, 70000, 1)] * COMPONENT_LIMIT, lent=STAGING_LIMIT + 1, count=0)
 case('S1 before S4: staging too long and a region too short')
-setup([(1, V1, 0, 7)], lent=STAGING_LIMIT + 1)
+setup([(1, V1, 0, REGION_LEAST - 1)], lent=STAGING_LIMIT + 1)
 
 # ------------------------------------------------------------ set-up: S2
 
@@ -232,20 +259,19 @@ case('S2: count 1 is served, the second slot is not looked at')
 setup(BENCH, count=1)
 show()
 version_reply()
-case('S2: count 7 is served')
-SEVEN = [(10 + i, 0x02000000 + i, 8 * i, 8) for i in range(7)]
-setup(SEVEN, lent=56)
+case('S2: count %d is served' % COMPONENT_LIMIT)
+setup(MOST, lent=MOST_LENT)
 show()
 version_reply()
-case('S2: count 8')
-setup(SEVEN, lent=56, count=8)
+case('S2: count %d' % (COMPONENT_LIMIT + 1))
+setup(MOST, lent=MOST_LENT, count=COMPONENT_LIMIT + 1)
 show()
 case('S2: count 255')
-setup(SEVEN, lent=56, count=255)
-case('S2 before S3 and S4: count 8 with bad ids and regions')
-setup([(0, V1, 70000, 1)] * 7, count=8)
+setup(MOST, lent=MOST_LENT, count=255)
+case('S2 before S3 and S4: count %d with bad ids and regions' % (COMPONENT_LIMIT + 1))
+setup([(0, V1, 70000, 1)] * COMPONENT_LIMIT, count=COMPONENT_LIMIT + 1)
 case('S2 before S3 and S4: count 0 with bad ids and regions')
-setup([(0, V1, 70000, 1)] * 7, count=0)
+setup([(0, V1, 70000, 1)] * COMPONENT_LIMIT, count=0)
 case('S2 before S4: count 0 over an empty staging buffer')
 setup([], lent=0, count=0)
 
@@ -258,14 +284,13 @@ for component, words in [(0, 'id 0'), (1, 'id 1 is served'), (0xDF, 'id 0xDF is 
     setup([(component, V1, 0, 64)])
     show()
 case('S3: the id outside is in the last slot')
-setup(SEVEN[:6] + [(0xE0, 0, 48, 8)], lent=56)
+with_last(component=0xE0)
 case('S3: id repeated in slots 0 and 1')
 setup([(1, V1, 0, 64), (1, V2, 64, 64)])
 show()
-case('S3: id repeated in slots 0 and 6')
-setup(SEVEN[:6] + [(10, 0, 48, 8)], lent=56)
-case('S3: id repeated in slots 5 and 6')
-setup(SEVEN[:6] + [(15, 0, 48, 8)], lent=56)
+for slot in (0, LAST_SLOT - 1):
+    case('S3: id repeated in slots %d and %d' % (slot, LAST_SLOT))
+    with_last(component=MOST[slot][0])
 case('S3: id 0 twice')
 setup([(0, V1, 0, 64), (0, V2, 64, 64)])
 case('S3: a repeated or bad id at the count is not looked at')
@@ -273,21 +298,21 @@ setup([(1, V1, 0, 64), (2, V2, 64, 64), (1, 0, 0, 1), (0xFF, 0, 0xFFFFFFFF, 0xFF
       count=2)
 show()
 case('S3 before S4: the short region in slot 0, the bad id in slot 1')
-setup([(1, V1, 0, 7), (0xE0, V2, 64, 64)])
+setup([(1, V1, 0, REGION_LEAST - 1), (0xE0, V2, 64, 64)])
 case('S3 before S4: the repeated id overlaps too')
 setup([(1, V1, 0, 64), (1, V2, 0, 64)])
 
 # ------------------------------------------------------------ set-up: S4
 
-case('S4: region of 7 bytes')
-setup([(1, V1, 0, 7)])
-case('S4: region of 8 bytes is served')
-setup([(1, V1, 0, 8)])
+case('S4: region of %d bytes' % (REGION_LEAST - 1))
+setup([(1, V1, 0, REGION_LEAST - 1)])
+case('S4: region of %d bytes is served' % REGION_LEAST)
+setup([(1, V1, 0, REGION_LEAST)])
 show()
 case('S4: region of 0 bytes')
 setup([(1, V1, 0, 0)])
 case('S4: the short region in the last slot')
-setup(SEVEN[:6] + [(16, 0, 48, 7)], lent=56)
+with_last(length=REGION_LEAST - 1)
 case('S4: region to the buffer\'s last byte is served')
 setup([(1, V1, 120, 8)])
 show()
@@ -298,12 +323,12 @@ case('S4: region one byte longer than the buffer')
 setup([(1, V1, 0, 129)])
 case('S4: region that starts where the buffer ends')
 setup([(1, V1, 128, 8)])
-case('S4: buffer of 8 bytes, region of 8: served')
-setup([(1, V1, 0, 8)], lent=8)
-case('S4: buffer of 7 bytes, region of 8')
-setup([(1, V1, 0, 8)], lent=7)
+case('S4: buffer of %d bytes, region of %d: served' % (REGION_LEAST, REGION_LEAST))
+setup([(1, V1, 0, REGION_LEAST)], lent=REGION_LEAST)
+case('S4: buffer of %d bytes, region of %d' % (REGION_LEAST - 1, REGION_LEAST))
+setup([(1, V1, 0, REGION_LEAST)], lent=REGION_LEAST - 1)
 case('S4: no buffer at all')
-setup([(1, V1, 0, 8)], lent=0)
+setup([(1, V1, 0, REGION_LEAST)], lent=0)
 case('S4: base + length wraps to 0 in 32 bits')
 setup([(1, V1, 0xFFFFFFF8, 8)])
 case('S4: base + length wraps to 64 in 32 bits')
@@ -333,10 +358,9 @@ case('S4: one region inside another')
 setup([(1, V1, 0, 128), (2, V2, 40, 8)])
 case('S4: one region around another')
 setup([(1, V1, 40, 8), (2, V2, 0, 128)])
-case('S4: slots 0 and 6 overlap')
-setup(SEVEN[:6] + [(16, 0, 7, 8)], lent=56)
-case('S4: slots 5 and 6 overlap')
-setup(SEVEN[:6] + [(16, 0, 47, 8)], lent=56)
+for slot in (0, LAST_SLOT - 1):
+    case('S4: slots %d and %d overlap' % (slot, LAST_SLOT))
+    with_last(base=REGION_LEAST * (slot + 1) - 1)
 case('S4: a bad region at the count is not looked at')
 setup([(1, V1, 0, 64), (2, V2, 0, 64)], count=1)
 show()
@@ -357,7 +381,7 @@ show()
 case('S: a refused set-up hands back the blank record, which every entry refuses with D1')
 bench()
 offer(1, NEW1)
-setup(BENCH, count=8)
+setup(BENCH, count=COMPONENT_LIMIT + 1)
 show()
 version_reply()
 offer(1, NEW1)
@@ -407,14 +431,14 @@ lend(128)
 record(BENCH, lent=0xFFFFFFFF, lends=False)
 every_entry()
 d1('state breaks S2: count 0', BENCH, count=0)
-d1('state breaks S2: count 8', SEVEN, lent=56, count=8)
-d1('state breaks S2: count 255', SEVEN, lent=56, count=255)
+d1('state breaks S2: count %d' % (COMPONENT_LIMIT + 1), MOST, lent=MOST_LENT, count=COMPONENT_LIMIT + 1)
+d1('state breaks S2: count 255', MOST, lent=MOST_LENT, count=255)
 d1('state breaks S3: id 0', [(1, V1, 0, 64), (0, V2, 64, 64)])
 d1('state breaks S3: id 0xE0', [(1, V1, 0, 64), (0xE0, V2, 64, 64)])
 d1('id 0xDF is served', [(1, V1, 0, 64), (0xDF, V2, 64, 64)])
 d1('state breaks S3: id repeated', [(1, V1, 0, 64), (1, V2, 64, 64)])
-d1('state breaks S4: region of 7 bytes', [(1, V1, 0, 64), (2, V2, 64, 7)])
-d1('region of 8 bytes is served', [(1, V1, 0, 64), (2, V2, 64, 8)])
+d1('state breaks S4: region of %d bytes' % (REGION_LEAST - 1), [(1, V1, 0, 64), (2, V2, 64, REGION_LEAST - 1)])
+d1('region of %d bytes is served' % REGION_LEAST, [(1, V1, 0, 64), (2, V2, 64, REGION_LEAST)])
 d1('state breaks S4: region one past the buffer', [(1, V1, 0, 64), (2, V2, 65, 64)])
 d1('state breaks S4: base + length wraps in 32 bits', [(1, V1, 0, 64), (2, V2, 0xFFFFFFF8, 8)])
 d1('state breaks S4: regions overlap by one byte', [(1, V1, 0, 65), (2, V2, 64, 64)])
@@ -422,10 +446,10 @@ d1('offered on the last slot is served', BENCH, offered(1))
 d1('opens on an unlisted component: offered on slot 2 of 2', BENCH, offered(2))
 d1('opens on an unlisted component: offered on slot 255', BENCH, offered(255))
 d1('opens on an unlisted component: receiving on slot 2 of 2', BENCH, receiving(2))
-d1('opens on an unlisted component: receiving on slot 7', SEVEN, receiving(7), lent=56)
+d1('opens on an unlisted component: receiving on slot %d' % COMPONENT_LIMIT, MOST, receiving(COMPONENT_LIMIT), lent=MOST_LENT)
 d1('opens on an unlisted component: slot 2 of 2 holds a sound third one',
    [(1, V1, 0, 64), (2, V2, 64, 64), (3, V2, 8, 8)], offered(2), count=2)
-d1('receiving on slot 6 of 7 is served', SEVEN, receiving(6), lent=56)
+d1('receiving on slot %d of %d is served' % (LAST_SLOT, COMPONENT_LIMIT), MOST, receiving(LAST_SLOT), lent=MOST_LENT)
 d1('opens on a pending component: offered', BENCH, offered(0), staged={0: NEW1})
 d1('opens on a pending component: receiving', BENCH, receiving(1), staged={1: NEW2})
 d1('offered on one while another is pending is served', BENCH, offered(0), staged={1: NEW2})
@@ -451,8 +475,8 @@ every_entry()
 case('D1 before D2 and D3: a bad state, a wrong lent length, a short report')
 lend(127)
 record(BENCH, owed=0x44, lends=False)
-frame('O', b'\x00' * 15)
-frame('C', b'\x00' * 59)
+report('O', b'\x00' * 15)
+report('C', b'\x00' * 59)
 show()
 
 # --------------------------------------------------------------------- D2
@@ -476,8 +500,8 @@ for number in [127, 129, 0, 65600, 128]:
 case('D2 before D3: a wrong lent length and a short report')
 bench()
 lend(127)
-frame('O', b'\x00' * 15)
-frame('C', b'\x00' * 59)
+report('O', b'\x00' * 15)
+report('C', b'\x00' * 59)
 
 # --------------------------------------------------------------------- D3
 
@@ -485,7 +509,7 @@ case('D3: offer reports of 0, 1, 15, 16, 17, 60 and 255 bytes')
 LONG_OFFER = offer_bytes(1, NEW1) + b'\x00' * 239
 for number in [0, 1, 15, 17, 60, 255, 16]:
     bench()
-    frame('O', LONG_OFFER[:number])
+    report('O', LONG_OFFER[:number])
     show()
 
 case('D3: content reports of 0, 1, 16, 59, 60, 61 and 255 bytes')
@@ -493,15 +517,15 @@ LONG_CONTENT = cfu.content(FIRST, 3, 0, b'\x01\x02\x03\x04') + b'\x00' * 195
 for number in [0, 1, 16, 59, 61, 255, 60]:
     fill(0xA5)
     offered_for_1()
-    frame('C', LONG_CONTENT[:number])
+    report('C', LONG_CONTENT[:number])
     show()
     staging(0, 8)
 
 case('D3: a cut code 0 and a cut notify do nothing')
 offered_for_1()
-frame('O', bytes([0, 0, 0xFF, 0x11]))
-frame('O', bytes([1, 0, 0xFE, 0x22]) + b'\x00' * 11)
-frame('O', bytes([0, 0, 0xFF, 0x11]) + b'\x00' * 13)
+report('O', bytes([0, 0, 0xFF, 0x11]))
+report('O', bytes([1, 0, 0xFE, 0x22]) + b'\x00' * 11)
+report('O', bytes([0, 0, 0xFF, 0x11]) + b'\x00' * 13)
 show()
 
 # ----------------------------------------------------------------- offers
@@ -704,8 +728,8 @@ bench()
 offer(2, NEW2, token=0)
 show()
 case('offer 9: the seventh of seven, token 0xFF')
-setup(SEVEN, lent=56)
-offer(16, 0x02000007, token=0xFF)
+setup(MOST, lent=MOST_LENT)
+offer(MOST[LAST_SLOT][0], MOST[LAST_SLOT][1] + 1, token=0xFF)
 show()
 case('offer 9: staging bytes stay at an offer')
 fill(0xA5)
@@ -1192,7 +1216,7 @@ notify(0x77)
 lend(127)
 block(FIRST, 0, 0, 4)
 lend(128)
-frame('C', b'\x00' * 16)
+report('C', b'\x00' * 16)
 show()
 case('owed READY: code 0 drops it without a reply of its own')
 offered_for_1()
@@ -1347,9 +1371,9 @@ staging(0, 130)
 
 case('seven components, each with an image of 64 bytes, one after another')
 fill(0xA5)
-LARGE = [(20 + i, 0x03000000 + 256 * i, 64 * (6 - i), 64) for i in range(7)]
-setup(LARGE, lent=448, platform=0x1234)
-for i in range(7):
+LARGE = [(20 + i, 0x03000000 + 256 * i, 64 * (LAST_SLOT - i), 64) for i in range(COMPONENT_LIMIT)]
+setup(LARGE, lent=64 * COMPONENT_LIMIT, platform=0x1234)
+for i in range(COMPONENT_LIMIT):
     offer(20 + i, 0x03000001 + 256 * i, token=i, platform=0x1234)
     send(image(20 + i, 0x03000001 + 256 * i), sequence=1000 * i)
 show()

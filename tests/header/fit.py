@@ -1,6 +1,6 @@
 #!/usr/bin/env python3
-"""Checks include/cfu.h against what is proved: each function against crates/c_api/src, each struct against crates/c_types/src, each number against the
-constants of specs/ and src/.
+"""Checks include/cfu.h against what is proved: each function against crates/c_*/src, each struct against crates/c_types/src, each number against the constants
+of specs/ and src/.
 
 fit.py [HEADER]    HEADER is include/cfu.h unless it is given
 
@@ -64,7 +64,8 @@ def spec_pairs(crate):
 
 
 def source_pairs(crate):
-    return dict(re.findall(r"^(?:pub(?:\(crate\))? )?const ([A-Z0-9_]+): \w+ = ([0-9A-Za-z_+* ]+);$", files(f"{crate}/src/*.rt"), re.M))
+    found = re.findall(r"^(?:pub(?:\(crate\))? )?const ([A-Z0-9_]+): \w+ = ([0-9A-Za-z_+* ]+);$", files(f"{crate}/src/*.rt"), re.M)
+    return {name: re.sub(r" as \w+", "", expression) for name, expression in found}
 
 
 PLACES = {"specs": spec_pairs, "src": source_pairs}
@@ -96,8 +97,19 @@ def variants(name):
 # The crates that say what a lent buffer holds.
 LENT = ("c_*", "*_bytes")
 
-NUMBERS = files("c_types/specs/Numbers.antt")
-READ = files("c_read/specs/Read.antt")
+# The header's names of places and parts, and the crates' own.
+PARTS = (
+    ("device*_bytes", {"DEVICE_SESSION_AT": "SESSION_START", "DEVICE_OWED_AT": "SESSION_START + OWED_AT", "DEVICE_COMPONENTS_AT": "COMPONENTS_START",
+                       "COMPONENT_SIZE": "COMPONENT_SIZE", "COMPONENT_RUNNING_AT": "RUNNING_AT", "COMPONENT_REGION_AT": "REGION_AT",
+                       "COMPONENT_STAGED_AT": "STAGED_AT", "LISTED_SIZE": "LISTED_SIZE"}),
+    ("c_version", {"RUNNING_SIZE": "RUNNING_SIZE", "RUNNING_ID_AT": "ID_AT"}),
+    ("bundle_layout", {"BUNDLE_HEAD_SIZE": "HEAD", "BUNDLE_ENTRY_SIZE": "ENTRY"}),
+    ("host_bytes", {"CONTENTS_BODIES_AT": "BODIES_START", "BODY_SIZE": "BODY_SIZE", "BODY_RECORDS_AT": "RECORDS_IN", "CONTENTS_HAND_AT": "HAND_START",
+                    "CONTENTS_CURSOR_AT": "CURSOR_START", "HOST_STAGE_AT": "STAGE_START", "HOST_FIRST_AT": "FIRST_AT", "HOST_SECOND_AT": "SECOND_AT",
+                    "HOST_MASK_AT": "MASK_AT", "HOST_SKIPPED_AT": "SKIPPED_AT", "HOST_LANDED_AT": "LANDED_AT"}),
+)
+
+NUMBERS = files("c_types/specs/Numbers.antt", "c_device/specs/Numbers.antt", "c_host/specs/Numbers.antt", "c_host/specs/Check.antt")
 
 
 def found(pattern, text):
@@ -110,7 +122,7 @@ def found(pattern, text):
 
 def letter_of(function, letter, entry):
     """The letter of a row's number: the definition adds it to the row's own number."""
-    named = re.search(rf"^{function} \(\w+\.{letter} k{entry}\) = (ROW-\w) \+ k$", NUMBERS, re.M)
+    named = re.search(rf"^{function} \((?:\w+\.)?{letter} k{entry}\) = (ROW-\w) \+ k$", NUMBERS, re.M)
     if named is None:
         misfit(f"specs/Numbers.antt: {function} of {letter} is no letter and a number")
         return 0
@@ -143,19 +155,20 @@ def expected_numbers():
         out.setdefault(name, []).append((place, number))
 
     lent = constants("specs", *LENT)
-    for name in ("DEVICE_SIZE", "LIST_SIZE", "HOST_SIZE", "CONTENTS_SIZE", "REPLIES_SIZE", "SHORT_SIZE", "LONG_SIZE", "DATA_SIZE", "COMPONENTS_SIZE", "SERVED"):
+    for name in ("DEVICE_SIZE", "LIST_SIZE", "HOST_SIZE", "CONTENTS_SIZE", "REPLIES_SIZE", "COMPONENTS_SIZE", "SERVED"):
         say(name, "specs", lent[name])
     own = {"C1": "WRONG_RECORD", "C2": "WRONG_LIST", "C3": "WRONG_OUTPUT"}
     for name, theirs in own.items():
         say(name, f"specs, {theirs}", lent[theirs])
     for name, number in row_numbers().items():
         say(name, "specs/Numbers.antt", number)
-    say("RUNNING", "specs/Numbers.antt", found(r"^endingNumber running = (\d+)$", NUMBERS))
-    say("DONE", "specs/Numbers.antt", found(r"^endingNumber done = (\d+)$", NUMBERS))
-    for name, pattern in (("OFFER", r"Row\.served \(kind\.offer o\)"), ("INFORMATION", r"Row\.served \(kind\.information s\)"),
-                          ("EXTENDED", r"Row\.served \(kind\.extended s\)"), ("NONE", r"\(P k\) any")):
-        say(f"KIND_{name}", "specs/Read.antt", found(rf"^packetOf {pattern} = record \{{ [^}}]*kind = (\d+);", READ))
+    for name in ("RUNNING", "DONE", "KIND_NONE", "KIND_OFFER", "KIND_INFORMATION", "KIND_EXTENDED"):
+        say(name, "specs", lent[name])
     for place, pairs in PLACES.items():
+        for crates, names in PARTS:
+            known = constants(place, crates)
+            for name, theirs in names.items():
+                say(name, f"{crates}, {place}, {theirs}", evaluated(theirs, known.__getitem__))
         limits = constants(place, *BELOW)
         for name in ("STAGING_LIMIT", "BUNDLE_LIMIT", "COMPONENT_LIMIT", "OFFER_LIMIT", "REGION_LEAST"):
             say(name, place, limits[name])
@@ -176,9 +189,9 @@ def expected_numbers():
 # Places and sizes that the header's comments give, with the crate and the constants that they are. Of the fields of a component the comments give the widths:
 # each field ends where the sum of the widths says.
 
-FIELDS = r"id \((\d)\), running version \((\d)\), region base \((\d)\), region[ *\n]+length \((\d)\), "
+FIELDS = r"id \((\d)\), running version \((\d)\), region base[ *\n]+\((\d)\), region length \((\d)\), "
 LAYOUTS = (
-    (r"the list that set-up takes: seven times (\d+) ", "device_component_bytes", ["LISTED_SIZE"]),
+    (r"the list that set-up takes: CFU_COMPONENT_LIMIT times (\d+) ", "device_component_bytes", ["LISTED_SIZE"]),
     (r"(\d+)  platform \(2\)", "device_bytes", ["PLATFORM_AT"]),
     (r"(\d+)  staging length at set-up \(4\)", "device_bytes", ["STAGING_LEN_AT"]),
     (r"(\d+)  count of components \(1\)", "device_bytes", ["COUNT_AT"]),
@@ -186,14 +199,14 @@ LAYOUTS = (
     (r"(\d+)  slot \(1\): .*; (\d+) token \(1\), (\d+) next sequence \(2\)", "device_bytes",
      ["SESSION_START + SLOT_AT", "SESSION_START + TOKEN_AT", "SESSION_START + NEXT_AT"]),
     (r"(\d+)  owed ready-reply \(1\): .*; (\d+) its token \(1\)", "device_bytes", ["SESSION_START + OWED_AT", "SESSION_START + OWED_TOKEN_AT"]),
-    (r"(\d+)  seven times (\d+) bytes: id \(1\), running version", "device_bytes", ["COMPONENTS_START", "COMPONENT_SIZE"]),
+    (r"(\d+)  CFU_COMPONENT_LIMIT times (\d+) bytes: id \(1\), running version", "device_bytes", ["COMPONENTS_START", "COMPONENT_SIZE"]),
     (r"byte (\d+) \+ (\d+) i \+ (\d+) tells whether", "device_bytes", ["COMPONENTS_START", "COMPONENT_SIZE", "STAGED_AT"]),
-    (r"the components of a version reply: seven times (\d+) ", "c_version", ["RUNNING_SIZE"]),
+    (r"the components of a version reply: CFU_COMPONENT_LIMIT times (\d+) ", "c_version", ["RUNNING_SIZE"]),
     (r"the 16 bytes of the bundle at (\d+) \+ (\d+) i", "bundle_layout", ["HEAD", "ENTRY"]),
     (r"(\d+)  row \(1\): .*; (\d+) the entry that it names \(1\)", "host_bytes", ["ROW_AT", "ENTRY_AT"]),
     (r"(\d+)  count of offers \(1\)", "host_bytes", ["COUNT_AT"]),
-    (r"(\d+)  seven times (\d+) bytes: body offset \(4\)", "host_bytes", ["BODIES_START", "BODY_SIZE"]),
-    (r"(\d+)  the block that the cursor is kept for: its entry \(4\), and (\d+) its number", "host_bytes", ["HAND_START", "HAND_START + 4"]),
+    (r"(\d+)  CFU_OFFER_LIMIT times (\d+) bytes: body offset \(4\)", "host_bytes", ["BODIES_START", "BODY_SIZE"]),
+    (r"(\d+)  the block that the cursor is kept for: its entry \(4\), and (\d+) its number", "host_bytes", ["HAND_START", "BLOCK_AT"]),
     (r"(\d+)  the host's cursor \(8\)", "host_bytes", ["CURSOR_START"]),
     (r"(\d+)  token \(1\)\n \* +(\d+)  stage \(1\): 0 fresh", "host_bytes", ["TOKEN_AT", "STAGE_START"]),
     (r"(\d+)  \(4\) and (\d+) \(4\): entry and its BUSY replies", "host_bytes", ["FIRST_AT", "SECOND_AT"]),
@@ -202,9 +215,9 @@ LAYOUTS = (
     (r"a byte (\d+) or (\d+) over 1 ", "host_bytes", ["SKIPPED_AT", "LANDED_AT"]),
 )
 WIDTHS_OF = (
-    (r"bytes: " + FIELDS + r"staged \((\d)\): .*; staged version \((\d)\)", "device_component_bytes",
+    (r"bytes: " + FIELDS + r"staged \((\d)\): .*; staged[ *\n]+version \((\d)\)", "device_component_bytes",
      ["RUNNING_AT", "REGION_AT", "REGION_LEN_AT", "STAGED_AT", "STAGED_VERSION_AT", "COMPONENT_SIZE"]),
-    (r"list: seven times " + FIELDS + "CFU_LIST_SIZE", "device_component_bytes", ["RUNNING_AT", "REGION_AT", "REGION_LEN_AT", "LISTED_SIZE"]),
+    (r"list: CFU_COMPONENT_LIMIT times " + FIELDS + "CFU_LIST_SIZE", "device_component_bytes", ["RUNNING_AT", "REGION_AT", "REGION_LEN_AT", "LISTED_SIZE"]),
 )
 
 
@@ -220,7 +233,7 @@ def hold_layouts(text):
                 misfit(f"{', '.join(names)}: the header's comment has {given}, {place} of {crate} has {expected}")
 
 
-# What the header declares, and what crates/c_api/src exports with the structs of crates/c_types/src, in C's words
+# What the header declares, and what crates/c_*/src export with the structs of crates/c_types/src, in C's words
 
 WIDTHS = {"u8": "uint8_t", "u16": "uint16_t", "u32": "uint32_t", "u64": "uint64_t", "usize": "size_t"}
 
@@ -231,7 +244,7 @@ def c_type(text):
         return WIDTHS[text]
     if re.fullmatch(r"C[A-Z]\w*", text):
         return "cfu" + re.sub(r"([A-Z])", lambda m: "_" + m.group(1).lower(), text[1:])
-    misfit(f"crates/c_api/src or crates/c_types/src: the type {text} has no place in C")
+    misfit(f"crates/c_*/src: the type {text} has no place in C")
     return text
 
 
@@ -243,14 +256,14 @@ def c_parameter(text):
 
 
 def exported():
-    text = re.sub(r"//[^\n]*", "", files("c_api/src/*.rt"))
+    text = re.sub(r"//[^\n]*", "", files("c_*/src/*.rt"))
     functions = {}
     for mangle, name, parameters, result in re.findall(r'(#\[no_mangle\]\s+)?pub extern "C" fn (\w+)\s*\((.*?)\)\s*->\s*(\w+)', text, re.S):
         if not mangle:
             misfit(f"{name}: exported without no_mangle")
         functions[name] = (c_type(result), [p for part in parameters.split(",") if part.strip() for p in c_parameter(part)])
     if len(functions) != len(re.findall(r'extern "C"', text)):
-        misfit("crates/c_api/src: an exported function that this test does not read")
+        misfit("crates/c_*/src: an exported function that this test does not read")
     structs = {}
     text = re.sub(r"//[^\n]*", "", files("c_types/src/types.rt"))
     for c_layout, name, fields in re.findall(r"(#\[repr\(C\)\]\s+)?pub struct (C\w+) \{(.*?)\}", text, re.S):

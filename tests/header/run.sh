@@ -1,5 +1,5 @@
 #!/usr/bin/env bash
-# include/cfu.h says what crates/c_api exports: fit.py checks the one against the other, and finds each of the slips below; the header compiles alone, as C99
+# include/cfu.h says what the crates c_* export: fit.py checks the one against the other, and finds each of the slips below; the header compiles alone, as C99
 # and as C++.
 set -u
 cd "$(dirname "$0")/../.." || exit 1
@@ -43,11 +43,14 @@ slip "an end's number" 's/^#define CFU_H4 0x4804/#define CFU_H4 4/' CFU_H4
 slip "a code of CFU" 's/^#define CFU_OFFER_BUSY 3/#define CFU_OFFER_BUSY 4/' CFU_OFFER_BUSY
 slip "a limit" 's/^#define CFU_STAGING_LIMIT [0-9]*/&1/' CFU_STAGING_LIMIT
 slip "a kind" 's/^#define CFU_KIND_EXTENDED 3/#define CFU_KIND_EXTENDED 2/' CFU_KIND_EXTENDED
-slip "a component's size in a record" 's/\( seven times [0-9]*\)\( bytes: id (1)\)/\11\2/' COMPONENT_SIZE
+slip "a component's size in a record" 's/\( CFU_COMPONENT_LIMIT times [0-9]*\)\( bytes: id (1)\)/\11\2/' COMPONENT_SIZE
+slip "another limit in a comment" 's/ CFU_OFFER_LIMIT times / CFU_COMPONENT_LIMIT times /' BODIES_START
 slip "a place in a device's record" 's/^\( \* *[0-9]*\)\(  owed ready-reply\)/\11\2/' OWED_AT
 slip "a width in a device's record" 's/region base ([0-9])/region base (2)/' REGION_AT
 slip "a place in a host's record" 's/^\( \* *[0-9]*\)\(  mask of\)/\11\2/' MASK_AT
 slip "a place in the contents" 's/^\( \* *[0-9]*\)\(  the block that\)/\11\2/' HAND_START
+slip "a place that has a name" 's/^#define CFU_COMPONENT_STAGED_AT [0-9]*/&1/' CFU_COMPONENT_STAGED_AT
+slip "a part's size that has a name" 's/^#define CFU_BODY_SIZE [0-9]*/&1/' CFU_BODY_SIZE
 slip "a number left out" '/^#define CFU_ERROR_CRC /d' CFU_ERROR_CRC
 slip "a number that nothing has" 's/^#define CFU_SERVED 0/&\n#define CFU_B9 0x4209/' CFU_B9
 slip "a declaration that nothing has" 's/^uint32_t cfu_host_fresh(/int spare;\n&/' "int spare"

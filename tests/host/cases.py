@@ -12,7 +12,7 @@ from cfu import ACCEPT, BUSY, READY, REJECT, SKIP  # noqa: E402
 from cfu import DONE, H1, H2, H3, H4  # noqa: E402
 from cfu import HOST_CLOSING as CLOSING, HOST_ENDED as ENDED, HOST_FRESH as FRESH, HOST_LISTING as LISTING  # noqa: E402
 from cfu import HOST_OFFERING as OFFERING, HOST_OPENING as OPENING, HOST_SENDING as SENDING, HOST_WAITING as WAITING  # noqa: E402
-from cfu import bundle, content_reply  # noqa: E402
+from cfu import OFFER_LIMIT, bundle, content_reply  # noqa: E402
 
 TOKEN = 0xA5
 script = cfu.Script(cfu.Script.LONG)
@@ -63,7 +63,8 @@ def offer(component, *sizes):
 
 
 TWO = bundle([offer(1, 52, 12), offer(2, 52, 12)])
-SEVEN = bundle([offer(k, k) for k in range(1, 8)])
+MOST = bundle([offer(k, k) for k in range(1, OFFER_LIMIT + 1)])
+LAST_ENTRY, ALL = OFFER_LIMIT - 1, (1 << OFFER_LIMIT) - 1
 NONE = bundle([])
 MORE = TWO + bytes(1)
 
@@ -92,7 +93,9 @@ record(WAITING, 1, 3)
 answer(READY)
 case('a reply decides by its token and status alone: all its other bytes 0xFF')
 record(LISTING)
-step(b'\xff\xff\xff' + bytes([TOKEN]) + b'\xff' * 8 + bytes([ACCEPT]) + b'\xff' * 3)
+reply = bytearray(b'\xff' * cfu.OFFER_REPLY.size)
+reply[cfu.OFFER_REPLY_AT.token], reply[cfu.OFFER_REPLY_AT.status] = TOKEN, ACCEPT
+step(bytes(reply))
 
 # --------------------------------------------------------- whole sessions
 
@@ -145,12 +148,12 @@ case('the bit of an offer is set by status 0 to its last block, not to an earlie
 record(SENDING, 1, 0, mask=1)
 blocks(0, 1)
 case('one record: first and last flags in one block')
-over(SEVEN)
-record(OFFERING, 6, 0, mask=0x3F)
+over(MOST)
+record(OFFERING, LAST_ENTRY, 0, mask=ALL ^ 1 << LAST_ENTRY)
 answer(ACCEPT)
 blocks(0)
 case('a bit that is set stays set')
-record(SENDING, 6, 0, mask=0x7F)
+record(SENDING, LAST_ENTRY, 0, mask=ALL)
 blocks(0)
 over(TWO)
 
@@ -229,7 +232,7 @@ for name, stage, status in [('offering', OFFERING, REJECT), ('waiting', WAITING,
         judged(busy > 8, '%s, %d BUSY' % (name, busy))
         record(stage, 0, busy)
         answer(status)
-for entry, block in [(1, 1), (2, 0), (7, 0), (255, 0), (0, 2), (1, 2), (0, 0xFFFFFFFF)]:
+for entry, block in [(1, 1), (2, 0), (OFFER_LIMIT, 0), (255, 0), (0, 2), (1, 2), (0, 0xFFFFFFFF)]:
     judged(entry > 1 or block > 1, 'sending entry %d, record %d, counted from 0, of 2 with 2 each' % (entry, block))
     record(SENDING, entry, block)
     blocks(block & 0xFFFF)
@@ -252,13 +255,13 @@ answer(ACCEPT, ACCEPT)
 case('the packet that makes 2^31 is sent, and the next step is N1')
 record(OPENING, packets=0x7FFFFFFF)
 answer(ACCEPT, ACCEPT)
-over(SEVEN)
-for mask in (0x7F, 0x80):
-    judged(mask > 0x7F, 'mask %08x over 7 offers' % mask)
+over(MOST)
+for mask in (ALL, ALL + 1):
+    judged(mask > ALL, 'mask %08x over %d offers' % (mask, OFFER_LIMIT))
     record(CLOSING, mask=mask)
     answer(ACCEPT)
-for entry in (6, 7):
-    judged(entry > 6, 'offering entry %d of 7, counted from 0' % entry)
+for entry in (LAST_ENTRY, OFFER_LIMIT):
+    judged(entry > LAST_ENTRY, 'offering entry %d of %d, counted from 0' % (entry, OFFER_LIMIT))
     record(OFFERING, entry)
     answer(REJECT)
 over(TWO)
@@ -268,8 +271,15 @@ step()
 
 # --------------------------------------------------------- refused bundles
 
-for name, bad in [('B1', TWO[:7]), ('B2', TWO[:7] + b'\x01' + TWO[8:]), ('B3', NONE), ('B4', TWO[:55]), ('B5', TWO[:35] + b'\x01' + TWO[36:]),
-                  ('B6', bundle([offer(1, 52), offer(1, 52)])), ('B7', MORE), ('B8', bundle([offer(1, 52), offer(2, 53)]))]:
+def with_one(data, at):
+    """The bundle with 1 in one byte."""
+    return data[:at] + b'\x01' + data[at + 1:]
+
+
+HEAD, DATA = cfu.BUNDLE_HEAD.size, cfu.DATA_SIZE
+for name, bad in [('B1', TWO[:HEAD - 1]), ('B2', with_one(TWO, HEAD - 1)), ('B3', NONE), ('B4', TWO[:cfu.entry_start(2) - 1]),
+                  ('B5', with_one(TWO, cfu.entry_start(1) + cfu.OFFER_AT.token)), ('B6', bundle([offer(1, DATA), offer(1, DATA)])), ('B7', MORE),
+                  ('B8', bundle([offer(1, DATA), offer(2, DATA + 1)]))]:
     case('a refused bundle: %s' % name)
     over(bad)
     fresh()

@@ -9,7 +9,8 @@ import sys
 
 sys.path.append(os.path.join(os.path.dirname(os.path.abspath(__file__)), ".."))
 import cfu  # noqa: E402
-from cfu import BUNDLE_LIMIT as LIMIT, body, body_record as record, bundle, image, offer, version  # noqa: E402
+from cfu import BODY_RECORD, BODY_RECORD_AT, BUNDLE_HEAD, BUNDLE_HEAD_AT, BUNDLE_LIMIT as LIMIT, DATA_SIZE, ENTRY_AT, OFFER_AT, OFFER_LIMIT  # noqa: E402
+from cfu import body, body_record as record, bundle, image, offer, version  # noqa: E402
 
 
 def little(value, size):
@@ -18,8 +19,9 @@ def little(value, size):
 
 V130 = version(1, 3)
 V120 = version(1, 2)
-E12 = bundle([(offer(1, V130, need=2, least=V120 >> 8), body(image(1, V130))), (offer(2, V120), body(image(2, V120)))])
-assert len(E12) == 204 and E12[8 + 8:8 + 12] == bytes([2, 2, 0, 1])
+E12_OFFERS = [(offer(1, V130, need=2, least=V120 >> 8), body(image(1, V130))), (offer(2, V120), body(image(2, V120)))]
+E12, E12_TABLE = bundle(E12_OFFERS), cfu.entry_start(len(E12_OFFERS))
+assert len(E12) == 204 and E12[cfu.entry_start(0) + OFFER_AT.need:][:4] == bytes([2, 2, 0, 1])
 for whole in (image(1, V130), image(2, V120)):
     assert whole[-2] != whole[-1], "a CRC that reads the same both ways shows nothing"
 
@@ -53,11 +55,21 @@ def entry(i):
 
 
 def offset_of(i):
-    return entry(i) + cfu.ENTRY_OFFSET
+    return entry(i) + ENTRY_AT.offset
 
 
 def length_of(i):
-    return entry(i) + cfu.ENTRY_LENGTH
+    return entry(i) + ENTRY_AT.length
+
+
+def body_of(data, i):
+    """Where the body of entry i stands, from 1, and how long it is."""
+    return cfu.ENTRY.unpack_from(data, entry(i))[1:]
+
+
+def first_length(data, i):
+    """Where the first record of a body has its length."""
+    return body_of(data, i)[0] + BODY_RECORD_AT.length
 
 
 def simple(count, first=1, size=1):
@@ -74,7 +86,7 @@ case("e12", E12, "offers 2", "1 1.3.0 records 2", "2 1.2.0 records 2")
 case("e12-other-order", bundle([(offer(2, V120), body(image(2, V120))), (offer(1, V130), body(image(1, V130)))]),
      "offers 2", "2 1.2.0 records 2", "1 1.3.0 records 2")
 case("one-offer", bundle(simple(1)), *simple_lines(1))
-case("seven-offers", bundle(simple(7)), *simple_lines(7))
+case("seven-offers", bundle(simple(OFFER_LIMIT)), *simple_lines(OFFER_LIMIT))
 case("ids-at-the-borders", bundle(simple(1) + simple(1, 0xDF)), "offers 2", "1 0.0.1 records 1", "223 0.0.223 records 1")
 case("largest-version", bundle([(offer(9, 0xFFFFFFFF), record(0, b"x"))]), "offers 1", "9 255.65535.255 records 1")
 case("records-of-1-and-52", bundle([(offer(3, 1), record(0, b"x") + record(0xFFFFFFFF, bytes(52)) + record(7, b"y"))]),
@@ -87,87 +99,94 @@ case("platform-and-need-are-free", bundle([(offer(3, 1, need=0xFE, least=0xFFFFF
 full = bundle([(offer(5, V130), record(0, b"z") * 10916 + record(0, b"end"))])
 assert len(full) == LIMIT
 case("65536-bytes", full, "offers 1", "5 1.3.0 records 10917")
-refused("65536-bytes-last-record-cut", edited(full, (LIMIT - 4, 4)), 8, 1)
-refused("65536-bytes-last-record-short", edited(full, (LIMIT - 4, 2)), 8, 1)
-refused("65536-bytes-wrong-offset", edited(full, (offset_of(1), 33)), 7, 1)
+last_length = LIMIT - len(record(0, b"end")) + BODY_RECORD_AT.length
+refused("65536-bytes-last-record-cut", edited(full, (last_length, 4)), 8, 1)
+refused("65536-bytes-last-record-short", edited(full, (last_length, 2)), 8, 1)
+refused("65536-bytes-wrong-offset", edited(full, (offset_of(1), entry(2) + 1)), 7, 1)
 refused("65536-zeros", bytes(LIMIT), 2, 0)
 
 # B1
 refused("empty", b"", 1, 0)
 refused("one-byte", b"\x01", 1, 0)
-refused("seven-bytes", E12[:7], 1, 0)
+refused("seven-bytes", E12[:BUNDLE_HEAD.size - 1], 1, 0)
 refused("65537-bytes", full + b"\x00", 1, 0)
 refused("65537-zeros", bytes(LIMIT + 1), 1, 0)
 refused("200000-bytes", E12 * 981, 1, 0)
-refused("eight-bytes-without-a-table", E12[:8], 4, 0)
+refused("eight-bytes-without-a-table", E12[:BUNDLE_HEAD.size], 4, 0)
 
 # B2
-refused("byte-1-zero", edited(E12, (1, 0)), 2, 0)
-refused("byte-1-two", edited(E12, (1, 2)), 2, 0)
-for place in range(2, 8):
+refused("byte-1-zero", edited(E12, (BUNDLE_HEAD_AT.format, 0)), 2, 0)
+refused("byte-1-two", edited(E12, (BUNDLE_HEAD_AT.format, 2)), 2, 0)
+for place in range(2, BUNDLE_HEAD.size):
     refused(f"byte-{place}-not-zero", edited(E12, (place, 1 << (place - 1))), 2, 0)
 
 # B3
-refused("no-offers", edited(E12, (0, 0)), 3, 0)
-refused("eight-offers", bundle(simple(8)), 3, 0)
-refused("255-offers", edited(E12, (0, 255)), 3, 0)
+refused("no-offers", edited(E12, (BUNDLE_HEAD_AT.count, 0)), 3, 0)
+refused("eight-offers", bundle(simple(OFFER_LIMIT + 1)), 3, 0)
+refused("255-offers", edited(E12, (BUNDLE_HEAD_AT.count, 255)), 3, 0)
 
 # B4
-refused("a-byte-short-of-the-table", E12[:55], 4, 0)
-refused("seven-offers-a-byte-short", bundle(simple(7))[:entry(8) - 1], 4, 0)
-refused("the-table-alone", E12[:56], 7, 2)
+refused("a-byte-short-of-the-table", E12[:E12_TABLE - 1], 4, 0)
+refused("seven-offers-a-byte-short", bundle(simple(OFFER_LIMIT))[:entry(OFFER_LIMIT + 1) - 1], 4, 0)
+refused("the-table-alone", E12[:E12_TABLE], 7, 2)
 
 # B5, each clause at the first and at a later entry
-clauses = {"byte-0": (0, 1), "byte-1": (1, 0x40), "byte-3": (3, 0xA5), "byte-13": (13, 0x80), "byte-12-one": (12, 1), "byte-12-0x12": (12, 0x12),
-           "id-0": (2, 0), "id-0xe0": (2, 0xE0), "id-0xff": (2, 0xFF)}
+clauses = {"byte-0": (OFFER_AT.segment, 1), "byte-1": (OFFER_AT.flags, cfu.FLAG_I), "byte-3": (OFFER_AT.token, 0xA5), "byte-13": (OFFER_AT.reserved, 0x80),
+           "byte-12-one": (OFFER_AT.protocol, 1), "byte-12-0x12": (OFFER_AT.protocol, 0x12), "id-0": (OFFER_AT.id, 0), "id-0xe0": (OFFER_AT.id, 0xE0),
+           "id-0xff": (OFFER_AT.id, 0xFF)}
 for name, (place, value) in clauses.items():
     for i in (1, 2):
         refused(f"{name}-at-{i}", edited(E12, (entry(i) + place, value)), 5, i)
-    refused(f"{name}-at-7", edited(bundle(simple(7)), (entry(7) + place, value)), 5, 7)
+    refused(f"{name}-at-{OFFER_LIMIT}", edited(bundle(simple(OFFER_LIMIT)), (entry(OFFER_LIMIT) + place, value)), 5, OFFER_LIMIT)
 
 # B6
-refused("id-repeated-at-2", edited(E12, (entry(2) + 2, 1)), 6, 2)
+refused("id-repeated-at-2", edited(E12, (entry(2) + OFFER_AT.id, 1)), 6, 2)
 refused("ids-1-2-1-2", bundle(simple(2) + simple(2)), 6, 3)
-refused("id-repeated-at-7", edited(bundle(simple(7)), (entry(7) + 2, 3)), 6, 7)
+refused(f"id-repeated-at-{OFFER_LIMIT}", edited(bundle(simple(OFFER_LIMIT)), (entry(OFFER_LIMIT) + OFFER_AT.id, 3)), 6, OFFER_LIMIT)
 
 # B7
-refused("offset-one-less-at-1", edited(E12, (offset_of(1), 55)), 7, 1)
-refused("offset-one-more-at-1", edited(E12, (offset_of(1), 57)), 7, 1)
-refused("offset-one-more-at-2", edited(E12, (offset_of(2), 131)), 7, 2)
+(start, length), (next_start, next_length) = body_of(E12, 1), body_of(E12, 2)
+refused("offset-one-less-at-1", edited(E12, (offset_of(1), start - 1)), 7, 1)
+refused("offset-one-more-at-1", edited(E12, (offset_of(1), start + 1)), 7, 1)
+refused("offset-one-more-at-2", edited(E12, (offset_of(2), next_start + 1)), 7, 2)
 refused("offset-zero-at-2", edited(E12, (offset_of(2), 0)), 7, 2)
-refused("offset-far-at-1", edited(E12, (offset_of(1), little(0x80000038, 4))), 7, 1)
-refused("length-one-less-at-1", edited(E12, (length_of(1), 73)), 7, 2)
-refused("length-one-more-at-2", edited(E12, (length_of(2), 75)), 7, 2)
-refused("length-one-less-at-2", edited(E12, (length_of(2), 73)), 7, 2)
+refused("offset-far-at-1", edited(E12, (offset_of(1), little(0x80000000 + start, 4))), 7, 1)
+refused("length-one-less-at-1", edited(E12, (length_of(1), length - 1)), 7, 2)
+refused("length-one-more-at-2", edited(E12, (length_of(2), next_length + 1)), 7, 2)
+refused("length-one-less-at-2", edited(E12, (length_of(2), next_length - 1)), 7, 2)
 refused("a-byte-after-the-last-body", E12 + b"\x00", 7, 2)
 refused("a-byte-short-of-the-last-body", E12[:-1], 7, 2)
-refused("length-past-the-end-and-chained", edited(E12, (length_of(1), little(1000, 4)), (offset_of(2), little(1056, 4))), 7, 2)
+refused("length-past-the-end-and-chained", edited(E12, (length_of(1), little(1000, 4)), (offset_of(2), little(start + 1000, 4))), 7, 2)
 refused("length-far-at-1", edited(bundle(simple(1)), (length_of(1), little(0xFFFFFFFF, 4))), 7, 1)
-refused("ends-that-wrap-in-32-bits", edited(E12, (length_of(1), little(0xFFFFFFFF, 4)), (offset_of(2), little(55, 4)), (length_of(2), little(149, 4))), 7, 2)
+wrapped = [(length_of(1), little(0xFFFFFFFF, 4)), (offset_of(2), little(start - 1, 4)), (length_of(2), little(len(E12) - (start - 1), 4))]
+refused("ends-that-wrap-in-32-bits", edited(E12, *wrapped), 7, 2)
 
 # B8, each clause at the first and at a later entry
 good = record(0, b"x")
-bad_bodies = {"empty-body": b"", "cut-in-the-head": good + bytes(4), "head-alone": good + record(0, b"12")[:5], "cut-in-the-data": good + record(0, b"12")[:6],
-              "length-0": good + record(0, b""), "length-0-alone": record(0, b""), "length-53": record(0, bytes(53)), "length-255": record(0, bytes(255))}
+bad_bodies = {"empty-body": b"", "cut-in-the-head": good + bytes(BODY_RECORD.size - 1), "head-alone": good + record(0, b"12")[:BODY_RECORD.size],
+              "cut-in-the-data": good + record(0, b"12")[:-1], "length-0": good + record(0, b""), "length-0-alone": record(0, b""),
+              f"length-{DATA_SIZE + 1}": record(0, bytes(DATA_SIZE + 1)), "length-255": record(0, bytes(255))}
 for name, blocks in bad_bodies.items():
-    for i in (1, 2, 7):
+    for i in (1, 2, OFFER_LIMIT):
         parts = simple(max(i, 2))
         parts[i - 1] = (parts[i - 1][0], blocks)
         refused(f"{name}-at-{i}", bundle(parts), 8, i)
 
 # borders: several faults, and the row and entry that come first
-refused("b1-before-b2", edited(E12, (1, 0))[:7], 1, 0)
-refused("b2-before-b3", edited(E12, (1, 0), (0, 0)), 2, 0)
-refused("b3-before-b4", edited(E12, (0, 9))[:56], 3, 0)
-refused("b4-before-b5", edited(E12, (entry(1), 1))[:55], 4, 0)
-refused("b5-at-2-before-b7-and-b8-at-1", edited(E12, (entry(2) + 12, 3), (offset_of(1), 0), (56 + 4, 0)), 5, 2)
-refused("b5-at-7-before-b6-at-2", edited(bundle(simple(7)), (entry(2) + 2, 1), (entry(7) + 13, 1)), 5, 7)
-refused("b6-at-2-before-b7-at-1", edited(E12, (entry(2) + 2, 1), (offset_of(1), 0)), 6, 2)
-refused("b6-at-3-before-b8-at-1", edited(bundle(simple(3)), (entry(3) + 2, 2), (80 + 4, 0)), 6, 3)
-refused("b7-at-2-before-b8-at-1", edited(E12, (offset_of(2), 0), (56 + 4, 0)), 7, 2)
-refused("b7-at-the-end-before-b8-at-1", edited(E12, (56 + 4, 0)) + b"\x00", 7, 2)
-refused("b8-at-1-and-2", edited(E12, (56 + 4, 0), (130 + 4, 0)), 8, 1)
-refused("two-clauses-of-b5-in-two-entries", edited(E12, (entry(2), 1), (entry(1) + 2, 0)), 5, 1)
+BAD_BODY = (first_length(E12, 1), 0)
+refused("b1-before-b2", edited(E12, (BUNDLE_HEAD_AT.format, 0))[:BUNDLE_HEAD.size - 1], 1, 0)
+refused("b2-before-b3", edited(E12, (BUNDLE_HEAD_AT.format, 0), (BUNDLE_HEAD_AT.count, 0)), 2, 0)
+refused("b3-before-b4", edited(E12, (BUNDLE_HEAD_AT.count, OFFER_LIMIT + 2))[:E12_TABLE], 3, 0)
+refused("b4-before-b5", edited(E12, (entry(1) + OFFER_AT.segment, 1))[:E12_TABLE - 1], 4, 0)
+refused("b5-at-2-before-b7-and-b8-at-1", edited(E12, (entry(2) + OFFER_AT.protocol, 3), (offset_of(1), 0), BAD_BODY), 5, 2)
+refused(f"b5-at-{OFFER_LIMIT}-before-b6-at-2",
+        edited(bundle(simple(OFFER_LIMIT)), (entry(2) + OFFER_AT.id, 1), (entry(OFFER_LIMIT) + OFFER_AT.reserved, 1)), 5, OFFER_LIMIT)
+refused("b6-at-2-before-b7-at-1", edited(E12, (entry(2) + OFFER_AT.id, 1), (offset_of(1), 0)), 6, 2)
+refused("b6-at-3-before-b8-at-1", edited(bundle(simple(3)), (entry(3) + OFFER_AT.id, 2), (first_length(bundle(simple(3)), 1), 0)), 6, 3)
+refused("b7-at-2-before-b8-at-1", edited(E12, (offset_of(2), 0), BAD_BODY), 7, 2)
+refused("b7-at-the-end-before-b8-at-1", edited(E12, BAD_BODY) + b"\x00", 7, 2)
+refused("b8-at-1-and-2", edited(E12, BAD_BODY, (first_length(E12, 2), 0)), 8, 1)
+refused("two-clauses-of-b5-in-two-entries", edited(E12, (entry(2) + OFFER_AT.segment, 1), (entry(1) + OFFER_AT.id, 0)), 5, 1)
 
 
 def main():

@@ -9,7 +9,7 @@ import sys
 
 sys.path.append(os.path.join(os.path.dirname(os.path.abspath(__file__)), ".."))
 import cfu  # noqa: E402
-from cfu import ACCEPT, BUSY, FIRST, LAST, READY, REJECT, SKIP, UNSUPPORTED, content_reply  # noqa: E402
+from cfu import ACCEPT, BUSY, DATA_SIZE, FIRST, LAST, READY, REJECT, SKIP, UNSUPPORTED, content_reply  # noqa: E402
 
 script = cfu.Script(cfu.Script.SHORT)
 lines = ["set-up: served"]
@@ -31,8 +31,9 @@ OFFER = bytes.fromhex("00 00 01 A5 00 03 00 01 00 00 00 00 02 00 42 00")  # E2
 READY_TOKEN = 0x31
 
 
-def changed(packet, place, new):
-    new = bytes.fromhex(new)
+def changed(packet, field, new):
+    """The offer with other bytes from a field on."""
+    place, new = getattr(cfu.OFFER_AT, field), bytes.fromhex(new)
     return packet[:place] + new + packet[place + len(new):]
 
 
@@ -64,6 +65,11 @@ def sends(packet, status):
     case("C", packet, reply(content_reply(cfu.CONTENT.unpack(packet)[2], status)))
 
 
+def versions(reply):
+    """A version reply, with zeros after these bytes."""
+    case("V", b"", "versions " + spaced(bytes.fromhex(reply).ljust(cfu.LONG_SIZE, b"\0")))
+
+
 def offered():
     """Idle again, and an accepted offer for component 1."""
     asks(information(0), ACCEPT, 0, 0x11)
@@ -71,35 +77,35 @@ def offered():
 
 
 # E1
-case("V", b"", "versions " + spaced(bytes.fromhex("02 00 00 02 00 02 00 01 00 01 42 00 00 01 00 01 00 02 42 00") + bytes(40)))
+versions("02 00 00 02 00 02 00 01 00 01 42 00 00 01 00 01 00 02 42 00")
 
 # E7, before any offer
 sends(content(FIRST, 1, 0x1234, 0), 0x0A)
 
 # E3 to E5 leave the session idle
-OLD = changed(OFFER, 4, "00 02 00 01")
+OLD = changed(OFFER, "version", "00 02 00 01")
 asks(OLD, REJECT, 0)
-asks(changed(OFFER, 12, "01"), REJECT, 0xE0)
-asks(changed(OLD, 12, "01"), REJECT, 0xE0)
-asks(changed(OFFER, 8, "02 02 00 01"), SKIP)
+asks(changed(OFFER, "protocol", "01"), REJECT, 0xE0)
+asks(changed(OLD, "protocol", "01"), REJECT, 0xE0)
+asks(changed(OFFER, "need", "02 02 00 01"), SKIP)
 
 # E6, then a second offer while the session is open; E2
-asks(changed(OFFER, 8, "02 01 00 01"), ACCEPT)
+asks(changed(OFFER, "need", "02 01 00 01"), ACCEPT)
 asks(OFFER, BUSY)
 asks(information(0), ACCEPT, 0, 0x11)
 asks(OFFER, ACCEPT)
 
 # E8 to E10
 offered()
-sends(content(FIRST, 52, 7, 12), 0)
+sends(content(FIRST, DATA_SIZE, 7, 12), 0)
 offered()
-sends(content(FIRST, 52, 7, 13), 0x09)
+sends(content(FIRST, DATA_SIZE, 7, 13), 0x09)
 sends(content(FIRST, 1, 7, 0xFFFFFFFF), 0x09)
-sends(content(FIRST, 53, 7, 0), 0x0B)
+sends(content(FIRST, DATA_SIZE + 1, 7, 0), 0x0B)
 
 # frames that are no packets of their channel: D3, with the reply zeroed; and a channel that there is not
-REFUSED = "refused D3, " + spaced(bytes(16))
-case("O", OFFER[:15], REFUSED)
+REFUSED = "refused D3, " + spaced(bytes(cfu.SHORT_SIZE))
+case("O", OFFER[:-1], REFUSED)
 case("O", b"", REFUSED)
 case("C", OFFER, REFUSED)
 case("X", OFFER, "unknown channel")
@@ -118,18 +124,20 @@ asks(information(1), ACCEPT, 0, 0x11)
 asks(OFFER, ACCEPT)
 case("O", extended(1), "no reply")
 asks(extended(1), BUSY, 0, READY_TOKEN)
-sends(content(FIRST, 52, 0xFFFF, 0, IMAGE[:52]), 0)
-sends(content(LAST, 12, 1, 52, IMAGE[52:]), 0x0B)
-case("C", content(LAST, 12, 0, 52, IMAGE[52:]), reply(content_reply(0, 0), offer_reply(READY, 0, READY_TOKEN)))
+(_, _, HEAD), (AT, _, REST) = cfu.blocks(IMAGE)
+sends(content(FIRST, len(HEAD), 0xFFFF, 0, HEAD), 0)
+sends(content(LAST, len(REST), 1, AT, REST), 0x0B)
+case("C", content(LAST, len(REST), 0, AT, REST), reply(content_reply(0, 0), offer_reply(READY, 0, READY_TOKEN)))
 asks(information(2), ACCEPT, 0, 0x11)
 asks(OFFER, REJECT, 2)
-case("V", b"", "versions " + spaced(bytes.fromhex("02 00 00 02 00 02 00 01 00 01 42 00 00 01 00 01 00 02 42 00") + bytes(40)))
+versions("02 00 00 02 00 02 00 01 00 01 42 00 00 01 00 01 00 02 42 00")
 case("R", b"", "reset")
-case("V", b"", "versions " + spaced(bytes.fromhex("02 00 00 02 00 03 00 01 00 01 42 00 00 01 00 01 00 02 42 00") + bytes(40)))
+versions("02 00 00 02 00 03 00 01 00 01 42 00 00 01 00 01 00 02 42 00")
 asks(OFFER, REJECT, 0)
 
 # the input ends inside a frame
-script.bytes += b"O\x10" + OFFER[:15]
+script.frame("O", OFFER)
+del script.bytes[-1]
 lines.append("cut frame")
 
 if sys.argv[1:] == ["stdin"]:

@@ -25,7 +25,7 @@ def version_text(v):
     return "%d.%d.%d" % v
 
 
-# Version reply. P2 either way: count over 7 or protocol not 2. A component is (version, id, platform).
+# Version reply. P2 either way: count over COMPONENT_LIMIT or protocol not PROTOCOL. A component is (version, id, platform).
 
 NO_COMPONENT = ((0, 0, 0), 0, 0)
 
@@ -33,7 +33,7 @@ NO_COMPONENT = ((0, 0, 0), 0, 0)
 def version_reply_text(count, protocol, components):
     text = f" count {count} protocol {protocol}"
     for v, id, platform in components:
-        text += f" | id {id:02x} version {version_text(v)} platform {platform:04x}"
+        text += f"; version {version_text(v)} id {id:02x} platform {platform:04x}"
     return text
 
 
@@ -182,18 +182,17 @@ READS = {"v": read_version_reply, "o": read_offer_channel, "r": read_offer_reply
 def line(kind, payload):
     if kind in READS:
         return f"{hexes(payload)} ->{READS[kind](payload)}\n"
-    if len(payload) != cfu.BUILT_FROM.get(kind):
-        return " bad frame\n"
     asked, came = BUILDS[kind](payload)
     return f"{asked} ->{came}\n"
 
 
 def main():
-    script = sys.stdin.buffer.read()
-    while len(script) >= 2 and len(script) >= 2 + script[1]:
-        kind, payload = chr(script[0]), script[2 : 2 + script[1]]
-        sys.stdout.write(payload.decode() if kind == "#" else line(kind, payload))
-        script = script[2 + script[1] :]
+    script, head = sys.stdin.buffer.read(), cfu.Script(cfu.Script.LONG).head
+    while len(script) >= head.size:
+        kind, length = head.unpack_from(script)
+        payload, script = script[head.size : head.size + length], script[head.size + length :]
+        if len(payload) == length:
+            sys.stdout.write(payload.decode() if kind == b"#" else line(kind.decode(), payload))
 
 
 main()

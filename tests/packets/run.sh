@@ -12,4 +12,4 @@ for file in stdin stdout; do
         exit 1
     fi
 done
-echo "tests/packets: $(grep -c ' ->' "$made/stdout") cases and $(grep -c 'bad frame$' "$made/stdout") bad frames, as committed"
+echo "tests/packets: $(grep -c ' ->' "$made/stdout") cases, as committed"

@@ -76,27 +76,30 @@ fn e12_is_accepted_with_its_contents() {
 }
 
 #[test]
-fn one_offer_and_seven() {
+fn one_offer_and_the_most() {
     assert_eq!(accepted(&bundle_of(&[(ONE, record_bytes(0, &[1]))])).count, 1);
-    let mut seven = vec![];
-    for id in [1, 2, 3, 4, 5, 6, 0xDF] {
+    // Ids from 1 on, and the last one is the highest.
+    let last = OFFER_LIMIT - 1;
+    let ids: [u8; OFFER_LIMIT] = std::array::from_fn(|entry| if entry == last { ID_LIMIT } else { entry as u8 + 1 });
+    let mut most = vec![];
+    for id in ids {
         let mut offer = TWO;
         offer[offer_at::ID] = id;
-        seven.push((offer, record_bytes(0, &[id])));
+        most.push((offer, record_bytes(0, &[id])));
     }
-    let c = accepted(&bundle_of(&seven));
-    assert_eq!(c.count, 7);
-    assert_eq!(c.table.map(|e| e.offer.id), [1, 2, 3, 4, 5, 6, 0xDF]);
-    assert_eq!(c.table[6].offset as usize, entry_start(7) + 6 * (record_at::DATA + 1));
+    let c = accepted(&bundle_of(&most));
+    assert_eq!(c.count as usize, OFFER_LIMIT);
+    assert_eq!(c.table.map(|e| e.offer.id), ids);
+    assert_eq!(c.table[last].offset as usize, entry_start(OFFER_LIMIT) + last * (record_at::DATA + 1));
 }
 
 #[test]
 fn b1_too_short_or_too_long() {
-    for n in 0..BUNDLE_HEAD {
+    for n in 0..BUNDLE_HEAD_SIZE {
         refused(&e12()[..n], BundleVerdict::B1, 0);
     }
     // 65,536 bytes are allowed: 1,149 records of 52 and one of 6 after a table of one.
-    let mut long: Vec<u8> = (0..1149).flat_map(|_| record_bytes(0, &[7; 52])).collect();
+    let mut long: Vec<u8> = (0..1149).flat_map(|_| record_bytes(0, &[7; DATA_SIZE])).collect();
     long.extend(record_bytes(0, &[7; 6]));
     let b = bundle_of(&[(ONE, long.clone())]);
     assert_eq!(b.len(), BUNDLE_LIMIT);
@@ -109,7 +112,7 @@ fn b1_too_short_or_too_long() {
 fn b2_head() {
     refused(&with(1, &[0]), BundleVerdict::B2, 0);
     refused(&with(1, &[2]), BundleVerdict::B2, 0);
-    for at in 2..BUNDLE_HEAD {
+    for at in 2..BUNDLE_HEAD_SIZE {
         refused(&with(at, &[1]), BundleVerdict::B2, 0);
     }
     // Before B3.
@@ -118,10 +121,10 @@ fn b2_head() {
 
 #[test]
 fn b3_count_and_b4_table() {
-    for count in [0, 8, 255] {
+    for count in [0, OFFER_LIMIT as u8 + 1, 255] {
         refused(&with(0, &[count]), BundleVerdict::B3, 0);
     }
-    for n in BUNDLE_HEAD..entry_start(2) {
+    for n in BUNDLE_HEAD_SIZE..entry_start(2) {
         refused(&e12()[..n], BundleVerdict::B4, 0);
     }
     // A table that just fits is read: the third entry is a body's bytes, and no offer.
@@ -185,7 +188,7 @@ fn b8_bodies() {
         vec![0; 4],
         [0, 0, 0, 0, 0].to_vec(),
         [0, 0, 0, 0, 2, 7].to_vec(),
-        record_bytes(0, &[7; 53]),
+        record_bytes(0, &[7; DATA_SIZE + 1]),
         [body(7), vec![0]].concat(),
         [body(7), vec![0, 0, 0, 0, 0]].concat(),
     ];
@@ -238,7 +241,7 @@ fn a_body_that_ends_inside_a_record_is_broken() {
         };
         assert_eq!(tally(&b, 0, end), expected, "{end} bytes");
     }
-    for size in [0, 53, 255] {
+    for size in [0, DATA_SIZE as u8 + 1, 255] {
         let mut b = [7; 300];
         b[record_at::LENGTH] = size;
         assert_eq!(next_record(&b, 0, record_at::DATA as u64 + size as u64), Next::Bad, "length {size}");

@@ -98,6 +98,10 @@ fn an_image_is_read_from_its_region() {
     assert_eq!(region(64, 63).image(&staging, 2), Image::Damaged);
 }
 
+/// The most components, as the byte that counts them, and the shortest region.
+const MOST: u8 = COMPONENT_LIMIT as u8;
+const LEAST: u32 = REGION_LEAST as u32;
+
 /// Set-up of components with these ids and regions, over a buffer of n bytes.
 fn set_up(n: usize, count: u8, some: &[(u8, u32, u32)]) -> SetupVerdict {
     let made = |(id, base, len)| component(id, Version::new(1, 0, 0), region(base, len));
@@ -116,25 +120,26 @@ fn set_up_rows_s1_to_s4() {
     // S1 comes first, over a count, ids and regions that are wrong too.
     assert_eq!(set_up(STAGING_LIMIT + 1, 2, &bench), SetupVerdict::S1);
     assert_eq!(set_up(STAGING_LIMIT + 1, 0, &[]), SetupVerdict::S1);
-    for count in [0, 8, 255] {
+    for count in [0, MOST + 1, 255] {
         assert_eq!(set_up(128, count, &bench), SetupVerdict::S2, "count {count}");
     }
-    for id in [0, 0xE0, 0xFD, 0xFF] {
+    for id in [0, ID_LIMIT + 1, 0xFD, 0xFF] {
         assert_eq!(set_up(128, 2, &[(1, 0, 64), (id, 64, 64)]), SetupVerdict::S3, "id {id}");
     }
-    assert_eq!(set_up(128, 2, &[(1, 0, 64), (0xDF, 64, 64)]), SetupVerdict::Fine);
+    assert_eq!(set_up(128, 2, &[(1, 0, 64), (ID_LIMIT, 64, 64)]), SetupVerdict::Fine);
     assert_eq!(set_up(128, 2, &[(1, 0, 64), (1, 64, 64)]), SetupVerdict::S3);
     // S3 over the whole list before S4.
-    assert_eq!(set_up(128, 2, &[(1, 0, 7), (0, 64, 64)]), SetupVerdict::S3);
-    let regions = [(64, 7), (64, 65), (63, 64), (0, 64), (32, 8), (0xFFFFFFFF, 64), (0xFFFFFFC0, 64), (64, 0xFFFFFFFF)];
+    assert_eq!(set_up(128, 2, &[(1, 0, LEAST - 1), (0, 64, 64)]), SetupVerdict::S3);
+    let regions = [(64, LEAST - 1), (64, 65), (63, 64), (0, 64), (32, LEAST), (0xFFFFFFFF, 64), (0xFFFFFFC0, 64), (64, 0xFFFFFFFF)];
     for (base, len) in regions {
         assert_eq!(set_up(128, 2, &[(1, 0, 64), (2, base, len)]), SetupVerdict::S4, "region {base} {len}");
     }
-    // Regions may touch, in either order, and seven of the shortest are allowed.
+    // Regions may touch, in either order, and as many of the shortest as there may be components are allowed.
     assert_eq!(set_up(128, 2, &[(1, 64, 64), (2, 0, 64)]), SetupVerdict::Fine);
-    let seven: Vec<_> = (1..=7).map(|id| (id, 8 * u32::from(id), 8)).collect();
-    assert_eq!(set_up(64, 7, &seven), SetupVerdict::Fine);
-    assert_eq!(set_up(63, 7, &seven), SetupVerdict::S4);
+    let most: Vec<_> = (1..=MOST).map(|id| (id, LEAST * u32::from(id), LEAST)).collect();
+    let end = REGION_LEAST * (COMPONENT_LIMIT + 1);
+    assert_eq!(set_up(end, MOST, &most), SetupVerdict::Fine);
+    assert_eq!(set_up(end - 1, MOST, &most), SetupVerdict::S4);
     // Only the first `count` components are the device's.
     assert_eq!(set_up(128, 1, &[(1, 0, 64), (1, 0, 64)]), SetupVerdict::Fine);
 }

@@ -100,7 +100,8 @@ fn e1_version_reply_both_ways() {
 #[test]
 fn version_reply_p2_either_way() {
     let mut packet = [0; LONG_SIZE];
-    for (count, protocol) in [(8, 2), (255, 2), (2, 0), (2, 1), (2, 3), (7, 15)] {
+    let most = COMPONENT_LIMIT as u8;
+    for (count, protocol) in [(most + 1, 2), (255, 2), (2, 0), (2, 1), (2, 3), (most, 15)] {
         let built = build_version_reply(version_reply(count, protocol, &[running(1, 1, 2, 0x42)]));
         assert_eq!((built.verdict, built.packet), (Verdict::P2, [0; LONG_SIZE]), "count {count} protocol {protocol}");
         packet[version_reply_at::COUNT] = count;
@@ -288,8 +289,8 @@ fn content_p2() {
 #[test]
 fn content_read_and_built_again() {
     for packet in samples::<LONG_SIZE>() {
-        let own = packet[content_at::LENGTH];
-        for (flags, length) in [(packet[content_at::FLAGS], own), (0xC0, own % 53), (0x40, 53)] {
+        let (own, over) = (packet[content_at::LENGTH], DATA_SIZE as u8 + 1);
+        for (flags, length) in [(packet[content_at::FLAGS], own), (0xC0, own % over), (FLAG_LAST_BLOCK, over)] {
             let mut packet = packet;
             packet[content_at::FLAGS] = flags;
             packet[content_at::LENGTH] = length;

@@ -65,13 +65,13 @@ fn region(base: u32, len: u32) -> Region {
 
 /// Two components, 1 at 1.2.0 and 2 at 1.1.0, with these regions.
 fn listed(one: Region, two: Region) -> [Listed; COMPONENT_LIMIT] {
-    let part = |id, minor, region| Listed {
+    let component = |id, minor, region| Listed {
         fixed: Fixed { id, region },
         running: Version::new(1, minor, 0),
     };
-    let mut list = [part(0, 0, region(0, 0)); COMPONENT_LIMIT];
-    list[0] = part(1, 2, one);
-    list[1] = part(2, 1, two);
+    let mut list = [component(0, 0, region(0, 0)); COMPONENT_LIMIT];
+    list[0] = component(1, 2, one);
+    list[1] = component(2, 1, two);
     list
 }
 

@@ -1,6 +1,6 @@
 #!/usr/bin/env bash
-# The time of the static library and of the crate of tools/rust_crate against the second implementation taking the same steps, as one table. It fails where the
-# three leave different bytes, never on a time. First: rt check c_api
+# The time of the static library and of the crate of tools/rust_crate against the second implementation taking the same steps, as one table, and of the
+# firmware's entry, as a second one. It fails where the three leave different bytes, never on a time. First: tools/library
 set -u
 cd "$(dirname "$0")/../.." || exit 1
 
@@ -13,7 +13,7 @@ for tool in python3 cargo rustc rt; do
     command -v "$tool" >/dev/null 2>&1 || fail "$tool is not installed"
 done
 
-bash tests/library.sh || fail "the library is not made"
+tools/library || fail "the library is not made"
 python3 tools/rust_crate target/rust/cfu_updater >/dev/null || fail "the crate is not made"
 cargo build --offline --quiet --release -j1 --manifest-path tests/speed/Cargo.toml --target-dir target/speed || fail "the measurement does not build"
 printf 'processor: %s\n' "$(sed -n 's/^model name[^:]*: //p' /proc/cpuinfo | head -n 1)"

@@ -41,12 +41,12 @@ run(record(BENCH), bundle([ONE, TWO]))
 case('E13, the other order')
 run(record(BENCH), bundle([TWO, ONE]))
 
-CHAIN = [offer(k, V11, (k + 1, V11) if k < 7 else (0, 0)) for k in range(1, 8)]
-SEVEN = [(V10, None)] * 7
+CHAIN = [offer(k, V11, (k + 1, V11) if k < cfu.OFFER_LIMIT else (0, 0)) for k in range(1, cfu.OFFER_LIMIT + 1)]
+MOST = [(V10, None)] * cfu.COMPONENT_LIMIT
 case('the chain of seven: each needs the next; one lands in a pass')
-run(record(SEVEN), bundle(CHAIN))
+run(record(MOST), bundle(CHAIN))
 case('the chain of seven, the other order')
-run(record(SEVEN), bundle(CHAIN[::-1]))
+run(record(MOST), bundle(CHAIN[::-1]))
 
 case('a need cycle: 1 needs 2, 2 needs 1; none lands')
 run(record(BENCH), bundle([ONE, offer(2, V12, (1, V13))]))

@@ -5,14 +5,14 @@ use mathlib.Core.List.{List, [], _∷_}
 use Prim.Native.Nat.{ℕ, zero, suc, _+_, _*_, _-_, _≤_, _<_}
 use native.Mathlib.Nat.{not-suc-le-zero, le-of-suc-le-suc}
 use native.Mathlib.Omega.{arith}
-use borrow.Author.Tests.{ltb-false, leb-true, eqb-true, eqb-false, not-false}
+use borrow.Author.Tests.{ltb-false, leb-true, eqb-false}
 use lib.Dec.{ltb, leb, eqb}
 use lib.ListN.{length, getD, take, drop, length-take, length-drop}
 use Rattle.wire.specs.Codes.{ID-LIMIT}
 use Rattle.wire.specs.Bytes.{Packet, Bytes, number, bytesAt}
 use Rattle.wire.specs.Checks.{firstOf, any}
 use Rattle.wire.proofs.Bounds.{first-bytes, rest-bytes}
-use Rattle.wire.proofs.Tests.{both, neither}
+use Rattle.wire.proofs.Tests.{both, neither, equal}
 use Rattle.bundle_records.specs.Record.{Block, headIn, isSound, blockIn, restOf}
 use Rattle.bundle_records.specs.Parse.{Parsed, whole, broken, more, after, parse, recordsOf, blocksOf}
 use Rattle.bundle_records.specs.declared.Head.{Head}
@@ -27,10 +27,6 @@ use Rattle.bundle.proofs.chain.Laws.{bodies-inside}
 passes : (t : Bool) (k e : ℕ) (rest : Row) → cond t (B k e) rest ≡ served → (t ≡ false) × (rest ≡ served)
 passes true k e rest h = let z : _≡_ {A = ℕ} 0 1 = cc in absurd (omega arith)
 passes false k e rest h = (refl, h)
-
--- a number that is not unlike x is x
-is : (v x : ℕ) → not (eqb v x) ≡ false → v ≡ x
-is v x h = eqb-true v x (not-false (eqb v x) h)
 
 -- what the rows say of a bundle that none refuses
 pub record Passes (b : List ℕ) : Type 0 where
@@ -58,10 +54,10 @@ rows-pass b h =
       b1 = p1 .0;
       b3 = p3 .0;
       b4 = p4 .0;
-      b5 = is (rowB5 b) 0 (p5 .0);
-      b6 = is (rowB6 b) 0 (p6 .0);
-      b7 = is (rowB7 b) 0 (p7 .0);
-      b8 = is (rowB8 b) 0 (p8 .0);
+      b5 = equal (rowB5 b) 0 (p5 .0);
+      b6 = equal (rowB6 b) 0 (p6 .0);
+      b7 = equal (rowB7 b) 0 (p7 .0);
+      b8 = equal (rowB8 b) 0 (p8 .0);
     }
 
 -- entry i has none of the ids seen, where the search names none
@@ -182,11 +178,11 @@ offered e h =
     let q = neither (not (eqb (getD e 12 0) 2)) _ (p .1) in
     let r = neither (ltb (idIn e) 1) (ltb ID-LIMIT (idIn e)) (q .1) in
     record {
-      segment = is _ 0 (b0 .0);
-      flags = is _ 0 (b1 .0);
-      token = is _ 0 (b3 .0);
-      reserved = is _ 0 (b13 .0);
-      protocol = is _ 2 (q .0);
+      segment = equal _ 0 (b0 .0);
+      flags = equal _ 0 (b1 .0);
+      token = equal _ 0 (b3 .0);
+      reserved = equal _ 0 (b13 .0);
+      protocol = equal _ 2 (q .0);
       low = ltb-false (idIn e) 1 (r .0);
       high = ltb-false ID-LIMIT (idIn e) (r .1);
     }

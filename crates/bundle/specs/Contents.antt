@@ -6,6 +6,7 @@ use mathlib.Core.List.{List, [], _∷_, _++_, map, flatten}
 use lib.ListN.{length, getD, take, replicate}
 use Rattle.wire.specs.Bytes.{Packet, Bytes, bytesOf}
 use Rattle.wire.specs.Checks.{All}
+use Rattle.wire.specs.Codes.{SHORT-SIZE}
 use Rattle.wire_offer.specs.Offer.{fieldsIn}
 use Rattle.bundle_records.specs.Record.{Block, Sound}
 use Rattle.bundle_records.specs.Parse.{whole, recordsOf, blocksOf, written}
@@ -84,7 +85,7 @@ bundleBytes ps =
 
 -- a part that B5 and B8 allow
 pub record GoodPart (p : Part) : Type 0 where
-  pub packet : Packet 16 (p .offer)
+  pub packet : Packet SHORT-SIZE (p .offer)
   pub offer : badOffer (p .offer) ≡ false
   pub some : 0 < length (p .blocks)
   pub sound : All Sound (p .blocks)

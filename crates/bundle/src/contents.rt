@@ -4,7 +4,7 @@ ghost use mathlib.Core.Bool.{false};
 ghost use mathlib.Core.List.{map, _++_};
 ghost use Prim.Native.Nat.{_+_, _-_, _≤_};
 ghost use lib.ListN.{length, take, drop, replicate};
-ghost use Rattle.wire.specs.Codes.{ID-LIMIT};
+ghost use Rattle.wire.specs.Codes.{ID-LIMIT, SHORT-SIZE};
 ghost use Rattle.wire_offer.specs.Offer.{fieldsIn};
 ghost use Rattle.bundle_records.specs.Parse.{recordsOf, blocksOf};
 ghost use Rattle.bundle_layout.specs.Layout.{BUNDLE-LIMIT, OFFER-LIMIT, ENTRY, blankEntry, countIn, tableEnd, entriesIn, offerIn, idIn, offsetIn, lengthIn};
@@ -19,6 +19,7 @@ use bundle_layout::parts::length_in;
 use bundle_layout::parts::offset_in;
 use bundle_records::Tally;
 use bundle_records::walk::tally;
+use wire::codes::SHORT_SIZE;
 use wire_offer::kind::OfferPacket;
 use wire_offer::kind::read_offer_packet;
 use wire_offer::offer::OfferFields;
@@ -29,9 +30,9 @@ pub struct Filled {
     pub table: [Entry; OFFER_LIMIT],
 }
 
-// The fields of 16 bytes that row B5 allows, by the one reader of the offer channel.
+// The fields of an offer that row B5 allows, by the one reader of the offer channel.
 fn offer_in(p: &[u8]) -> OfferFields
-    requires { ⌜ (length (now p) ≡ 16) × (idIn (now p) ≤ ID-LIMIT) ⌝ }
+    requires { ⌜ (length (now p) ≡ SHORT-SIZE) × (idIn (now p) ≤ ID-LIMIT) ⌝ }
     ensures { λ r. ⌜ r ≡ fieldsIn (now (p .entry)) ⌝ }
 {
     let k = read_offer_packet(p);
@@ -63,7 +64,7 @@ fn contents_in(b: &[u8], e: &[u8]) -> Entry
     requires { ⌜ (offsetIn (now e) + lengthIn (now e) ≤ length (now b)) × (length (now b) ≤ BUNDLE-LIMIT) ⌝ }
     ensures { λ r. ⌜ r ≡ entryIn (now (b .entry)) (now (e .entry)) ⌝ }
 {
-    let offer = offer_in(&e[0..16]);
+    let offer = offer_in(&e[0..SHORT_SIZE]);
     let offset = offset_in(e);
     let size = length_in(e);
     let records = records_in(b, offset, size);

@@ -4,6 +4,7 @@ use Prim.Native.Nat.{ℕ, zero, suc, _+_, _*_}
 use mathlib.Core.List.{List, [], _∷_}
 use lib.ListN.{length, getD, take, drop}
 use Rattle.wire.specs.Bytes.{number, bytesAt}
+use Rattle.wire.specs.Codes.{SHORT-SIZE}
 use Rattle.wire_offer.specs.Offer.{blankOffer}
 use Rattle.bundle_layout.specs.declared.Entry.{Entry}
 
@@ -39,13 +40,13 @@ entriesIn b = entriesFrom (countIn b) (drop HEAD b)
 
 -- of an entry: the 16 bytes of its offer, the offer's id, its body's offset and length
 abbrev pub offerIn : List ℕ → List ℕ
-offerIn e = take 16 e
+offerIn e = take SHORT-SIZE e
 
 abbrev pub idIn : List ℕ → ℕ
 idIn e = getD e 2 0
 
 abbrev pub offsetIn : List ℕ → ℕ
-offsetIn e = number (bytesAt 4 16 e)
+offsetIn e = number (bytesAt 4 SHORT-SIZE e)
 
 abbrev pub lengthIn : List ℕ → ℕ
 lengthIn e = number (bytesAt 4 20 e)

@@ -17,6 +17,10 @@ pub data Row : Type 0 where
   served : Row
   B : (number entry : ℕ) → Row
 
+-- the number of the last row
+abbrev pub LAST-ROW : ℕ
+LAST-ROW = 8
+
 -- the number of each verdict's row, and 0 where none refuses
 abbrev pub numberOf : BundleVerdict → ℕ
 numberOf Fine = 0
@@ -27,7 +31,7 @@ numberOf B4 = 4
 numberOf B5 = 5
 numberOf B6 = 6
 numberOf B7 = 7
-numberOf B8 = 8
+numberOf B8 = LAST-ROW
 
 -- a row refuses
 abbrev pub isRefused : BundleVerdict → Bool
@@ -40,7 +44,7 @@ rowAt number entry = cond (eqb number 0) served (B number entry)
 abbrev pub rowOf : BundleVerdict → ℕ → Row
 rowOf v entry = rowAt (numberOf v) entry
 
--- the verdict of a number; from 8 on it is B8
+-- the verdict of a number; from the last row's on it is B8
 abbrev pub VERDICTS : List BundleVerdict
 VERDICTS = Fine ∷ B1 ∷ B2 ∷ B3 ∷ B4 ∷ B5 ∷ B6 ∷ B7 ∷ []
 

@@ -22,6 +22,9 @@ pub enum BundleVerdict {
     B8,
 }
 
+// The number of the last row.
+pub const LAST_ROW: u8 = 8;
+
 // An offer of the bundle with its body.
 pub struct Entry {
     pub offer: OfferFields,
@@ -54,7 +57,7 @@ impl BundleVerdict {
             BundleVerdict::B5 => 5,
             BundleVerdict::B6 => 6,
             BundleVerdict::B7 => 7,
-            BundleVerdict::B8 => 8,
+            BundleVerdict::B8 => LAST_ROW,
         }
     }
 
@@ -66,7 +69,7 @@ impl BundleVerdict {
     }
 }
 
-// The verdict of a number; from 8 on it is B8.
+// The verdict of a number; from the last row's on it is B8.
 pub fn verdict_of(number: u8) -> BundleVerdict
     ensures { λ r. ⌜ r ≡ verdictOf number ⌝ }
 {

@@ -6,19 +6,20 @@ use lib.Dec.{eqb, leb, ltb}
 use lib.ListN.{length, getD, take, drop}
 use Rattle.wire.specs.Bytes.{Bytes, number, bytesOf, bytesAt}
 use Rattle.wire.specs.declared.address.RegionAddress.{RegionAddress}
+use Rattle.wire.specs.Codes.{DATA-SIZE}
 use Rattle.bundle_records.specs.declared.Head.{Head}
 use Rattle.bundle_records.specs.declared.Head.the-variants.{Empty, Cut, Whole}
 
 -- the most data in a record
 abbrev pub DATA-LIMIT : ℕ
-DATA-LIMIT = 52
+DATA-LIMIT = DATA-SIZE
 
 -- a record: where its data goes in the region, and the data
 pub record Block : Type 0 where
   pub address : RegionAddress
   pub bytes : List ℕ
 
--- a record that can be written: its address in four bytes, 1 to 52 bytes of data
+-- a record that can be written: its address in four bytes, data from 1 byte to the limit
 pub record Sound (r : Block) : Type 0 where
   pub address : r .address .0 < 256 ^ 4
   pub some : 1 ≤ length (r .bytes)

@@ -1,10 +1,11 @@
 // The body of a bundle's offer: records of an address (4), a length (1) and data, one after the other.
 use wire::address::RegionAddress;
+use wire::codes::DATA_SIZE;
 
 pub mod walk; // walk.rt: a walker that steps from record to record, and the number of records
 
 // The most data in a record.
-pub const DATA_LIMIT: u8 = 52;
+pub const DATA_LIMIT: u8 = DATA_SIZE as u8;
 
 // What stands at the start of some bytes.
 pub enum Head {

@@ -11,6 +11,7 @@ use Rattle.wire.specs.Rows.{Row, served, P, Told}
 use Rattle.wire.specs.Version.{versionOf}
 use Rattle.wire.proofs.Tests.{both, served-true}
 use Rattle.wire.proofs.version.Laws.{minor-of}
+use Rattle.wire.specs.Codes.{SHORT-SIZE, LONG-SIZE, DATA-SIZE, COMPONENT-LIMIT}
 use Rattle.wire_offer.specs.Offer as offer
 use Rattle.wire_offer.specs.Signal.{informationBytes, extendedBytes}
 use Rattle.wire_offer.specs.Reply as offerReply
@@ -29,7 +30,7 @@ use Rattle.c_version.proofs.Back.{components-write-back, components-all, compon
 use Rattle.c_types.specs.declared.types.CVersion.{CVersion}
 use Rattle.c_types.specs.declared.types.COffer.{COffer}
 use Rattle.c_types.specs.Numbers.{SERVED, WRONG-LIST, WRONG-OUTPUT, packetNumber, sized}
-use Rattle.c_types.specs.Lent.{SHORT-SIZE, LONG-SIZE, DATA-SIZE, Left, leaves}
+use Rattle.c_types.specs.Lent.{Left, leaves}
 use Rattle.c_build.specs.Build.{built, isSet, fieldsOf, flagsFit, buildOfferCall, buildInformationCall, buildExtendedCall, buildOfferReplyCall, buildContentCall, buildContentReplyCall, buildVersionReplyCall}
 use Rattle.c_read.specs.Read.{partsOf, flagOf, offerOf, contentBy, versionsBy, readVersionReplyCall, readOfferCall, readOfferReplyCall, readContentCall, readContentReplyCall}
 use Rattle.c_api.specs.ReadBack.{FitsCVersion, FitsCOffer, OfferCallsReadBack, ContentCallsReadBack, VersionReplyCallsReadBack, OfferReplyCallsReadBack, ContentReplyCallsReadBack, InformationCallsReadBack, ExtendedCallsReadBack}
@@ -120,14 +121,14 @@ allowed-served r = served-true (versions.allowed (r .count) (r .protocol)) _ _ _
 pub version-reply-calls-read-back : VersionReplyCallsReadBack
 unfolding buildVersionReplyCall readVersionReplyCall cleared
 version-reply-calls-read-back count protocol components packet bytes q l h =
-    let es = componentsIn 7 components in
+    let es = componentsIn COMPONENT-LIMIT components in
     let r : VersionReply = record { count = count; protocol = protocol; components = es } in
     let s = right-size components packet COMPONENTS-SIZE WRONG-LIST (built LONG-SIZE packet (versions.buildOf r)) (omega arith) h in
     let b = built-served LONG-SIZE packet (versions.buildOf r) (rw (s .1) at h) in
     let k = known count protocol (allowed-served r (b .0)) in
-    let e = version-reply-r1 r (record { count = omega arith; protocol = omega arith; size = components-all components; each = components-fit 7 components q }) (b .0) in
-    let z : (7 - count) * RUNNING-SIZE ≡ length components - count * RUNNING-SIZE = omega arith in
-    let w = components-first count (7 - count) es (omega (arith, components-all components)) in
+    let e = version-reply-r1 r (record { count = omega arith; protocol = omega arith; size = components-all components; each = components-fit COMPONENT-LIMIT components q }) (b .0) in
+    let z : (COMPONENT-LIMIT - count) * RUNNING-SIZE ≡ length components - count * RUNNING-SIZE = omega arith in
+    let w = components-first count (COMPONENT-LIMIT - count) es (omega (arith, components-all components)) in
     rw (eq-eqb (length bytes) COMPONENTS-SIZE l, s .1, b .1) (ap versionsBy e ∙ rw (w, z, components-write-back components (record { size = s .0; bytes = q })))
 
 -- a packet without P2 is what its build left, where it was served

@@ -1,81 +1,105 @@
--- The bench device of document 01 as C sees it: what calls leave in the layouts of include/cfu.h, in literal bytes.
-use Prim.Native.Nat.{ℕ}
+-- The bench device of document 01, and a small bundle, as C sees them: what each call but those that build and read packets answers and leaves. The layouts in
+-- literal bytes are Layouts', the packets Packets'.
+use Prim.Native.Nat.{ℕ, _*_, _-_}
 use mathlib.Core.Path.{_≡_}
 use mathlib.Core.Bool.{true, false}
-use mathlib.Core.List.{List, [], _∷_, _++_}
-use lib.ListN.{replicate}
-use Rattle.bundle_layout.specs.Rows.{served, B}
-use Rattle.bundle.specs.Contents.{Contents}
-use Rattle.bundle_layout.specs.Layout.{blankEntry}
-use Rattle.bundle_layout.specs.declared.Entry.{Entry}
+use mathlib.Core.List.{List, [], _∷_, _++_, flatten}
+use lib.ListN.{set, replicate}
+use Rattle.wire.specs.Codes.{COMPONENT-LIMIT, SHORT-SIZE, LONG-SIZE}
 use Rattle.wire_offer.specs.Offer.{blankOffer}
+use Rattle.bundle_layout.specs.Rows.{served, B}
+use Rattle.bundle_layout.specs.Layout.{OFFER-LIMIT, blankEntry}
+use Rattle.bundle_layout.specs.declared.Entry.{Entry}
+use Rattle.bundle.specs.Contents.{Contents}
+use Rattle.device_session.specs.Effect.{idle, inStage, owing}
+use Rattle.device_session.specs.declared.effect.Session.{Session}
+use Rattle.device_session.specs.declared.owed.Owed.the-variants.{Token}
+use Rattle.device_session.specs.declared.stage.Stage.the-variants.{Idle, Receiving}
+use Rattle.device.specs.Record.{withSession}
+use Rattle.device.specs.Bench as bench
+use Rattle.device.specs.declared.record.Device.{Device}
+use Rattle.device_component_bytes.specs.Layout.{COMPONENT-SIZE}
+use Rattle.device_session_bytes.specs.Layout.{sessionBytes}
+use Rattle.device_bytes.specs.Layout.{DEVICE-SIZE, LIST-SIZE, deviceBytes}
 use Rattle.host_record.specs.declared.record.Host.{Host}
 use Rattle.host_record.specs.declared.record.HostStage.the-variants.{Sending, Ended}
 use Rattle.host_record.specs.declared.record.End.the-variants as end
-use Rattle.host_bytes.specs.Layout.{hostBytes, noPlace, contentsBytes}
+use Rattle.host_bytes.specs.Layout.{HOST-SIZE, BODY-SIZE, CONTENTS-SIZE, hostBytes, noPlace, contentsBytes}
 use Rattle.c_types.specs.declared.types.COffer.{COffer}
-use Rattle.c_types.specs.Numbers.{SERVED}
+use Rattle.c_types.specs.Numbers.{SERVED, filledTo}
 use Rattle.c_types.specs.Lent.{leaves}
-use Rattle.c_device.specs.Device.{setUpCall, offerCall, contentCall, versionsCall}
-use Rattle.c_host.specs.Host.{checkCall, refusedStep, stepCheckedCall, stepCheckedContents}
+use Rattle.c_device.specs.Device.{setUpCall, versionsCall, resetCall}
+use Rattle.c_device_packet.specs.Packet.{REPLIES-SIZE, offerCall, contentCall, contentCallStaging}
+use Rattle.c_host.specs.Check.{checkCall}
+use Rattle.c_host.specs.Host.{freshCall, reportCall}
+use Rattle.c_host_step.specs.Step.{StepLeft, refusedStep, stepCall, stepCheckedCall, stepCheckedContents}
 use Rattle.c_build.specs.Build.{buildOfferCall}
 use Rattle.c_read.specs.Read.{readOfferCall}
+use Rattle.c_api.specs.Layouts.{LayoutsHold}
 use Rattle.c_api.specs.Packets.{PacketsHold}
 
--- id, running version, region base, region length; five slots are not in use
+-- what set-up is told of the two components: id, running version, region base, region length; five slots are not in use
+abbrev pub one : List ℕ
+one = 1 ∷ 0x00 ∷ 0x02 ∷ 0x00 ∷ 0x01 ∷ 0 ∷ 0 ∷ 0 ∷ 0 ∷ 64 ∷ 0 ∷ 0 ∷ 0 ∷ []
+
+abbrev pub two : List ℕ
+two = 2 ∷ 0x00 ∷ 0x01 ∷ 0x00 ∷ 0x01 ∷ 64 ∷ 0 ∷ 0 ∷ 0 ∷ 64 ∷ 0 ∷ 0 ∷ 0 ∷ []
+
 abbrev pub list : List ℕ
-list =
-    1 ∷ 0x00 ∷ 0x02 ∷ 0x00 ∷ 0x01 ∷ 0 ∷ 0 ∷ 0 ∷ 0 ∷ 64 ∷ 0 ∷ 0 ∷ 0
-    ∷ 2 ∷ 0x00 ∷ 0x01 ∷ 0x00 ∷ 0x01 ∷ 64 ∷ 0 ∷ 0 ∷ 0 ∷ 64 ∷ 0 ∷ 0 ∷ 0
-    ∷ replicate 65 0
+list = filledTo LIST-SIZE (one ++ two)
 
--- the same in a record, with nothing staged
+-- the components of a record, with nothing staged
 abbrev pub components : List ℕ
-components =
-    1 ∷ 0x00 ∷ 0x02 ∷ 0x00 ∷ 0x01 ∷ 0 ∷ 0 ∷ 0 ∷ 0 ∷ 64 ∷ 0 ∷ 0 ∷ 0 ∷ 0 ∷ 0 ∷ 0 ∷ 0 ∷ 0
-    ∷ 2 ∷ 0x00 ∷ 0x01 ∷ 0x00 ∷ 0x01 ∷ 64 ∷ 0 ∷ 0 ∷ 0 ∷ 64 ∷ 0 ∷ 0 ∷ 0 ∷ 0 ∷ 0 ∷ 0 ∷ 0 ∷ 0
-    ∷ replicate 90 0
+components = filledTo (COMPONENT-LIMIT * COMPONENT-SIZE) (one ++ (replicate 5 0 ++ two))
 
--- platform, staging length, count, idle, nothing owed
-abbrev pub device : List ℕ
-device = 0x42 ∷ 0x00 ∷ 128 ∷ 0 ∷ 0 ∷ 0 ∷ 2 ∷ 0 ∷ 0 ∷ 0 ∷ 0 ∷ 0 ∷ 0 ∷ 0 ∷ components
+-- what stands before the session: platform, staging length, count
+abbrev pub head : List ℕ
+head = 0x42 ∷ 0x00 ∷ 128 ∷ 0 ∷ 0 ∷ 0 ∷ 2 ∷ []
 
--- offered on slot 0 with token 0xA5
-abbrev pub offered : List ℕ
-offered = 0x42 ∷ 0x00 ∷ 128 ∷ 0 ∷ 0 ∷ 0 ∷ 2 ∷ 1 ∷ 0 ∷ 0xA5 ∷ 0 ∷ 0 ∷ 0 ∷ 0 ∷ components
+-- the bench device with a session: offered on slot 0 with token 0xA5, owing nothing, or a READY to token 0x5A; receiving, with sequence 0x1235 next, owing it
+abbrev pub benchIn : Session → Device
+benchIn session = withSession (bench.bench Idle) (bench.bench Idle .components) session
 
--- receiving, with sequence 0x1235 next, and owing a READY to token 0x5A
-abbrev pub receiving : List ℕ
-receiving = 0x42 ∷ 0x00 ∷ 128 ∷ 0 ∷ 0 ∷ 0 ∷ 2 ∷ 2 ∷ 0 ∷ 0xA5 ∷ 0x35 ∷ 0x12 ∷ 1 ∷ 0x5A ∷ components
+abbrev pub offered : Session
+offered = inStage idle bench.forOne
 
-abbrev pub owing : List ℕ
-owing = 0x42 ∷ 0x00 ∷ 128 ∷ 0 ∷ 0 ∷ 0 ∷ 2 ∷ 1 ∷ 0 ∷ 0xA5 ∷ 0 ∷ 0 ∷ 1 ∷ 0x5A ∷ components
+abbrev pub offeredOwing : Session
+offeredOwing = owing offered (Token 0x5A)
+
+abbrev pub receivingOwing : Session
+receivingOwing = owing (inStage idle (Receiving (record { slot = 0; token = 0xA5; next = 0x1235 }))) (Token 0x5A)
 
 -- idle, with other bytes where an idle session and a component with nothing staged have none; and what E2's offer leaves of it: the session is written anew
 abbrev pub strewnComponents : List ℕ
-strewnComponents =
-    1 ∷ 0x00 ∷ 0x02 ∷ 0x00 ∷ 0x01 ∷ 0 ∷ 0 ∷ 0 ∷ 0 ∷ 64 ∷ 0 ∷ 0 ∷ 0 ∷ 0 ∷ 0 ∷ 0 ∷ 0 ∷ 9
-    ∷ 2 ∷ 0x00 ∷ 0x01 ∷ 0x00 ∷ 0x01 ∷ 64 ∷ 0 ∷ 0 ∷ 0 ∷ 64 ∷ 0 ∷ 0 ∷ 0 ∷ 0 ∷ 0 ∷ 0 ∷ 0 ∷ 0
-    ∷ replicate 90 0
+strewnComponents = set components (COMPONENT-SIZE - 1) 9
 
 abbrev pub strewn : List ℕ
-strewn = 0x42 ∷ 0x00 ∷ 128 ∷ 0 ∷ 0 ∷ 0 ∷ 2 ∷ 0 ∷ 9 ∷ 9 ∷ 9 ∷ 9 ∷ 0 ∷ 9 ∷ strewnComponents
+strewn = head ++ (0 ∷ 9 ∷ 9 ∷ 9 ∷ 9 ∷ 0 ∷ 9 ∷ strewnComponents)
 
 abbrev pub strewnOffered : List ℕ
-strewnOffered = 0x42 ∷ 0x00 ∷ 128 ∷ 0 ∷ 0 ∷ 0 ∷ 2 ∷ 1 ∷ 0 ∷ 0xA5 ∷ 0 ∷ 0 ∷ 0 ∷ 0 ∷ strewnComponents
+strewnOffered = head ++ (sessionBytes offered ++ strewnComponents)
+
+-- the report that an example of the bench asks about, and the version reply of E1
+abbrev pub reportOf : bench.Asked → List ℕ
+reportOf bench.versions = []
+reportOf (bench.packet channel p) = p
+
+abbrev pub firstReplies : List bench.Example → List (List ℕ)
+firstReplies [] = []
+firstReplies (x ∷ xs) = x .replies
 
 -- E2's offer and its reply; a first block of one byte with sequence 0x1234, and its reply
 abbrev pub offer : List ℕ
-offer = 0x00 ∷ 0x00 ∷ 0x01 ∷ 0xA5 ∷ 0x00 ∷ 0x03 ∷ 0x00 ∷ 0x01 ∷ 0x00 ∷ 0x00 ∷ 0x00 ∷ 0x00 ∷ 0x02 ∷ 0x00 ∷ 0x42 ∷ 0x00 ∷ []
+offer = reportOf (bench.offer bench.new bench.noNeed 0x02)
 
 abbrev pub accepted : List ℕ
-accepted = 0 ∷ 0 ∷ 0 ∷ 0xA5 ∷ 0 ∷ 0 ∷ 0 ∷ 0 ∷ 0 ∷ 0 ∷ 0 ∷ 0 ∷ 1 ∷ 0 ∷ 0 ∷ 0 ∷ []
+accepted = filledTo REPLIES-SIZE (flatten (bench.answer 0 1))
 
 abbrev pub block : List ℕ
-block = 0x80 ∷ 1 ∷ 0x34 ∷ 0x12 ∷ 0 ∷ 0 ∷ 0 ∷ 0 ∷ 7 ∷ replicate 51 0
+block = reportOf (bench.block 1 (replicate 4 0))
 
 abbrev pub taken : List ℕ
-taken = 0x34 ∷ 0x12 ∷ replicate 14 0
+taken = filledTo REPLIES-SIZE (flatten (bench.status 0))
 
 -- an offer with every field another value
 abbrev pub fields : COffer
@@ -117,11 +141,11 @@ body offset length records = record { offer = blankOffer; offset = offset; lengt
 
 -- E12's bodies: at 56 and 130, 74 bytes of two records each
 abbrev pub contents : Contents
-contents = record { row = served; place = 0; count = 2; table = body 56 74 2 ∷ body 130 74 2 ∷ replicate 5 blankEntry }
+contents = record { row = served; place = 0; count = 2; table = body 56 74 2 ∷ body 130 74 2 ∷ replicate (OFFER-LIMIT - 2) blankEntry }
 
 -- a bundle that B5 refuses at its second entry
 abbrev pub refusedContents : Contents
-refusedContents = record { row = B 5 2; place = 2; count = 0; table = replicate 7 blankEntry }
+refusedContents = record { row = B 5 2; place = 2; count = 0; table = replicate OFFER-LIMIT blankEntry }
 
 -- what stands behind the bodies where no block is in hand
 abbrev pub noHand : List ℕ
@@ -129,33 +153,87 @@ noHand = replicate 8 0xFF ++ replicate 8 0
 
 -- what the check leaves of seven bytes: B1, no entry and no offers
 abbrev pub shortContents : List ℕ
-shortContents = 1 ∷ 0 ∷ 0 ∷ replicate 84 0 ++ noHand
+shortContents = 1 ∷ 0 ∷ 0 ∷ replicate (OFFER-LIMIT * BODY-SIZE) 0 ++ noHand
+
+-- the same offer with V for I
+abbrev pub otherFields : COffer
+otherFields = record {
+  segment = 3;
+  «force_immediate_reset» = 0;
+  «force_ignore_version» = 1;
+  id = 9;
+  token = 0xA5;
+  version = record { major = 1; minor = 0x0203; variant = 4 };
+  need = 5;
+  least = 0x060708;
+  protocol = 2;
+  platform = 0x0A0B;
+}
+
+-- a bundle of one offer, whose body has one record of one byte; what its check leaves; a fresh host, and that host after its first step
+abbrev pub small : List ℕ
+small =
+    1 ∷ 1 ∷ 0 ∷ 0 ∷ 0 ∷ 0 ∷ 0 ∷ 0
+    ∷ 0 ∷ 0 ∷ 1 ∷ 0 ∷ 0 ∷ 3 ∷ 0 ∷ 1 ∷ 0 ∷ 0 ∷ 0 ∷ 0 ∷ 2 ∷ 0 ∷ 0x42 ∷ 0 ∷ 32 ∷ 0 ∷ 0 ∷ 0 ∷ 6 ∷ 0 ∷ 0 ∷ 0
+    ∷ 0 ∷ 0 ∷ 0 ∷ 0 ∷ 1 ∷ 7
+    ∷ []
+
+abbrev pub smallContents : List ℕ
+smallContents = 0 ∷ 0 ∷ 1 ∷ 32 ∷ 0 ∷ 0 ∷ 0 ∷ 6 ∷ 0 ∷ 0 ∷ 0 ∷ 1 ∷ 0 ∷ 0 ∷ 0 ∷ replicate ((OFFER-LIMIT - 1) * BODY-SIZE) 0 ++ noHand
+
+abbrev pub freshOne : List ℕ
+freshOne = 0xA5 ∷ replicate (HOST-SIZE - 1) 0
+
+abbrev pub begun : StepLeft
+begun = record {
+  step = record { number = SERVED; entry = 0; length = SHORT-SIZE };
+  host = 0xA5 ∷ 1 ∷ replicate 12 0 ++ 1 ∷ replicate 9 0;
+  packet = 0 ∷ 0 ∷ 0xFF ∷ 0xA5 ∷ replicate (LONG-SIZE - 4) 0;
+}
 
 -- what the calls leave, byte for byte
 pub record CallsHold : Type 0 where
-  pub sets-up : setUpCall (replicate 140 0) 0x0042 list 2 128 ≡ leaves SERVED device
-  pub versions : versionsCall device (replicate 60 9)
-      ≡ leaves SERVED (2 ∷ 0 ∷ 0 ∷ 2 ∷ 0 ∷ 2 ∷ 0 ∷ 1 ∷ 0 ∷ 1 ∷ 0x42 ∷ 0 ∷ 0 ∷ 1 ∷ 0 ∷ 1 ∷ 0 ∷ 2 ∷ 0x42 ∷ 0 ∷ replicate 40 0)
-  pub accepts : offerCall device 128 offer (replicate 32 9)
-      ≡ record { number = SERVED; count = 1; device = offered; replies = accepted ++ replicate 16 0 }
-  pub passes-over : offerCall strewn 128 offer (replicate 32 9)
-      ≡ record { number = SERVED; count = 1; device = strewnOffered; replies = accepted ++ replicate 16 0 }
-  pub takes : contentCall owing (replicate 128 0) block (replicate 32 9)
-      ≡ record { number = SERVED; count = 1; device = receiving; replies = taken ++ replicate 16 0 }
-  pub refuses : offerCall device 127 offer (replicate 32 9) ≡ record { number = 0x4402; count = 0; device = device; replies = replicate 32 0 }
+  pub records : (session : Session) → deviceBytes (benchIn session) ≡ head ++ (sessionBytes session ++ components)
+  pub idle-session : sessionBytes idle ≡ replicate 7 0
+  pub offered-session : sessionBytes offered ≡ 1 ∷ 0 ∷ 0xA5 ∷ 0 ∷ 0 ∷ 0 ∷ 0 ∷ []
+  pub receiving-session : sessionBytes receivingOwing ≡ 2 ∷ 0 ∷ 0xA5 ∷ 0x35 ∷ 0x12 ∷ 1 ∷ 0x5A ∷ []
+  pub sets-up : setUpCall (replicate DEVICE-SIZE 0) 0x0042 list 2 128 ≡ leaves SERVED (deviceBytes (benchIn idle))
+  pub versions : versionsCall (deviceBytes (benchIn idle)) (replicate LONG-SIZE 9) ≡ leaves SERVED (flatten (firstReplies bench.examples))
+  pub accepts : offerCall (deviceBytes (benchIn idle)) 128 offer (replicate REPLIES-SIZE 9)
+      ≡ record { number = SERVED; count = 1; device = deviceBytes (benchIn offered); replies = accepted }
+  pub passes-over : offerCall strewn 128 offer (replicate REPLIES-SIZE 9) ≡ record { number = SERVED; count = 1; device = strewnOffered; replies = accepted }
+  pub takes : contentCall (deviceBytes (benchIn offeredOwing)) (replicate 128 0) block (replicate REPLIES-SIZE 9)
+      ≡ record { number = SERVED; count = 1; device = deviceBytes (benchIn receivingOwing); replies = taken }
+  pub writes : contentCallStaging (deviceBytes (benchIn offeredOwing)) (replicate 128 0) block (replicate REPLIES-SIZE 9)
+      ≡ 1 ∷ replicate 63 0xFF ++ replicate 64 0
+  pub resets : resetCall (deviceBytes (benchIn receivingOwing)) ≡ leaves SERVED (deviceBytes (benchIn idle))
+  pub refuses : offerCall (deviceBytes (benchIn idle)) 127 offer (replicate REPLIES-SIZE 9)
+      ≡ record { number = 0x4402; count = 0; device = deviceBytes (benchIn idle); replies = replicate REPLIES-SIZE 0 }
   pub sending : hostBytes sendingHost
       ≡ 0xA5 ∷ 5 ∷ 2 ∷ 0 ∷ 0 ∷ 0 ∷ 4 ∷ 0 ∷ 0 ∷ 0 ∷ 3 ∷ 0 ∷ 0 ∷ 0 ∷ 0x2C ∷ 0x01 ∷ 0 ∷ 0 ∷ 2 ∷ 0 ∷ 0 ∷ 0 ∷ 0 ∷ 1 ∷ []
   pub failed : hostBytes failedHost
       ≡ 0xA5 ∷ 7 ∷ 1 ∷ 0 ∷ 0 ∷ 0 ∷ 5 ∷ 0 ∷ 0 ∷ 0 ∷ 0 ∷ 0 ∷ 0 ∷ 0 ∷ 5 ∷ 0 ∷ 0 ∷ 0 ∷ 1 ∷ 0 ∷ 0 ∷ 0 ∷ 1 ∷ 0 ∷ []
   pub kept : contentsBytes contents (record { entry = 1; block = 0 }) 187
       ≡ 0 ∷ 0 ∷ 2 ∷ 56 ∷ 0 ∷ 0 ∷ 0 ∷ 74 ∷ 0 ∷ 0 ∷ 0 ∷ 2 ∷ 0 ∷ 0 ∷ 0 ∷ 130 ∷ 0 ∷ 0 ∷ 0 ∷ 74 ∷ 0 ∷ 0 ∷ 0 ∷ 2 ∷ 0 ∷ 0 ∷ 0
-      ∷ replicate 60 0 ++ 1 ∷ 0 ∷ 0 ∷ 0 ∷ 0 ∷ 0 ∷ 0 ∷ 0 ∷ 187 ∷ replicate 7 0
-  pub named : contentsBytes refusedContents noPlace 0 ≡ 5 ∷ 2 ∷ 0 ∷ replicate 84 0 ++ noHand
-  pub rejects : checkCall (replicate 7 0) (replicate 103 9)
+      ∷ replicate ((OFFER-LIMIT - 2) * BODY-SIZE) 0 ++ 1 ∷ 0 ∷ 0 ∷ 0 ∷ 0 ∷ 0 ∷ 0 ∷ 0 ∷ 187 ∷ replicate 7 0
+  pub named : contentsBytes refusedContents noPlace 0 ≡ 5 ∷ 2 ∷ 0 ∷ replicate (OFFER-LIMIT * BODY-SIZE) 0 ++ noHand
+  pub rejects : checkCall (replicate 7 0) (replicate CONTENTS-SIZE 9)
       ≡ record { check = record { number = 0x4201; entry = 0; count = 0 }; contents = shortContents }
-  pub steps : stepCheckedCall (replicate 24 0) shortContents (replicate 7 0) [] (replicate 60 9) ≡ refusedStep 0x4201 (replicate 24 0) (replicate 60 0)
-  pub leaves-contents : stepCheckedContents (replicate 24 0) shortContents (replicate 7 0) [] (replicate 60 9) ≡ shortContents
-  pub unchecked : stepCheckedCall (replicate 24 0) (replicate 103 0) (replicate 7 0) [] (replicate 60 9) ≡ refusedStep 0x4301 (replicate 24 0) (replicate 60 9)
-  pub builds : buildOfferCall fields (replicate 16 9) ≡ leaves SERVED fieldsPacket
+  pub checks : checkCall small (replicate CONTENTS-SIZE 9) ≡ record { check = record { number = SERVED; entry = 0; count = 1 }; contents = smallContents }
+  pub starts : freshCall (replicate HOST-SIZE 9) 0xA5 ≡ leaves SERVED freshOne
+  pub begins : stepCall freshOne small [] (replicate LONG-SIZE 9) ≡ begun
+  pub begins-checked : stepCheckedCall freshOne smallContents small [] (replicate LONG-SIZE 9) ≡ begun
+  pub reports : reportCall (hostBytes sendingHost)
+      ≡ record { number = SERVED; completed = 2; mask = 3; packets = 300; passes = 2; ending = 0; status = 0 }
+  pub reports-failed : reportCall (hostBytes failedHost)
+      ≡ record { number = SERVED; completed = 0; mask = 0; packets = 5; passes = 1; ending = 0x4801; status = 5 }
+  pub steps : stepCheckedCall (replicate HOST-SIZE 0) shortContents (replicate 7 0) [] (replicate LONG-SIZE 9) ≡ refusedStep 0x4201 (replicate HOST-SIZE 0) (replicate LONG-SIZE 0)
+  pub leaves-contents : stepCheckedContents (replicate HOST-SIZE 0) shortContents (replicate 7 0) [] (replicate LONG-SIZE 9) ≡ shortContents
+  pub unchecked : stepCheckedCall (replicate HOST-SIZE 0) (replicate CONTENTS-SIZE 0) (replicate 7 0) [] (replicate LONG-SIZE 9) ≡ refusedStep 0x4301 (replicate HOST-SIZE 0) (replicate LONG-SIZE 9)
+  pub builds : buildOfferCall fields (replicate SHORT-SIZE 9) ≡ leaves SERVED fieldsPacket
   pub reads : readOfferCall fieldsPacket ≡ record { number = SERVED; kind = 1; offer = fields; signal = record { code = 0; token = 0 } }
+  pub builds-other : buildOfferCall otherFields (replicate SHORT-SIZE 9) ≡ leaves SERVED (set fieldsPacket 1 0x80)
+  pub reads-other : readOfferCall (set fieldsPacket 1 0x80)
+      ≡ record { number = SERVED; kind = 1; offer = otherFields; signal = record { code = 0; token = 0 } }
+  pub layouts : LayoutsHold
   pub packets : PacketsHold

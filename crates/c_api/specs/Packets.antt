@@ -1,9 +1,11 @@
 -- The packets that C builds and reads, in literal bytes (document 01, "Packets"; include/cfu.h), every field another value, so that no other layout that
 -- reads back can take their place. The offer stands in Bench.
-use Prim.Native.Nat.{ℕ}
+use Prim.Native.Nat.{ℕ, _*_, _-_}
 use mathlib.Core.Path.{_≡_}
 use mathlib.Core.List.{List, [], _∷_, _++_}
 use lib.ListN.{replicate}
+use Rattle.wire.specs.Codes.{COMPONENT-LIMIT, SHORT-SIZE, LONG-SIZE, DATA-SIZE}
+use Rattle.c_version.specs.Layout.{RUNNING-SIZE, COMPONENTS-SIZE}
 use Rattle.c_types.specs.declared.types.COffer.{COffer}
 use Rattle.c_types.specs.Numbers.{SERVED}
 use Rattle.c_types.specs.Lent.{leaves}
@@ -32,7 +34,7 @@ abbrev pub bytes : List ℕ
 bytes = 0x0A ∷ 0x0B ∷ 0x0C ∷ []
 
 abbrev pub content : List ℕ
-content = 0x80 ∷ 3 ∷ 0x05 ∷ 0x04 ∷ 0x09 ∷ 0x08 ∷ 0x07 ∷ 0x06 ∷ 0x0A ∷ 0x0B ∷ 0x0C ∷ replicate 49 0
+content = 0x80 ∷ 3 ∷ 0x05 ∷ 0x04 ∷ 0x09 ∷ 0x08 ∷ 0x07 ∷ 0x06 ∷ 0x0A ∷ 0x0B ∷ 0x0C ∷ replicate (DATA-SIZE - 3) 0
 
 -- a content reply: sequence 0x0405, status 6
 abbrev pub contentReply : List ℕ
@@ -66,17 +68,17 @@ noOffer = record {
 
 -- what the calls leave, byte for byte; components past the count and data past the length are not sent, and are read as zero
 pub record PacketsHold : Type 0 where
-  pub builds-versions : buildVersionReplyCall 3 2 (components ++ replicate 28 0xEE) (replicate 60 9) ≡ leaves SERVED versionReply
-  pub reads-versions : readVersionReplyCall versionReply (replicate 49 9)
-      ≡ record { reply = record { number = SERVED; count = 3; protocol = 2 }; left = components ++ replicate 28 0 }
-  pub builds-content : buildContentCall 0x80 3 0x0405 0x06070809 (bytes ++ replicate 49 0xEE) (replicate 60 9) ≡ leaves SERVED content
-  pub reads-content : readContentCall content (replicate 52 9)
-      ≡ record { content = record { number = SERVED; flags = 0x80; length = 3; sequence = 0x0405; address = 0x06070809 }; left = bytes ++ replicate 49 0 }
-  pub builds-content-reply : buildContentReplyCall 0x0405 6 (replicate 16 9) ≡ leaves SERVED contentReply
+  pub builds-versions : buildVersionReplyCall 3 2 (components ++ replicate ((COMPONENT-LIMIT - 3) * RUNNING-SIZE) 0xEE) (replicate LONG-SIZE 9) ≡ leaves SERVED versionReply
+  pub reads-versions : readVersionReplyCall versionReply (replicate COMPONENTS-SIZE 9)
+      ≡ record { reply = record { number = SERVED; count = 3; protocol = 2 }; left = components ++ replicate ((COMPONENT-LIMIT - 3) * RUNNING-SIZE) 0 }
+  pub builds-content : buildContentCall 0x80 3 0x0405 0x06070809 (bytes ++ replicate (DATA-SIZE - 3) 0xEE) (replicate LONG-SIZE 9) ≡ leaves SERVED content
+  pub reads-content : readContentCall content (replicate DATA-SIZE 9)
+      ≡ record { content = record { number = SERVED; flags = 0x80; length = 3; sequence = 0x0405; address = 0x06070809 }; left = bytes ++ replicate (DATA-SIZE - 3) 0 }
+  pub builds-content-reply : buildContentReplyCall 0x0405 6 (replicate SHORT-SIZE 9) ≡ leaves SERVED contentReply
   pub reads-content-reply : readContentReplyCall contentReply ≡ record { number = SERVED; sequence = 0x0405; status = 6 }
-  pub builds-offer-reply : buildOfferReplyCall 0xA5 1 2 (replicate 16 9) ≡ leaves SERVED offerReply
+  pub builds-offer-reply : buildOfferReplyCall 0xA5 1 2 (replicate SHORT-SIZE 9) ≡ leaves SERVED offerReply
   pub reads-offer-reply : readOfferReplyCall offerReply ≡ record { number = SERVED; token = 0xA5; reason = 1; status = 2 }
-  pub builds-information : buildInformationCall 1 0xA5 (replicate 16 9) ≡ leaves SERVED information
+  pub builds-information : buildInformationCall 1 0xA5 (replicate SHORT-SIZE 9) ≡ leaves SERVED information
   pub reads-information : readOfferCall information ≡ record { number = SERVED; kind = 2; offer = noOffer; signal = record { code = 1; token = 0xA5 } }
-  pub builds-extended : buildExtendedCall 1 0xA5 (replicate 16 9) ≡ leaves SERVED extended
+  pub builds-extended : buildExtendedCall 1 0xA5 (replicate SHORT-SIZE 9) ≡ leaves SERVED extended
   pub reads-extended : readOfferCall extended ≡ record { number = SERVED; kind = 3; offer = noOffer; signal = record { code = 1; token = 0xA5 } }

@@ -5,6 +5,7 @@ use mathlib.Core.Path.{_≡_}
 use mathlib.Core.List.{List}
 use lib.ListN.{length}
 use Rattle.wire.specs.Bytes.{Bytes}
+use Rattle.wire.specs.Codes.{DATA-SIZE}
 use Rattle.wire_offer.specs.Signal.{FitsSignal}
 use Rattle.wire_offer.specs.Reply as offerReply
 use Rattle.wire_offer.specs.declared.signal.Signal.{Signal}
@@ -16,8 +17,8 @@ use Rattle.wire_content.specs.declared.reply.ContentReply.{ContentReply}
 use Rattle.c_version.specs.Layout.{RUNNING-SIZE, COMPONENTS-SIZE}
 use Rattle.c_types.specs.declared.types.CVersion.{CVersion}
 use Rattle.c_types.specs.declared.types.COffer.{COffer}
-use Rattle.c_types.specs.Numbers.{SERVED}
-use Rattle.c_types.specs.Lent.{DATA-SIZE, Left}
+use Rattle.c_types.specs.Numbers.{SERVED, KIND-OFFER, KIND-INFORMATION, KIND-EXTENDED}
+use Rattle.c_types.specs.Lent.{Left}
 use Rattle.c_build.specs.Build.{buildVersionReplyCall, buildOfferCall, buildInformationCall, buildExtendedCall, buildOfferReplyCall, buildContentCall, buildContentReplyCall}
 use Rattle.c_read.specs.Read.{readVersionReplyCall, readOfferCall, readOfferReplyCall, readContentCall, readContentReplyCall}
 use Rattle.c_api.specs.Packets.{noOffer}
@@ -48,7 +49,7 @@ ReadsBack built read told = built .number ≡ SERVED → read (built .left) ≡ 
 abbrev pub OfferCallsReadBack : Type 0
 OfferCallsReadBack =
     (o : COffer) (packet : List ℕ) → FitsCOffer o
-    → ReadsBack (buildOfferCall o packet) readOfferCall (record { number = SERVED; kind = 1; offer = o; signal = record { code = 0; token = 0 } })
+    → ReadsBack (buildOfferCall o packet) readOfferCall (record { number = SERVED; kind = KIND-OFFER; offer = o; signal = record { code = 0; token = 0 } })
 
 -- cfu_build_content and cfu_read_content, which leaves the data in the lent bytes
 abbrev pub ContentCallsReadBack : Type 0
@@ -86,11 +87,11 @@ abbrev pub InformationCallsReadBack : Type 0
 InformationCallsReadBack =
     (s : Signal) (packet : List ℕ) → FitsSignal s
     → ReadsBack (buildInformationCall (s .code) (s .token) packet) readOfferCall
-    (record { number = SERVED; kind = 2; offer = noOffer; signal = record { code = s .code; token = s .token } })
+    (record { number = SERVED; kind = KIND-INFORMATION; offer = noOffer; signal = record { code = s .code; token = s .token } })
 
 -- cfu_build_extended and cfu_read_offer
 abbrev pub ExtendedCallsReadBack : Type 0
 ExtendedCallsReadBack =
     (s : Signal) (packet : List ℕ) → FitsSignal s
     → ReadsBack (buildExtendedCall (s .code) (s .token) packet) readOfferCall
-    (record { number = SERVED; kind = 3; offer = noOffer; signal = record { code = s .code; token = s .token } })
+    (record { number = SERVED; kind = KIND-EXTENDED; offer = noOffer; signal = record { code = s .code; token = s .token } })

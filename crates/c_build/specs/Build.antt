@@ -6,6 +6,7 @@ use lib.Dec.{eqb, leb}
 use lib.ListN.{replicate}
 use Rattle.wire.specs.Version.{versionOf}
 use Rattle.wire.specs.Rows.{P, Told}
+use Rattle.wire.specs.Codes.{SHORT-SIZE, LONG-SIZE, DATA-SIZE, COMPONENT-LIMIT}
 use Rattle.wire_offer.specs.Offer as offer
 use Rattle.wire_offer.specs.Signal.{informationBytes, extendedBytes}
 use Rattle.wire_offer.specs.Reply as offerReply
@@ -16,7 +17,7 @@ use Rattle.wire_version.specs.Reply as versions
 use Rattle.c_version.specs.Layout.{COMPONENTS-SIZE, componentsIn}
 use Rattle.c_types.specs.declared.types.COffer.{COffer}
 use Rattle.c_types.specs.Numbers.{SERVED, WRONG-LIST, WRONG-OUTPUT, packetNumber, sized}
-use Rattle.c_types.specs.Lent.{SHORT-SIZE, LONG-SIZE, DATA-SIZE, Left, leaves}
+use Rattle.c_types.specs.Lent.{Left, leaves}
 
 -- a build's number and the packet that it leaves
 abbrev pub built : (size : ℕ) → (packet : List ℕ) → Told (List ℕ) → Left
@@ -45,7 +46,7 @@ flagsFit o = leb (o .«force_immediate_reset») 1 && leb (o .«force_ignore_vers
 
 unfoldable pub buildOfferCall : COffer → (packet : List ℕ) → Left
 buildOfferCall o packet =
-    built SHORT-SIZE packet (cond (flagsFit o) (offer.buildOf (fieldsOf o)) (record { row = P 2; value = replicate 16 0 }))
+    built SHORT-SIZE packet (cond (flagsFit o) (offer.buildOf (fieldsOf o)) (record { row = P 2; value = replicate SHORT-SIZE 0 }))
 
 unfoldable pub buildInformationCall : (code token : ℕ) → (packet : List ℕ) → Left
 buildInformationCall code token packet =
@@ -80,4 +81,4 @@ buildContentReplyCall sequence status packet =
 unfoldable pub buildVersionReplyCall : (count protocol : ℕ) → (components packet : List ℕ) → Left
 buildVersionReplyCall count protocol components packet =
     sized components COMPONENTS-SIZE (leaves WRONG-LIST packet)
-    (built LONG-SIZE packet (versions.buildOf (record { count = count; protocol = protocol; components = componentsIn 7 components })))
+    (built LONG-SIZE packet (versions.buildOf (record { count = count; protocol = protocol; components = componentsIn COMPONENT-LIMIT components })))

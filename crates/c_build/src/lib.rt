@@ -3,11 +3,11 @@ ghost use mathlib.Core.Path.{_≡_};
 ghost use mathlib.Core.Bool.{cond};
 ghost use lib.ListN.{replicate};
 ghost use Rattle.wire.specs.Rows.{P};
+ghost use Rattle.wire.specs.Codes.{SHORT-SIZE};
 ghost use Rattle.wire_offer.specs.Offer.{toldBuilt, buildOf};
 ghost use Rattle.c_types.specs.Lent.{leaves};
 ghost use Rattle.c_build.specs.Build.{buildVersionReplyCall, fieldsOf, flagsFit, buildOfferCall, buildInformationCall, buildExtendedCall, buildOfferReplyCall, buildContentCall, buildContentReplyCall};
 use c_types::lent::leave;
-use c_types::numbers::DATA_SIZE;
 use c_types::numbers::SERVED;
 use c_types::numbers::WRONG_LIST;
 use c_types::numbers::packet_number;
@@ -15,6 +15,8 @@ use c_types::types::COffer;
 use c_version::COMPONENTS_SIZE;
 use c_version::read_components;
 use wire::address::RegionAddress;
+use wire::codes::DATA_SIZE;
+use wire::codes::SHORT_SIZE;
 use wire::verdict::Verdict;
 use wire::version::Version;
 use wire::words;
@@ -53,19 +55,20 @@ fn fields(o: COffer) -> OfferFields
 
 // P2 where a flag does not fit its bit, or what building the offer tells.
 fn built_offer(o: COffer) -> BuiltOffer
-    ensures { λ r. ⌜ toldBuilt r ≡ cond (flagsFit o) (buildOf (fieldsOf o)) (record { row = P 2; value = replicate 16 0 }) ⌝ }
+    ensures { λ r. ⌜ toldBuilt r ≡ cond (flagsFit o) (buildOf (fieldsOf o)) (record { row = P 2; value = replicate SHORT-SIZE 0 }) ⌝ }
 {
     if (o.force_immediate_reset <= 1) & (o.force_ignore_version <= 1) {
         build_offer(fields(o))
     } else {
         BuiltOffer {
             verdict: Verdict::P2,
-            packet: [0u8; 16],
+            packet: [0u8; SHORT_SIZE],
         }
     }
 }
 
-pub fn build_version_reply_call(
+#[no_mangle]
+pub extern "C" fn cfu_build_version_reply(
     count: u8,
     protocol: u8,
     components: &[u8],
@@ -87,7 +90,8 @@ pub fn build_version_reply_call(
     leave(packet, packet_number(verdict), &p)
 }
 
-pub fn build_offer_call(offer: COffer, packet: &mut [u8]) -> u32
+#[no_mangle]
+pub extern "C" fn cfu_build_offer(offer: COffer, packet: &mut [u8]) -> u32
     ensures { λ r. ⌜ leaves r (now (packet .exit)) ≡ buildOfferCall offer (now (packet .entry)) ⌝ }
 {
     let built = built_offer(offer);
@@ -96,21 +100,24 @@ pub fn build_offer_call(offer: COffer, packet: &mut [u8]) -> u32
     leave(packet, packet_number(verdict), &p)
 }
 
-pub fn build_information_call(code: u8, token: u8, packet: &mut [u8]) -> u32
+#[no_mangle]
+pub extern "C" fn cfu_build_information(code: u8, token: u8, packet: &mut [u8]) -> u32
     ensures { λ r. ⌜ leaves r (now (packet .exit)) ≡ buildInformationCall code token (now (packet .entry)) ⌝ }
 {
     let p = build_information(Signal { code, token });
     leave(packet, SERVED, &p)
 }
 
-pub fn build_extended_call(code: u8, token: u8, packet: &mut [u8]) -> u32
+#[no_mangle]
+pub extern "C" fn cfu_build_extended(code: u8, token: u8, packet: &mut [u8]) -> u32
     ensures { λ r. ⌜ leaves r (now (packet .exit)) ≡ buildExtendedCall code token (now (packet .entry)) ⌝ }
 {
     let p = build_extended(Signal { code, token });
     leave(packet, SERVED, &p)
 }
 
-pub fn build_offer_reply_call(token: u8, reason: u8, status: u8, packet: &mut [u8]) -> u32
+#[no_mangle]
+pub extern "C" fn cfu_build_offer_reply(token: u8, reason: u8, status: u8, packet: &mut [u8]) -> u32
     ensures { λ r. ⌜ leaves r (now (packet .exit)) ≡ buildOfferReplyCall token reason status (now (packet .entry)) ⌝ }
 {
     let p = build_offer_reply(OfferReply {
@@ -121,7 +128,8 @@ pub fn build_offer_reply_call(token: u8, reason: u8, status: u8, packet: &mut [u
     leave(packet, SERVED, &p)
 }
 
-pub fn build_content_call(
+#[no_mangle]
+pub extern "C" fn cfu_build_content(
     flags: u8,
     length: u8,
     sequence: u16,
@@ -134,7 +142,7 @@ pub fn build_content_call(
     if bytes.len() != DATA_SIZE {
         return WRONG_LIST;
     }
-    let mut data = [0u8; 52];
+    let mut data = [0u8; DATA_SIZE];
     words::copy(&mut data, bytes);
     let built = build_content(ContentFields {
         flags,
@@ -148,7 +156,8 @@ pub fn build_content_call(
     leave(packet, packet_number(verdict), &p)
 }
 
-pub fn build_content_reply_call(sequence: u16, status: u8, packet: &mut [u8]) -> u32
+#[no_mangle]
+pub extern "C" fn cfu_build_content_reply(sequence: u16, status: u8, packet: &mut [u8]) -> u32
     ensures { λ r. ⌜ leaves r (now (packet .exit)) ≡ buildContentReplyCall sequence status (now (packet .entry)) ⌝ }
 {
     let p = build_content_reply(ContentReply { sequence, status });

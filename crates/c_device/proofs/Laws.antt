@@ -1,57 +1,40 @@
--- The replies of an answer, one after the other, and the record that a call leaves. Assumes nothing.
+-- The numbers of the rows, and the record that a call leaves. Assumes nothing.
 use mathlib.Core.Path.{_≡_, refl, sym, ap, _∙_}
 use mathlib.Core.Bool.{cond}
-use mathlib.Core.List.{List, [], _∷_, _++_, flatten, append-nil}
-use Prim.Native.Nat.{ℕ, _-_}
+use mathlib.Core.List.{List}
+use Prim.Native.Nat.{ℕ}
 use native.Mathlib.Omega.{arith}
+use borrow.Author.Tests.{eq-eqb, eqb-true}
 use lib.Dec.{eqb}
-use lib.ListN.{length, take, drop, replicate, length-append}
-use lib.Seq.{take-all}
+use lib.ListN.{length}
 use Rattle.wire.specs.Bytes.{copyOf}
-use Rattle.wire.proofs.Pieces.{put-more}
+use Rattle.wire.specs.Codes.{COMPONENT-LIMIT, LONG-SIZE}
 use Rattle.device_component.specs.Setup as setup
+use Rattle.device_component.specs.declared.record.Listed.{Listed}
 use Rattle.device_component.specs.declared.setup.SetupVerdict.{SetupVerdict}
 use Rattle.device_component.specs.declared.setup.SetupVerdict.the-variants.{Fine, S1, S2, S3, S4}
-use Rattle.device.specs.Refusals.{rowOf, Outcome}
+use Rattle.device.specs.Refusals.{numberOf, rowOf, keptBy}
+use Rattle.device.specs.Entries.{setUpOf, versionEntry, resetEntry}
 use Rattle.device.specs.declared.answer.Refusal.{Refusal}
 use Rattle.device.specs.declared.answer.Refusal.the-variants.{Served, D1, D2, D3}
 use Rattle.device.specs.declared.record.Device.{Device}
-use Rattle.device_bytes.specs.Layout.{deviceBytes}
-use Rattle.c_types.specs.declared.types.CReplies.{CReplies}
-use Rattle.c_types.specs.Numbers.{setupNumber, deviceNumber, filledTo}
-use Rattle.device_in_place.specs.InPlace.{keptBy}
-use Rattle.c_device.specs.Device.{REPLIES-SIZE, madeBy, toldReplies, repliedBy}
+use Rattle.device_bytes.specs.Layout.{DEVICE-SIZE, LIST-SIZE, deviceBytes, readDevice, listIn}
+use Rattle.c_types.specs.Numbers.{SERVED, WRONG-LIST, WRONG-OUTPUT, ROW-S, ROW-D, letteredOf, sized, lentNumber}
 use Rattle.c_types.specs.Lent.{Left, leaves}
-use Rattle.c_types.proofs.lent.Laws.{stored}
+use Rattle.c_types.proofs.numbers.Laws.{of-row}
+use Rattle.c_types.proofs.lent.Laws.{stored, lent-refused, lent-served}
+use Rattle.c_device.specs.Numbers.{setupNumber, deviceNumber}
+use Rattle.c_device.specs.Device.{madeBy, setUpCall, versionsCall, resetCall}
 
--- no reply: zeros
-pub none-sent : replicate 16 0 ++ replicate 16 0 ≡ filledTo REPLIES-SIZE (flatten [])
-unfolding flatten
-none-sent = refl
+-- the numbers of the rows
+of-setup : (v : SetupVerdict) → letteredOf ROW-S (setup.numberOf v) ≡ setupNumber (setup.rowOf v)
+of-setup v = of-row setupNumber setup.served (setup.S (setup.numberOf v)) ROW-S (setup.numberOf v) refl refl
 
--- one reply, and zeros behind it
-pub one-sent : (p : List ℕ) → length p ≡ 16 → p ++ replicate 16 0 ≡ filledTo REPLIES-SIZE (flatten (p ∷ []))
-unfolding flatten
-one-sent p h = rw (append-nil p, h)
-
--- two replies fill the buffer
-pub two-sent : (p q : List ℕ) → length p ≡ 16 → length q ≡ 16 → p ++ q ≡ filledTo REPLIES-SIZE (flatten (p ∷ q ∷ []))
-unfolding flatten
-two-sent p q h k =
-    let e : 32 - length (p ++ q) ≡ 0 = simp length-append (omega arith) in
-    rw (append-nil q, e) (sym (append-nil (p ++ q)))
-
--- two packets are copied, one after the other
-pub joined-as : (out first second last last2 : List ℕ) (k k2 : ℕ) → k ≡ 16 → k2 ≡ 16 → length out ≡ 32 → length first ≡ 16 → length second ≡ 16
-    → last ≡ copyOf (take k (drop 0 out)) first → last2 ≡ copyOf (take k2 (drop 16 (take 0 out ++ (last ++ drop k (drop 0 out))))) second
-    → take 16 (take 0 out ++ (last ++ drop k (drop 0 out))) ++ (last2 ++ drop k2 (drop 16 (take 0 out ++ (last ++ drop k (drop 0 out))))) ≡ first ++ second
-joined-as out first second last last2 k k2 e e2 whole h h2 f f2 =
-    let a = put-more out first last 0 16 k e h (omega arith) f in
-    let mid = take 0 out ++ (last ++ drop k (drop 0 out)) in
-    let n : length mid ≡ 32 = a .0 ∙ whole in
-    let b = put-more mid second last2 16 16 k2 e2 h2 (omega arith) f2 in
-    let m : length (take 16 mid ++ (last2 ++ drop k2 (drop 16 mid))) ≡ 32 = b .0 ∙ n in
-    sym (take-all 32 (take 16 mid ++ (last2 ++ drop k2 (drop 16 mid))) (omega arith)) ∙ b .1 ∙ ap (λ (t : List ℕ). t ++ second) (a .1)
+pub of-device : (r : Refusal) → letteredOf ROW-D (numberOf r) ≡ deviceNumber (rowOf r)
+of-device Served = refl
+of-device D1 = refl
+of-device D2 = refl
+of-device D3 = refl
 
 -- what is kept of a record, by the number
 made-by : (v : SetupVerdict) (before : List ℕ) (d : Device) {n : ℕ} → n ≡ setupNumber (setup.rowOf v) → cond (eqb n 0) (deviceBytes d) before ≡ madeBy (setup.rowOf v) before d
@@ -81,6 +64,30 @@ stored-made v lent b d n e h f g =
     stored lent b n e h ∙ ap (λ (t : List ℕ). leaves n (cond (eqb n 0) t lent)) g ∙ ap (leaves n) (made-by v lent d f)
     ∙ ap (λ (m : ℕ). leaves m (madeBy (setup.rowOf v) lent d)) f
 
--- an outcome, told by another that is the same
-pub answers : (r : CReplies) (left replies : List ℕ) {x y : Outcome} → x ≡ y → toldReplies r left replies ≡ repliedBy left x → toldReplies r left replies ≡ repliedBy left y
-answers r left replies e h = h ∙ ap (repliedBy left) e
+-- set-up over a record and a list
+module _ (device list : List ℕ) (platform count size n : ℕ) (e : n ≡ lentNumber (eqb (length device) DEVICE-SIZE) (eqb (length list) LIST-SIZE) WRONG-LIST) where
+  pub set-up-refused : (n ≡ SERVED → ⊥) → leaves n device ≡ setUpCall device platform list count size
+  unfolding setUpCall
+  set-up-refused = lent-refused (eqb (length device) DEVICE-SIZE) (eqb (length list) LIST-SIZE) WRONG-LIST n (λ (m : ℕ). leaves m device) _ e
+
+  pub set-up-served : {l : Left} (listed : List Listed) (v : SetupVerdict) (b : List ℕ) (d : Device) (k : ℕ) → n ≡ SERVED → listed ≡ listIn COMPONENT-LIMIT list
+      → record { row = setup.rowOf v; device = d } ≡ setUpOf platform listed count size → k ≡ letteredOf ROW-S (setup.numberOf v) → b ≡ deviceBytes d → length b ≡ DEVICE-SIZE
+      → l ≡ leaves k (cond (eqb k 0) (copyOf device b) device) → l ≡ setUpCall device platform list count size
+  unfolding setUpCall
+  set-up-served listed v b d k h f g i j whole m =
+      let t = lent-served (eqb (length device) DEVICE-SIZE) (eqb (length list) LIST-SIZE) WRONG-LIST n (omega arith) e h in
+      rw (t .0, t .1, ← f, ← g) (stored-made v device b d k m (eqb-true (length device) DEVICE-SIZE (t .0) ∙ sym whole) (i ∙ of-setup v) j)
+
+-- a call over a record alone: the reset, and the version reply
+pub reset-served : {l : Left} (device b : List ℕ) (d next : Device) (r : Refusal) (k : ℕ) → length device ≡ DEVICE-SIZE → d ≡ readDevice device
+    → record { row = rowOf r; device = next } ≡ resetEntry d → k ≡ deviceNumber (rowOf r) → b ≡ deviceBytes next → length b ≡ DEVICE-SIZE
+    → l ≡ leaves k (cond (eqb k 0) (copyOf device b) device) → l ≡ resetCall device
+unfolding resetCall
+reset-served device b d next r k fits e f g h whole i =
+    rw (eq-eqb (length device) DEVICE-SIZE fits, ← e, ← f) (stored-by r device b next k i (fits ∙ sym whole) g h)
+
+pub versions-served : {l : Left} (device packet p : List ℕ) (d : Device) (r : Refusal) (k : ℕ) → length device ≡ DEVICE-SIZE → d ≡ readDevice device
+    → record { row = rowOf r; packet = p } ≡ versionEntry d → k ≡ deviceNumber (rowOf r) → length p ≡ LONG-SIZE
+    → l ≡ sized packet (length p) (leaves WRONG-OUTPUT packet) (leaves k p) → l ≡ versionsCall device packet
+unfolding versionsCall
+versions-served device packet p d r k fits e f g whole h = rw (eq-eqb (length device) DEVICE-SIZE fits, ← e, ← f) (rw (whole, g) at h)

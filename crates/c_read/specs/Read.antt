@@ -5,6 +5,7 @@ use mathlib.Core.List.{List}
 use Rattle.wire.specs.Version.{majorOf, minorOf, variantOf}
 use Rattle.wire.specs.Rows.{Row, P, Told}
 use Rattle.wire.specs.declared.version.Version.{Version}
+use Rattle.wire.specs.Codes.{DATA-SIZE}
 use Rattle.wire_offer.specs.Offer as offer
 use Rattle.wire_offer.specs.Kind as kind
 use Rattle.wire_offer.specs.Reply as offerReply
@@ -26,8 +27,7 @@ use Rattle.c_types.specs.declared.types.COfferReply.{COfferReply}
 use Rattle.c_types.specs.declared.types.CContent.{CContent}
 use Rattle.c_types.specs.declared.types.CContentReply.{CContentReply}
 use Rattle.c_types.specs.declared.types.CVersionReply.{CVersionReply}
-use Rattle.c_types.specs.Numbers.{SERVED, WRONG-OUTPUT, packetNumber, sized}
-use Rattle.c_types.specs.Lent.{DATA-SIZE}
+use Rattle.c_types.specs.Numbers.{SERVED, WRONG-OUTPUT, KIND-NONE, KIND-OFFER, KIND-INFORMATION, KIND-EXTENDED, packetNumber, sized}
 
 -- what reading tells
 abbrev pub partsOf : Version → CVersion
@@ -59,10 +59,10 @@ signalOf s = record { code = s .code; token = s .token }
 
 -- a refused packet has no kind
 abbrev pub packetOf : Row → kind.Kind → COfferPacket
-packetOf Row.served (kind.offer o) = record { number = SERVED; kind = 1; offer = offerOf o; signal = noSignal }
-packetOf Row.served (kind.information s) = record { number = SERVED; kind = 2; offer = offerOf offer.blankOffer; signal = signalOf s }
-packetOf Row.served (kind.extended s) = record { number = SERVED; kind = 3; offer = offerOf offer.blankOffer; signal = signalOf s }
-packetOf (P k) any = record { number = packetNumber (P k); kind = 0; offer = offerOf offer.blankOffer; signal = noSignal }
+packetOf Row.served (kind.offer o) = record { number = SERVED; kind = KIND-OFFER; offer = offerOf o; signal = noSignal }
+packetOf Row.served (kind.information s) = record { number = SERVED; kind = KIND-INFORMATION; offer = offerOf offer.blankOffer; signal = signalOf s }
+packetOf Row.served (kind.extended s) = record { number = SERVED; kind = KIND-EXTENDED; offer = offerOf offer.blankOffer; signal = signalOf s }
+packetOf (P k) any = record { number = packetNumber (P k); kind = KIND-NONE; offer = offerOf offer.blankOffer; signal = noSignal }
 
 unfoldable pub readOfferCall : (packet : List ℕ) → COfferPacket
 readOfferCall packet = packetOf (kind.readOf packet .row) (kind.readOf packet .value)

@@ -3,12 +3,10 @@ ghost use mathlib.Core.Path.{_≡_};
 ghost use Rattle.wire_offer.specs.Offer.{blankOffer};
 ghost use Rattle.wire_offer.specs.Kind.{toldRead};
 ghost use Rattle.c_read.specs.Read.{toldVersions, readVersionReplyCall, partsOf, flagOf, offerOf, noSignal, signalOf, packetOf, readOfferCall, readOfferReplyCall, toldContent, readContentCall, readContentReplyCall};
-use c_types::numbers::DATA_SIZE;
 use c_types::numbers::KIND_EXTENDED;
 use c_types::numbers::KIND_INFORMATION;
 use c_types::numbers::KIND_NONE;
 use c_types::numbers::KIND_OFFER;
-use c_types::numbers::ROW_P;
 use c_types::numbers::SERVED;
 use c_types::numbers::WRONG_OUTPUT;
 use c_types::numbers::packet_number;
@@ -22,6 +20,8 @@ use c_types::types::CVersion;
 use c_types::types::CVersionReply;
 use c_version::COMPONENTS_SIZE;
 use c_version::components_bytes;
+use wire::codes::DATA_SIZE;
+use wire::verdict::Verdict;
 use wire::version::Version;
 use wire::words;
 use wire_content::content::read_content;
@@ -34,7 +34,8 @@ use wire_offer::signal::Signal;
 use wire_version::read_version_reply;
 
 // The components are left in the lent bytes.
-pub fn read_version_reply_call(packet: &[u8], components: &mut [u8]) -> CVersionReply
+#[no_mangle]
+pub extern "C" fn cfu_read_version_reply(packet: &[u8], components: &mut [u8]) -> CVersionReply
     ensures { λ r. ⌜ toldVersions r (now (components .exit)) ≡ readVersionReplyCall (now (packet .entry)) (now (components .entry)) ⌝ }
 {
     if components.len() != COMPONENTS_SIZE {
@@ -133,7 +134,7 @@ fn packet_fields(read: OfferPacket) -> COfferPacket
 {
     match read {
         OfferPacket::Refused => COfferPacket {
-            number: ROW_P + 1,
+            number: packet_number(Verdict::P1),
             kind: KIND_NONE,
             offer: no_offer(),
             signal: no_signal(),
@@ -159,14 +160,16 @@ fn packet_fields(read: OfferPacket) -> COfferPacket
     }
 }
 
-pub fn read_offer_call(packet: &[u8]) -> COfferPacket
+#[no_mangle]
+pub extern "C" fn cfu_read_offer(packet: &[u8]) -> COfferPacket
     ensures { λ r. ⌜ r ≡ readOfferCall (now (packet .entry)) ⌝ }
 {
     let read = read_offer_packet(packet);
     packet_fields(read)
 }
 
-pub fn read_offer_reply_call(packet: &[u8]) -> COfferReply
+#[no_mangle]
+pub extern "C" fn cfu_read_offer_reply(packet: &[u8]) -> COfferReply
     ensures { λ r. ⌜ r ≡ readOfferReplyCall (now (packet .entry)) ⌝ }
 {
     let read = read_offer_reply(packet);
@@ -181,7 +184,8 @@ pub fn read_offer_reply_call(packet: &[u8]) -> COfferReply
 }
 
 // The data is left in the lent bytes.
-pub fn read_content_call(packet: &[u8], bytes: &mut [u8]) -> CContent
+#[no_mangle]
+pub extern "C" fn cfu_read_content(packet: &[u8], bytes: &mut [u8]) -> CContent
     ensures { λ r. ⌜ toldContent r (now (bytes .exit)) ≡ readContentCall (now (packet .entry)) (now (bytes .entry)) ⌝ }
 {
     if bytes.len() != DATA_SIZE {
@@ -208,7 +212,8 @@ pub fn read_content_call(packet: &[u8], bytes: &mut [u8]) -> CContent
     }
 }
 
-pub fn read_content_reply_call(packet: &[u8]) -> CContentReply
+#[no_mangle]
+pub extern "C" fn cfu_read_content_reply(packet: &[u8]) -> CContentReply
     ensures { λ r. ⌜ r ≡ readContentReplyCall (now (packet .entry)) ⌝ }
 {
     let read = read_content_reply(packet);

@@ -14,7 +14,7 @@ use Rattle.wire.proofs.version.Laws.{parts, version-back}
 use Rattle.wire.proofs.words.Laws.{round, back, split}
 use Rattle.wire_version.specs.Reply.{none, FitsEntry}
 use Rattle.wire_version.specs.declared.Running.{Running}
-use Rattle.c_version.specs.Layout.{RUNNING-SIZE, runningBytes, componentsBytes, runningIn, componentsIn}
+use Rattle.c_version.specs.Layout.{ID-AT, PLATFORM-AT, RUNNING-SIZE, runningBytes, componentsBytes, runningIn, componentsIn}
 use Rattle.c_version.specs.Promises.{ComponentsSized, ComponentsReadBack, ComponentsWriteBack}
 
 -- components are as many bytes as each has
@@ -50,7 +50,7 @@ components-read-back es size f = ap (λ (n : ℕ). componentsIn n (componentsByt
 
 -- the bytes of one that were read are written again
 running-back : (q : List ℕ) → Bytes q → runningBytes (runningIn q) ≡ bytesAt RUNNING-SIZE 0 q
-running-back q h = ap₂ (λ (v l : List ℕ). v ++ getD q 4 0 ∷ l) (version-back 0 q h) (back 2 5 q h)
+running-back q h = ap₂ (λ (v l : List ℕ). v ++ getD q ID-AT 0 ∷ l) (version-back 0 q h) (back 2 PLATFORM-AT q h)
 
 -- bytes of n components that were read are written again
 read-written : (n : ℕ) (q : List ℕ) → length q ≡ n * RUNNING-SIZE → Bytes q → componentsBytes (componentsIn n q) ≡ q
@@ -74,7 +74,7 @@ components-all q = read-sized RUNNING-SIZE runningIn componentsIn (λ q. refl) (
 pub components-fit : (n : ℕ) (q : List ℕ) → Bytes q → (i : ℕ) → FitsEntry (getD (componentsIn n q) i none)
 unfolding componentsIn
 components-fit zero q h i = record { version = omega arith; id = omega arith; platform = omega arith }
-components-fit (suc n) q h zero = record { version = version-fits 0 q h; id = h 4; platform = word-fits 2 5 q h }
+components-fit (suc n) q h zero = record { version = version-fits 0 q h; id = h ID-AT; platform = word-fits 2 PLATFORM-AT q h }
 components-fit (suc n) q h (suc i) = components-fit n (drop RUNNING-SIZE q) (rest-bytes RUNNING-SIZE q h) i
 
 -- components after components

@@ -1,5 +1,5 @@
 -- The components of a version reply as bytes, little-endian, for whoever keeps them outside of Rattle: version, id and platform of each.
-use Prim.Native.Nat.{ℕ, zero, suc, _*_}
+use Prim.Native.Nat.{ℕ, zero, suc, _+_, _*_}
 use mathlib.Core.List.{List, [], _∷_, _++_}
 use lib.ListN.{getD, drop}
 use Rattle.wire.specs.Bytes.{number, bytesOf, bytesAt}
@@ -7,9 +7,15 @@ use Rattle.wire.specs.Codes.{COMPONENT-LIMIT}
 use Rattle.wire.specs.Version.{versionAt, versionBytes}
 use Rattle.wire_version.specs.declared.Running.{Running}
 
--- the lengths: a component, and all of them
+-- where the id and the platform of a component stand behind its version; the lengths: a component, and all of them
+abbrev pub ID-AT : ℕ
+ID-AT = 4
+
+abbrev pub PLATFORM-AT : ℕ
+PLATFORM-AT = ID-AT + 1
+
 abbrev pub RUNNING-SIZE : ℕ
-RUNNING-SIZE = 7
+RUNNING-SIZE = PLATFORM-AT + 2
 
 abbrev pub COMPONENTS-SIZE : ℕ
 COMPONENTS-SIZE = COMPONENT-LIMIT * RUNNING-SIZE
@@ -23,7 +29,7 @@ componentsBytes [] = []
 componentsBytes (e ∷ es) = runningBytes e ++ componentsBytes es
 
 abbrev pub runningIn : List ℕ → Running
-runningIn q = record { version = versionAt 0 q; id = getD q 4 0; platform = number (bytesAt 2 5 q) }
+runningIn q = record { version = versionAt 0 q; id = getD q ID-AT 0; platform = number (bytesAt 2 PLATFORM-AT q) }
 
 unfoldable pub componentsIn : ℕ → List ℕ → List Running
 componentsIn zero q = []

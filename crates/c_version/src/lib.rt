@@ -9,8 +9,12 @@ use wire::words;
 use wire_version::Running;
 use wire_version::no_component;
 
-// The lengths of a component, and of all of them.
-const RUNNING_SIZE: usize = 7;
+// Where the id and the platform of a component stand behind its version; the lengths of a component, and of all of them.
+pub const ID_AT: usize = 4;
+
+pub const PLATFORM_AT: u16 = ID_AT as u16 + 1;
+
+pub const RUNNING_SIZE: usize = PLATFORM_AT as usize + 2;
 
 pub const COMPONENTS_SIZE: usize = COMPONENT_LIMIT * RUNNING_SIZE;
 
@@ -44,8 +48,8 @@ fn running_in(q: &[u8]) -> Running
 {
     Running {
         version: Version::read_at(q, 0),
-        id: words::byte_at(q, 4),
-        platform: words::word16_at(q, 5),
+        id: words::byte_at(q, ID_AT),
+        platform: words::word16_at(q, PLATFORM_AT),
     }
 }
 

@@ -28,9 +28,9 @@ use Rattle.device_receiving.proofs.content.Laws.{kept}
 use Rattle.device.specs.declared.record.Device.{Device}
 use Rattle.device.specs.declared.answer.Channel.the-variants.{Offer, Content}
 use Rattle.device.specs.Record.{component}
-use Rattle.device.specs.Refusals.{Row, served, D, refusalOf, unlessRefused}
+use Rattle.device.specs.Refusals.{Row, served, D, keptBy, refusalOf, unlessRefused}
 use Rattle.device.specs.Offer.{onKind, offerEntry}
-use Rattle.device.specs.Content.{sessionComponent, contentVerdict, received, stagingUnless, contentEntry, contentStaging}
+use Rattle.device.specs.Content.{sessionComponent, contentVerdict, received, contentEntry, contentStaging}
 use Rattle.device.specs.Entries.{serveEntry, serveStaging}
 use Rattle.device.specs.Images.{StagesOwnImage}
 
@@ -98,7 +98,7 @@ module _ (d : Device) (staging report : List ℕ) (k : ℕ) (v : Version) where
 
   after-row : (row : Row) (w : ContentVerdict)
       → Own (unlessRefused row d (received d (onVerdict (sessionComponent d) (d .session) (headIn report) (drop 8 report) staging w)) .device .components)
-      (stagingUnless row staging (stagingBy (sessionComponent d .fixed .region) (headIn report) (drop 8 report) staging w))
+      (keptBy row staging (stagingBy (sessionComponent d .fixed .region) (headIn report) (drop 8 report) staging w))
   after-row served w = after-verdict (atSlot (d .session .stage)) w
   after-row (D n) w = inl
 

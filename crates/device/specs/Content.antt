@@ -2,6 +2,7 @@
 use Prim.Native.Nat.{ℕ}
 use mathlib.Core.List.{List}
 use lib.ListN.{length, drop, set}
+use Rattle.wire.specs.Codes.{LONG-SIZE, DATA-AT}
 use Rattle.wire_content.specs.Head.{headIn}
 use Rattle.wire_content.specs.declared.head.ContentHead.{ContentHead}
 use Rattle.image.specs.declared.region.Region.{Region}
@@ -13,7 +14,7 @@ use Rattle.device_receiving.specs.declared.checks.ContentVerdict.{ContentVerdic
 use Rattle.device_receiving.specs.declared.content.Taken.{Taken}
 use Rattle.device.specs.declared.record.Device.{Device}
 use Rattle.device.specs.Record.{component}
-use Rattle.device.specs.Refusals.{Row, served, D, Outcome, refusalOf, unlessRefused, servedWith}
+use Rattle.device.specs.Refusals.{Outcome, keptBy, refusalOf, unlessRefused, servedWith}
 
 -- the bytes of the staging buffer that a session on this slot may write
 abbrev pub window : Device → ℕ → Region
@@ -31,18 +32,14 @@ contentVerdict d c = receiving.contentVerdict (sessionComponent d .fixed .region
 abbrev pub received : Device → Taken → Outcome
 received d t = servedWith d (set (d .components) (atSlot (d .session .stage)) (t .component)) (t .effect)
 
-abbrev pub stagingUnless : Row → (s after : List ℕ) → List ℕ
-stagingUnless served s after = after
-stagingUnless (D k) s after = s
-
 -- the content entry, over the packet's head and its data, bytes 8 and up: its answer
 unfoldable pub contentEntry : Device → (staging report : List ℕ) → Outcome
 contentEntry d staging report =
-    unlessRefused (refusalOf 60 d (length staging) (length report)) d
-    (received d (onContent (sessionComponent d) (d .session) (headIn report) (drop 8 report) staging))
+    unlessRefused (refusalOf LONG-SIZE d (length staging) (length report)) d
+    (received d (onContent (sessionComponent d) (d .session) (headIn report) (drop DATA-AT report) staging))
 
 -- the content entry: every byte of the staging buffer afterwards
 unfoldable pub contentStaging : Device → (staging report : List ℕ) → List ℕ
 contentStaging d staging report =
-    stagingUnless (refusalOf 60 d (length staging) (length report)) staging
-    (stagingAfter (sessionComponent d .fixed .region) (d .session .stage) (headIn report) (drop 8 report) staging)
+    keptBy (refusalOf LONG-SIZE d (length staging) (length report)) staging
+    (stagingAfter (sessionComponent d .fixed .region) (d .session .stage) (headIn report) (drop DATA-AT report) staging)

@@ -3,6 +3,7 @@ use Prim.Native.Nat.{ℕ}
 use mathlib.Core.Bool.{Bool}
 use mathlib.Core.List.{List}
 use lib.ListN.{length}
+use Rattle.wire.specs.Codes.{SHORT-SIZE}
 use Rattle.wire_offer.specs.Kind.{Kind, kindIn}
 use Rattle.wire_offer.specs.declared.offer.OfferFields.{OfferFields}
 use Rattle.device_offering.specs.Offer as offering
@@ -24,4 +25,4 @@ onKind d kind = servedWith d (d .components) (packet.onKind (d .platform) (d .co
 
 -- the offer entry, for a staging buffer of n bytes
 unfoldable pub offerEntry : Device → (n : ℕ) → (report : List ℕ) → Outcome
-offerEntry d n report = unlessRefused (refusalOf 16 d n (length report)) d (onKind d (kindIn report))
+offerEntry d n report = unlessRefused (refusalOf SHORT-SIZE d n (length report)) d (onKind d (kindIn report))

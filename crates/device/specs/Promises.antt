@@ -6,7 +6,7 @@ use mathlib.Core.Bool.{Bool, true, false, not, cond, _&&_}
 use mathlib.Core.List.{List, [], _∷_, map}
 use lib.Dec.{eqb}
 use lib.ListN.{length, getD, replicate}
-use Rattle.wire.specs.Codes.{NOTIFY-ON-READY, COMPONENT-LIMIT}
+use Rattle.wire.specs.Codes.{NOTIFY-ON-READY, COMPONENT-LIMIT, DATA-AT}
 use Rattle.wire_version.specs.Reply.{REPLY-SIZE}
 use Rattle.wire_offer.specs.Kind.{Kind, offer, information, extended, kindIn}
 use Rattle.wire_content.specs.Content.{fieldsIn}
@@ -82,7 +82,7 @@ pub record TakesBlock (d : Device) (staging report : List ℕ) : Type 0 where
   pub row : contentEntry d staging report .row ≡ served
   pub verdict : contentVerdict d (headIn report) ≡ Take slot
   pub written : (j : ℕ) → fieldsIn report .address .0 ≤ j → j < fieldsIn report .address .0 + fieldsIn report .length
-      → getD (contentStaging d staging report) (window d slot .base .0 + j) 0 ≡ getD report (8 + (j - fieldsIn report .address .0)) 0
+      → getD (contentStaging d staging report) (window d slot .base .0 + j) 0 ≡ getD report (DATA-AT + (j - fieldsIn report .address .0)) 0
   pub rest : (j : ℕ) → j < window d slot .len → Around (fieldsIn report) j
       → getD (contentStaging d staging report) (window d slot .base .0 + j) 0
       ≡ cond (isFirst (headIn report)) 0xFF (getD staging (window d slot .base .0 + j) 0)

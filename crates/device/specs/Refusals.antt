@@ -43,6 +43,11 @@ abbrev pub isRefused : Row → Bool
 isRefused served = false
 isRefused (D k) = true
 
+-- lent bytes after a call: as it leaves them where it is served, and as they were where a row refuses
+abbrev pub keptBy : Row → (before after : List ℕ) → List ℕ
+keptBy served before after = after
+keptBy (D k) before after = before
+
 -- D1
 abbrev pub breaksD1 : Device → Bool
 breaksD1 d = sound.breaksD1 (d .«staging_len») (d .count) (d .components) (d .session)

@@ -6,6 +6,7 @@ use device_session::effect::Effect;
 use device_session::effect::Replies;
 use wire::codes;
 use wire::codes::COMPONENT_LIMIT;
+use wire::codes::SHORT_SIZE;
 use wire_offer::reply::OfferReply;
 use wire_offer::reply::build_offer_reply;
 use wire_version::REPLY_SIZE;
@@ -27,8 +28,8 @@ pub struct Answer {
     pub device: Device,
 }
 
-// The READY that was owed, with its own token: 16 bytes.
-pub fn ready_reply(token: u8) -> [u8; 16]
+// The READY that was owed, with its own token.
+pub fn ready_reply(token: u8) -> [u8; SHORT_SIZE]
     ensures { λ r. ⌜ r ≡ readyBytes token ⌝ }
 {
     build_offer_reply(OfferReply {

@@ -3,6 +3,7 @@ use crate::answer::Answer;
 use crate::record::Device;
 use device_offering::packet;
 use device_slots::standing::standing_of;
+use wire::codes::SHORT_SIZE;
 use wire_offer::kind::OfferPacket;
 use wire_offer::kind::read_offer_packet;
 ghost use mathlib.Core.Path.{_≡_};
@@ -28,7 +29,7 @@ impl Device {
     pub fn offer(self, staging: &[u8], report: &[u8]) -> Answer
         ensures { λ r. ⌜ told r ≡ offerEntry self (length (now (staging .entry))) (now (report .entry)) ⌝ }
     {
-        let refusal = self.refusal(16, staging.len(), report.len());
+        let refusal = self.refusal(SHORT_SIZE, staging.len(), report.len());
         if refusal.is_refused() {
             return self.refused(refusal);
         }

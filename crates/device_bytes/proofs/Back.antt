@@ -54,12 +54,12 @@ device-sized d f = record {
 }
 
 -- components that were written read back
-parts-back : (cs : List Component) → ((k : ℕ) → FitsComponent (componentAt cs k)) → componentsIn (length cs) (componentsBytes cs) ≡ cs
+components-back : (cs : List Component) → ((k : ℕ) → FitsComponent (componentAt cs k)) → componentsIn (length cs) (componentsBytes cs) ≡ cs
 unfolding componentsBytes componentsIn
-parts-back [] f = refl
-parts-back (c ∷ cs) f =
+components-back [] f = refl
+components-back (c ∷ cs) f =
     ap₂ (λ (x : Component) (l : List Component). x ∷ l) (component-back c (componentsBytes cs) (f 0))
-    (ap (componentsIn (length cs)) (drop-at (componentBytes c) (componentsBytes cs) COMPONENT-SIZE (component-sized c)) ∙ parts-back cs (λ k. f (suc k)))
+    (ap (componentsIn (length cs)) (drop-at (componentBytes c) (componentsBytes cs) COMPONENT-SIZE (component-sized c)) ∙ components-back cs (λ k. f (suc k)))
 
 -- so does a session between what stands before it and what follows; the flags are then those of the components
 pub session-back : (p q : List ℕ) (t : Session) → FitsSession t → let w = bytesAt SESSION-START 0 p ++ (sessionBytes t ++ q) in
@@ -86,7 +86,7 @@ flags-written (c ∷ cs) =
 device-back : (d : Device) → FitsDevice d → deviceIn (deviceBytes d) ≡ d
 unfolding deviceBytes deviceIn
 device-back d f =
-    let e : componentsIn COMPONENT-LIMIT (componentsBytes (d .components)) ≡ d .components = ap (λ (n : ℕ). componentsIn n (componentsBytes (d .components))) (sym (f .slots)) ∙ parts-back (d .components) (f .each) in
+    let e : componentsIn COMPONENT-LIMIT (componentsBytes (d .components)) ≡ d .components = ap (λ (n : ℕ). componentsIn n (componentsBytes (d .components))) (sym (f .slots)) ∙ components-back (d .components) (f .each) in
     record-back (headBytes d) (componentsBytes (d .components)) (d .session) (f .session)
     ∙ rw (round 2 (d .platform) (f .platform), round 4 (d .«staging_len») (f .staging), e)
 

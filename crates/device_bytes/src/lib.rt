@@ -27,15 +27,15 @@ pub mod component; // component.rt: a component
 pub mod session; // session.rt: the session
 
 // Where the parts of a record stand: the platform, the length of the staging buffer, the count, the session, the components.
-const PLATFORM_AT: usize = 0;
+pub const PLATFORM_AT: usize = 0;
 
-const STAGING_LEN_AT: usize = PLATFORM_AT + 2;
+pub const STAGING_LEN_AT: usize = PLATFORM_AT + 2;
 
-const COUNT_AT: usize = STAGING_LEN_AT + 4;
+pub const COUNT_AT: usize = STAGING_LEN_AT + 4;
 
-const SESSION_START: usize = COUNT_AT + 1;
+pub const SESSION_START: usize = COUNT_AT + 1;
 
-const COMPONENTS_START: usize = SESSION_START + SESSION_SIZE;
+pub const COMPONENTS_START: usize = SESSION_START + SESSION_SIZE;
 
 // The length of a record.
 pub const DEVICE_SIZE: usize = COMPONENTS_START + COMPONENT_LIMIT * COMPONENT_SIZE;

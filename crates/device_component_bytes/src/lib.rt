@@ -24,15 +24,15 @@ const REGION_SIZE: usize = WORD_SIZE + WORD_SIZE;
 const STAGED_SIZE: usize = 1 + VERSION_SIZE;
 
 // Where the parts of a component stand behind its id: the running version, the region and its length, what is staged and its version; and the length of all.
-const RUNNING_AT: usize = 1;
+pub const RUNNING_AT: usize = 1;
 
-const REGION_AT: usize = RUNNING_AT + VERSION_SIZE;
+pub const REGION_AT: usize = RUNNING_AT + VERSION_SIZE;
 
-const REGION_LEN_AT: usize = REGION_AT + WORD_SIZE;
+pub const REGION_LEN_AT: usize = REGION_AT + WORD_SIZE;
 
-const STAGED_AT: usize = REGION_AT + REGION_SIZE;
+pub const STAGED_AT: usize = REGION_AT + REGION_SIZE;
 
-const STAGED_VERSION_AT: usize = STAGED_AT + 1;
+pub const STAGED_VERSION_AT: usize = STAGED_AT + 1;
 
 pub const COMPONENT_SIZE: usize = STAGED_AT + STAGED_SIZE;
 

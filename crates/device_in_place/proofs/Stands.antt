@@ -3,11 +3,11 @@ use mathlib.Core.Path.{_≡_, refl, sym, ap, _∙_}
 use mathlib.Core.Bool.{Bool, true, false, true≢false}
 use mathlib.Core.List.{List}
 use Prim.Native.Nat.{ℕ}
-use Rattle.device.specs.Refusals.{Row, served, D, isRefused, refusalOf, rowOf, Outcome, unlessRefused}
+use Rattle.device.specs.Refusals.{Row, served, D, isRefused, keptBy, refusalOf, rowOf, Outcome, unlessRefused}
 use Rattle.device.specs.declared.answer.Refusal.{Refusal}
 use Rattle.device.specs.declared.record.Device.{Device}
 use Rattle.device_bytes.specs.Layout.{isRecord, readDevice}
-use Rattle.device_in_place.specs.InPlace.{outcomeOf, refusedReply, keptBy}
+use Rattle.device_in_place.specs.InPlace.{outcomeOf, refusedReply}
 use Rattle.device_in_place.proofs.sound.Rows.{other-refused}
 
 -- the bytes are a record where no row refuses the call

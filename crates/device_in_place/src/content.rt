@@ -8,20 +8,23 @@ use device_bytes::component::store_component;
 use device_bytes::session::session_in;
 use device_bytes::session::store_session;
 use device_receiving::content::on_report;
+use wire::codes::LONG_SIZE;
 ghost use mathlib.Core.Path.{_≡_};
 ghost use lib.ListN.{length, drop};
+ghost use Rattle.wire.specs.Codes.{DATA-AT};
 ghost use Rattle.wire_content.specs.Head.{headIn};
 ghost use Rattle.device_receiving.specs.Receive.{stagingAfter};
 ghost use Rattle.device.specs.Content.{sessionComponent, contentEntry, contentStaging};
 ghost use Rattle.device_bytes.specs.Layout.{DEVICE-SIZE, deviceIn, readDevice};
-ghost use Rattle.device_in_place.specs.InPlace.{outcomeOf, contentLeaves, contentBy, contentStored};
+ghost use Rattle.device_in_place.specs.InPlace.{outcomeOf, contentLeaves};
+ghost use Rattle.device_in_place.specs.Inside.{contentBy, contentStored};
 
 // A packet that no row refuses.
 fn on_content(bytes: &mut [u8], staging: &mut [u8], report: &[u8]) -> Reply
     requires { ⌜ length (now bytes) ≡ DEVICE-SIZE ⌝ }
     ensures { λ r. ⌜ (outcomeOf r (contentBy (now (bytes .entry)) (now (staging .entry)) (now (report .entry)) .device) ≡ contentBy (now (bytes .entry)) (now (staging .entry)) (now (report .entry)))
         × (now (bytes .exit) ≡ contentStored (now (bytes .entry)) (now (staging .entry)) (now (report .entry)))
-        × (now (staging .exit) ≡ stagingAfter (sessionComponent (deviceIn (now (bytes .entry))) .fixed .region) (deviceIn (now (bytes .entry)) .session .stage) (headIn (now (report .entry))) (drop 8 (now (report .entry))) (now (staging .entry))) ⌝ }
+        × (now (staging .exit) ≡ stagingAfter (sessionComponent (deviceIn (now (bytes .entry))) .fixed .region) (deviceIn (now (bytes .entry)) .session .stage) (headIn (now (report .entry))) (drop DATA-AT (now (report .entry))) (now (staging .entry))) ⌝ }
 {
     let session = session_in(bytes);
     let stage = session.stage;
@@ -43,7 +46,7 @@ pub fn content_in_place(bytes: &mut [u8], staging: &mut [u8], report: &[u8]) -> 
         × (now (bytes .exit) ≡ contentLeaves (now (bytes .entry)) (contentEntry (readDevice (now (bytes .entry))) (now (staging .entry)) (now (report .entry))))
         × (now (staging .exit) ≡ contentStaging (readDevice (now (bytes .entry))) (now (staging .entry)) (now (report .entry))) ⌝ }
 {
-    let refusal = refusal_in(bytes, 60, staging.len(), report.len());
+    let refusal = refusal_in(bytes, LONG_SIZE, staging.len(), report.len());
     if refusal.is_refused() {
         return refused(refusal);
     }

@@ -8,13 +8,15 @@ use device_bytes::platform_in;
 use device_bytes::session::session_in;
 use device_bytes::session::store_session;
 use device_offering::packet;
+use wire::codes::SHORT_SIZE;
 use wire_offer::kind::OfferPacket;
 use wire_offer::kind::read_offer_packet;
 ghost use mathlib.Core.Path.{_≡_};
 ghost use lib.ListN.{length};
 ghost use Rattle.device.specs.Offer.{offerEntry};
 ghost use Rattle.device_bytes.specs.Layout.{DEVICE-SIZE, readDevice, withSessionBytes};
-ghost use Rattle.device_in_place.specs.InPlace.{outcomeOf, offerLeaves, packetBy};
+ghost use Rattle.device_in_place.specs.InPlace.{outcomeOf, offerLeaves};
+ghost use Rattle.device_in_place.specs.Inside.{packetBy};
 
 // A packet that no row refuses; none changes a component.
 fn on_packet(bytes: &mut [u8], p: OfferPacket) -> Reply
@@ -36,7 +38,7 @@ pub fn offer_in_place(bytes: &mut [u8], staging: &[u8], report: &[u8]) -> Reply
     ensures { λ r. ⌜ (outcomeOf r (offerEntry (readDevice (now (bytes .entry))) (length (now (staging .entry))) (now (report .entry)) .device) ≡ offerEntry (readDevice (now (bytes .entry))) (length (now (staging .entry))) (now (report .entry)))
         × (now (bytes .exit) ≡ offerLeaves (now (bytes .entry)) (offerEntry (readDevice (now (bytes .entry))) (length (now (staging .entry))) (now (report .entry)))) ⌝ }
 {
-    let refusal = refusal_in(bytes, 16, staging.len(), report.len());
+    let refusal = refusal_in(bytes, SHORT_SIZE, staging.len(), report.len());
     if refusal.is_refused() {
         return refused(refusal);
     }

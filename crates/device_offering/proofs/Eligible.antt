@@ -1,9 +1,8 @@
 -- What an eligible offer is, from checks 2 to 7 and back. Assumes nothing.
-use Prim.Native.Nat.{ℕ}
-use mathlib.Core.Path.{_≡_, refl, sym, _∙_}
-use mathlib.Core.Bool.{Bool, true, false, not, true≢false}
-use borrow.Author.Tests.{eqb-true, eq-eqb}
-use lib.Dec.{eqb}
+use mathlib.Core.Path.{_≡_, refl}
+use mathlib.Core.Bool.{false, true≢false}
+use borrow.Author.Tests.{eq-eqb}
+use Rattle.wire.proofs.Tests.{equal}
 use Rattle.wire.proofs.Chain.{quiet, none-applies}
 use Rattle.device_component.specs.Record.{isPending}
 use Rattle.device_component.specs.declared.record.Staged.{Staged}
@@ -15,14 +14,6 @@ use Rattle.device_component.specs.declared.list.Found.the-variants as found
 use Rattle.device_slots.specs.Slots.{slotOf, isAbsent}
 use Rattle.device_offering.specs.Offer.{isOld, rejectionsAt}
 use Rattle.device_offering.specs.Eligible.{Eligible, EligibleIs}
-
--- numbers that the test does not distinguish are equal
-equal : (m n : ℕ) → not (eqb m n) ≡ false → m ≡ n
-equal m n h = go (eqb m n) refl h
-  where
-    go : (t : Bool) → eqb m n ≡ t → not t ≡ false → m ≡ n
-    go true e z = eqb-true m n e
-    go false e z = absurd (true≢false z)
 
 -- what was found stands in its slot
 there : (f : Found) → isAbsent f ≡ false → f ≡ found.At (slotOf f)

@@ -6,7 +6,7 @@ use mathlib.Core.List.{List, [], _∷_}
 use lib.Dec.{ltb, leb, eqb}
 use lib.ListN.{take}
 use Rattle.wire.specs.Checks.{firstOf}
-use Rattle.wire.specs.Codes.{ERROR-INVALID-ADDR, ERROR-NO-OFFER, ERROR-INVALID}
+use Rattle.wire.specs.Codes.{ERROR-INVALID-ADDR, ERROR-NO-OFFER, ERROR-INVALID, FLAG-FIRST-BLOCK, FLAG-LAST-BLOCK, DATA-SIZE}
 use Rattle.wire_content.specs.declared.head.ContentHead.{ContentHead}
 use Rattle.image.specs.Region.{holds, eraseOf, writeOf}
 use Rattle.image.specs.declared.region.Region.{Region}
@@ -17,10 +17,10 @@ use Rattle.device_receiving.specs.declared.checks.ContentVerdict.the-var
 
 -- flags
 abbrev pub isFirst : ContentHead → Bool
-isFirst c = leb 128 (c .flags)
+isFirst c = leb FLAG-FIRST-BLOCK (c .flags)
 
 abbrev pub isLast : ContentHead → Bool
-isLast c = eqb (c .flags / 64 % 2) 1
+isLast c = eqb (c .flags / FLAG-LAST-BLOCK % 2) 1
 
 -- check 1: idle
 abbrev pub noOffer : Stage → Bool
@@ -28,7 +28,7 @@ noOffer stage = not (isOpen stage)
 
 -- check 2: length 0 or over 52, or a flag bit other than the two
 abbrev pub badShape : ContentHead → Bool
-badShape c = (eqb (c .length) 0 || ltb 52 (c .length)) || not (eqb (c .flags % 64) 0)
+badShape c = (eqb (c .length) 0 || ltb DATA-SIZE (c .length)) || not (eqb (c .flags % FLAG-LAST-BLOCK) 0)
 
 -- check 3: offered without first, or receiving with first
 abbrev pub badFirst : Stage → ContentHead → Bool

@@ -2,12 +2,10 @@
 use device_session::stage::Stage;
 use image::region::Region;
 use wire::codes;
+use wire_content::content::DATA_LIMIT;
 use wire_content::head::ContentHead;
 ghost use mathlib.Core.Path.{_≡_};
 ghost use Rattle.device_receiving.specs.Content.{isFirst, isLast, noOffer, badShape, badFirst, badSequence, badAddress, contentVerdict};
-
-// The most bytes of data in a block.
-const BLOCK_LIMIT: u8 = 52;
 
 // The first check that applies.
 pub enum ContentVerdict {
@@ -36,11 +34,11 @@ fn no_offer(stage: Stage) -> bool
     !stage.is_open()
 }
 
-// Check 2: length 0 or over 52, or a flag bit other than the two.
+// Check 2: length 0 or over the limit, or a flag bit other than the two.
 fn bad_shape(c: ContentHead) -> bool
     ensures { λ r. ⌜ r ≡ badShape c ⌝ }
 {
-    (c.length == 0) | (BLOCK_LIMIT < c.length) | (c.flags % codes::FLAG_LAST_BLOCK != 0)
+    (c.length == 0) | (DATA_LIMIT < c.length) | (c.flags % codes::FLAG_LAST_BLOCK != 0)
 }
 
 // Check 3: offered without first, or receiving with first.

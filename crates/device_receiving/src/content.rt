@@ -11,6 +11,7 @@ use device_session::owed::Owed;
 use device_session::stage::Receiving;
 use device_session::stage::Stage;
 use wire::codes;
+use wire::codes::DATA_AT;
 use wire::words;
 use wire_content::head::ContentHead;
 use wire_content::head::read_head;
@@ -18,6 +19,7 @@ use wire_content::reply::ContentReply;
 use wire_content::reply::build_content_reply;
 ghost use mathlib.Core.Path.{_≡_};
 ghost use lib.ListN.{drop};
+ghost use Rattle.wire.specs.Codes.{DATA-AT};
 ghost use Rattle.wire_content.specs.Head.{headIn};
 ghost use Rattle.device_receiving.specs.Receive.{blockReply, goesOn, onBlock, onContent, stagingAfter};
 
@@ -99,16 +101,11 @@ fn on_content(
 }
 
 // A content packet as it came: its head, and the data behind it.
-pub fn on_report(
-    component: Component,
-    session: Session,
-    report: &[u8],
-    staging: &mut [u8],
-) -> Taken
-    ensures { λ r. ⌜ (r ≡ onContent component session (headIn (now (report .entry))) (drop 8 (now (report .entry))) (now (staging .entry)))
-        × (now (staging .exit) ≡ stagingAfter (component .fixed .region) (session .stage) (headIn (now (report .entry))) (drop 8 (now (report .entry))) (now (staging .entry))) ⌝ }
+pub fn on_report(component: Component, session: Session, report: &[u8], staging: &mut [u8]) -> Taken
+    ensures { λ r. ⌜ (r ≡ onContent component session (headIn (now (report .entry))) (drop DATA-AT (now (report .entry))) (now (staging .entry)))
+        × (now (staging .exit) ≡ stagingAfter (component .fixed .region) (session .stage) (headIn (now (report .entry))) (drop DATA-AT (now (report .entry))) (now (staging .entry))) ⌝ }
 {
     let head = read_head(report);
-    let at = words::least(8, report.len());
+    let at = words::least(DATA_AT, report.len());
     on_content(component, session, head, &report[at..], staging)
 }

@@ -3,6 +3,7 @@ use Prim.Native.Nat.{ℕ}
 use mathlib.Core.Bool.{true, false}
 use mathlib.Core.List.{List}
 use lib.ListN.{replicate}
+use Rattle.wire.specs.Codes.{SHORT-SIZE}
 use Rattle.device_session.specs.declared.stage.Stage.{Stage}
 use Rattle.device_session.specs.declared.stage.Stage.the-variants.{Idle}
 use Rattle.device_session.specs.declared.owed.Owed.{Owed}
@@ -32,7 +33,7 @@ owing session owed = record { stage = session .stage; owed = owed }
 
 -- nothing is sent
 abbrev pub noReplies : Replies
-noReplies = record { due = false; reply = replicate 16 0; ready = Nothing }
+noReplies = record { due = false; reply = replicate SHORT-SIZE 0; ready = Nothing }
 
 -- one reply, and then the READY that was owed
 abbrev pub oneReply : List ℕ → Owed → Replies

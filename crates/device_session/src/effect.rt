@@ -1,6 +1,7 @@
 // The session (document 01, "The device"), the one way it becomes idle, and what a packet does: what is sent after it, and the session afterwards.
 use crate::owed::Owed;
 use crate::stage::Stage;
+use wire::codes::SHORT_SIZE;
 ghost use mathlib.Core.Path.{_≡_};
 ghost use Rattle.device_session.specs.Effect.{noReplies, inStage, owing as owingOf, idle as idleSession, answered as answeredBy, silent as silentAs};
 
@@ -12,7 +13,7 @@ pub struct Session {
 // What is sent after a packet: a reply where one is due (its bytes are zero where none is), then the READY that was owed, with its token.
 pub struct Replies {
     pub due: bool,
-    pub reply: [u8; 16],
+    pub reply: [u8; SHORT_SIZE],
     pub ready: Owed,
 }
 
@@ -29,7 +30,7 @@ impl Replies {
     {
         Replies {
             due: false,
-            reply: [0u8; 16],
+            reply: [0u8; SHORT_SIZE],
             ready: Owed::Nothing,
         }
     }
@@ -63,7 +64,7 @@ impl Session {
     }
 
     // One reply, and then the READY that was owed.
-    pub fn answered(self, reply: [u8; 16], ready: Owed) -> Effect
+    pub fn answered(self, reply: [u8; SHORT_SIZE], ready: Owed) -> Effect
         ensures { λ r. ⌜ r ≡ answeredBy reply ready self ⌝ }
     {
         let replies = Replies {

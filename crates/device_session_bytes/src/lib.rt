@@ -10,18 +10,18 @@ use device_session::stage::Stage;
 use wire::words;
 
 // Where the parts of a stage stand behind its number: the slot, the token, the next sequence; and its length.
-const SLOT_AT: usize = 1;
+pub const SLOT_AT: usize = 1;
 
-const TOKEN_AT: usize = SLOT_AT + 1;
+pub const TOKEN_AT: usize = SLOT_AT + 1;
 
-const NEXT_AT: usize = TOKEN_AT + 1;
+pub const NEXT_AT: usize = TOKEN_AT + 1;
 
 const STAGE_SIZE: usize = NEXT_AT + 2;
 
 // Where what is owed stands behind the stage, and its token; its length, and that of the session.
-const OWED_AT: usize = STAGE_SIZE;
+pub const OWED_AT: usize = STAGE_SIZE;
 
-const OWED_TOKEN_AT: usize = OWED_AT + 1;
+pub const OWED_TOKEN_AT: usize = OWED_AT + 1;
 
 const OWED_SIZE: usize = 1 + 1;
 

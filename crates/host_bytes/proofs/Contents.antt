@@ -26,35 +26,21 @@ use Rattle.host_record.specs.declared.record.HostStage.{HostStage}
 use Rattle.host_record.specs.declared.record.HostStage.the-variants.{Fresh, Opening, Listing, Offering, Waiting, Sending, Closing, Ended}
 use Rattle.host_record.specs.declared.record.End.the-variants as end
 use Rattle.host_bytes.specs.declared.stage.StageWords.{StageWords}
-use Rattle.host_bytes.specs.Layout.{ENTRY-AT, BODIES-START, BODY-SIZE, HAND-START, CURSOR-START, CONTENTS-SIZE, stageWords, rowBytes, bodyBytes, bodiesBytes, handBytes, noPlace, contentsBytes, rowIn, bodyIn, bodiesIn, contentsIn, bodyRead, placeIn, cursorIn, isKept, keptIn}
+use Rattle.host_bytes.specs.Layout.{WORD-SIZE, wordsBytes, ENTRY-AT, BODIES-START, LENGTH-IN, RECORDS-IN, BODY-SIZE, HAND-START, BLOCK-AT, CURSOR-START, CONTENTS-SIZE, stageWords, rowBytes, bodyBytes, bodiesBytes, handBytes, noPlace, contentsBytes, rowIn, bodyIn, bodiesIn, contentsIn, bodyRead, placeIn, cursorIn, isKept, keptIn}
+use Rattle.host_bytes.proofs.Words.{laid}
 
--- three pieces after a front
-join : (a b c d : List ℕ) → ((a ++ b) ++ c) ++ d ≡ a ++ (b ++ (c ++ d))
-join a b c d = simp append-assoc
-
--- one body more is written, word by word
-pub body-written : (out front x y z : List ℕ) (table : List Entry) (i : ℕ) → i < OFFER-LIMIT → length table ≡ OFFER-LIMIT → length out ≡ CONTENTS-SIZE
-    → x ≡ take (BODIES-START + i * BODY-SIZE) out ++ (bytesOf 4 (getD table i blankEntry .offset) ++ drop (BODIES-START + i * BODY-SIZE + 4) out)
-    → y ≡ take (BODIES-START + i * BODY-SIZE + 4) x ++ (bytesOf 4 (getD table i blankEntry .length) ++ drop (BODIES-START + i * BODY-SIZE + 4 + 4) x)
-    → z ≡ take (BODIES-START + i * BODY-SIZE + 8) y ++ (bytesOf 4 (getD table i blankEntry .records) ++ drop (BODIES-START + i * BODY-SIZE + 8 + 4) y)
+-- one body more is written, as its three words
+pub body-written : (out front z : List ℕ) (table : List Entry) (i : ℕ) → i < OFFER-LIMIT → length table ≡ OFFER-LIMIT → length out ≡ CONTENTS-SIZE
+    → z ≡ laid (BODIES-START + i * BODY-SIZE) (getD table i blankEntry .offset ∷ getD table i blankEntry .length ∷ getD table i blankEntry .records ∷ []) out
     → take (BODIES-START + i * BODY-SIZE) out ≡ front ++ bodiesBytes (take i table)
     → (length z ≡ CONTENTS-SIZE) × (take (BODIES-START + (i + 1) * BODY-SIZE) z ≡ front ++ bodiesBytes (take (i + 1) table))
-unfolding bodiesBytes
-body-written out front x y z table i h full whole e f g before =
-    let b = getD table i blankEntry in
+unfolding bodiesBytes wordsBytes
+body-written out front z table i h full whole e before =
     let at = BODIES-START + i * BODY-SIZE in
-    let u = stored out (bytesOf 4 (b .offset)) at 4 refl (omega arith) in
-    let l : length x ≡ CONTENTS-SIZE = ap length e ∙ u .0 ∙ whole in
-    let v = stored x (bytesOf 4 (b .length)) (at + 4) 4 refl (omega arith) in
-    let m : length y ≡ CONTENTS-SIZE = ap length f ∙ v .0 ∙ l in
-    let w = stored y (bytesOf 4 (b .records)) (at + 8) 4 refl (omega arith) in
-    let n : BODIES-START + (i + 1) * BODY-SIZE ≡ at + 8 + 4 = omega arith in
-    let o : at + 8 ≡ at + 4 + 4 = omega arith in
-    let t : take (at + 8) y ≡ (take at out ++ bytesOf 4 (b .offset)) ++ bytesOf 4 (b .length) =
-    ap₂ take o f ∙ v .1 ∙ ap (λ (q : List ℕ). q ++ bytesOf 4 (b .length)) (ap (take (at + 4)) e ∙ u .1) in (
-      ap length g ∙ w .0 ∙ m,
-      piece-next bodyBytes bodiesBytes refl (λ r q. refl) out z front table blankEntry i at (BODIES-START + (i + 1) * BODY-SIZE) (omega arith) before
-          (ap₂ take n g ∙ w .1 ∙ ap (λ (q : List ℕ). q ++ bytesOf 4 (b .records)) t ∙ join (take at out) (bytesOf 4 (b .offset)) (bytesOf 4 (b .length)) (bytesOf 4 (b .records))),
+    let u = stored out (bodyBytes (getD table i blankEntry)) at BODY-SIZE refl (omega arith) in
+    let n : BODIES-START + (i + 1) * BODY-SIZE ≡ at + BODY-SIZE = omega arith in (
+      ap length e ∙ u .0 ∙ whole,
+      piece-next bodyBytes bodiesBytes refl (λ r q. refl) out z front table blankEntry i at (BODIES-START + (i + 1) * BODY-SIZE) (omega arith) before (ap₂ take n e ∙ u .1),
     )
 
 -- all of them are written
@@ -91,22 +77,20 @@ contents-of out q v place count row entry table whole e f g h =
     w ∙ ap (λ (l : List ℕ). l ++ handBytes noPlace 0) g ∙ ap (λ (l : List ℕ). l ++ (count ∷ bodiesBytes table ++ handBytes noPlace 0)) r
 
 -- the words of a block, and then the bytes of the cursor behind it, are stored at the end of the contents
-pub hand-stored : (q x y behind t : List ℕ) (entry block cursor k : ℕ) → k ≡ 8 → length q ≡ CONTENTS-SIZE → x ≡ take HAND-START q ++ (bytesOf 4 entry ++ drop (HAND-START + 4) q)
-    → y ≡ take (HAND-START + 4) x ++ (bytesOf 4 block ++ drop (HAND-START + 4 + 4) x) → behind ≡ bytesOf 8 cursor → t ≡ copyOf (take k (drop CURSOR-START y)) behind
+pub hand-stored : (q y behind t : List ℕ) (entry block cursor k : ℕ) → k ≡ 2 * WORD-SIZE → length q ≡ CONTENTS-SIZE → y ≡ laid HAND-START (entry ∷ block ∷ []) q
+    → behind ≡ bytesOf 8 cursor → t ≡ copyOf (take k (drop CURSOR-START y)) behind
     → take CURSOR-START y ++ (t ++ drop k (drop CURSOR-START y)) ≡ take HAND-START q ++ handBytes (record { entry = entry; block = block }) cursor
-hand-stored q x y behind t entry block cursor k e whole f g h i =
-    let u = stored q (bytesOf 4 entry) HAND-START 4 refl (omega arith) in
-    let l : length x ≡ CONTENTS-SIZE = ap length f ∙ u .0 ∙ whole in
-    let v = stored x (bytesOf 4 block) (HAND-START + 4) 4 refl (omega arith) in
-    let m : length y ≡ CONTENTS-SIZE = ap length g ∙ v .0 ∙ l in
-    let z = end-written y behind t CURSOR-START 8 k e (ap length h) (omega arith) i in
-    let w : take CURSOR-START y ≡ (take HAND-START q ++ bytesOf 4 entry) ++ bytesOf 4 block =
-    ap (take CURSOR-START) g ∙ v .1 ∙ ap (λ (r : List ℕ). r ++ bytesOf 4 block) (ap (take (HAND-START + 4)) f ∙ u .1) in
-    z ∙ ap₂ (λ (a b : List ℕ). a ++ b) w h ∙ join (take HAND-START q) (bytesOf 4 entry) (bytesOf 4 block) (bytesOf 8 cursor)
+unfolding wordsBytes
+hand-stored q y behind t entry block cursor k e whole f g h =
+    let words = bytesOf 4 entry ++ bytesOf 4 block in
+    let u = stored q words HAND-START (2 * WORD-SIZE) refl (omega arith) in
+    let m : length y ≡ CONTENTS-SIZE = ap length f ∙ u .0 ∙ whole in
+    end-written y behind t CURSOR-START (2 * WORD-SIZE) k e (ap length g) (omega arith) h
+    ∙ ap₂ (λ (a b : List ℕ). a ++ b) (ap (take CURSOR-START) f ∙ u .1) g ∙ append-assoc (take HAND-START q) words (bytesOf 8 cursor)
 
 -- the cursor is kept for a block, by the words of the stage
 pub kept-test : (q : List ℕ) (s : HostStage)
-    → (eqb (stageWords s .number) 5 && (eqb (number (bytesAt 4 HAND-START q)) (stageWords s .first) && eqb (number (bytesAt 4 (HAND-START + 4) q)) (stageWords s .second))) ≡ isKept q s
+    → (eqb (stageWords s .number) 5 && (eqb (number (bytesAt 4 HAND-START q)) (stageWords s .first) && eqb (number (bytesAt 4 BLOCK-AT q)) (stageWords s .second))) ≡ isKept q s
 kept-test q Fresh = refl
 kept-test q Opening = refl
 kept-test q Listing = refl
@@ -169,7 +153,7 @@ parts c p cursor = sym (append-assoc (rowBytes (c .row)) (c .count ∷ bodiesByt
 
 -- the body that stands in bytes from a place on
 abbrev pub bodyFrom : ℕ → List ℕ → Body
-bodyFrom at q = record { start = number (bytesAt 4 at q); end = number (bytesAt 4 at q) + number (bytesAt 4 (at + 4) q); records = number (bytesAt 4 (at + 8) q) }
+bodyFrom at q = record { start = number (bytesAt 4 at q); end = number (bytesAt 4 at q) + number (bytesAt 4 (at + LENGTH-IN) q); records = number (bytesAt 4 (at + RECORDS-IN) q) }
 
 -- bytes of what follows a place
 after : (k n i : ℕ) (q : List ℕ) → bytesAt k i (drop n q) ≡ bytesAt k (n + i) q
@@ -190,9 +174,9 @@ body-listed q i h =
     let n = BODIES-START + i * BODY-SIZE in
     let e = read-at BODY-SIZE bodyIn bodiesIn (λ q. refl) (λ n q. refl) OFFER-LIMIT i (drop BODIES-START q) blankEntry h ∙ ap bodyIn (drop-drop (i * BODY-SIZE) BODIES-START q) in
     let x : number (bytesAt 4 0 (drop n q)) ≡ number (bytesAt 4 n q) = ap number (after 4 n 0 q ∙ ap (λ (m : ℕ). bytesAt 4 m q) (add-zero n)) in
-    let y : number (bytesAt 4 4 (drop n q)) ≡ number (bytesAt 4 (n + 4) q) = ap number (after 4 n 4 q) in
-    let z : number (bytesAt 4 8 (drop n q)) ≡ number (bytesAt 4 (n + 8) q) = ap number (after 4 n 8 q) in
-    ap (λ (l : Entry). bodyNumbers (l .offset) (l .length) (l .records)) e ∙ ap (λ (m : ℕ). bodyNumbers m (number (bytesAt 4 4 (drop n q))) (number (bytesAt 4 8 (drop n q)))) x
+    let y : number (bytesAt 4 LENGTH-IN (drop n q)) ≡ number (bytesAt 4 (n + LENGTH-IN) q) = ap number (after 4 n LENGTH-IN q) in
+    let z : number (bytesAt 4 RECORDS-IN (drop n q)) ≡ number (bytesAt 4 (n + RECORDS-IN) q) = ap number (after 4 n RECORDS-IN q) in
+    ap (λ (l : Entry). bodyNumbers (l .offset) (l .length) (l .records)) e ∙ ap (λ (m : ℕ). bodyNumbers m (number (bytesAt 4 LENGTH-IN (drop n q))) (number (bytesAt 4 RECORDS-IN (drop n q)))) x
     ∙ ap₂ (bodyNumbers (number (bytesAt 4 n q))) y z
 
 -- there are no more
@@ -293,11 +277,11 @@ module _ (c : Contents) (w : Written c) (p : Place) (cursor : ℕ) where
   -- the block reads back
   pub place-back : FitsPlace p → placeIn (contentsBytes c p cursor) ≡ p
   place-back f =
-      ap₂ (λ (x y : ℕ). record { entry = x; block = y }) (ap number (hand-at 4 0) ∙ round 4 (p .entry) (f .entry)) (ap number (hand-at 4 4) ∙ round 4 (p .block) (f .block))
+      ap₂ (λ (x y : ℕ). record { entry = x; block = y }) (ap number (hand-at 4 0) ∙ round 4 (p .entry) (f .entry)) (ap number (hand-at 4 WORD-SIZE) ∙ round 4 (p .block) (f .block))
 
   -- so does the cursor
   pub cursor-back : cursor < 256 ^ 8 → cursorIn (contentsBytes c p cursor) ≡ cursor
-  cursor-back f = ap number (hand-at 8 8) ∙ round 8 cursor f
+  cursor-back f = ap number (hand-at 8 (2 * WORD-SIZE)) ∙ round 8 cursor f
 
   -- so does what the check answered
   pub contents-back : contentsIn (contentsBytes c p cursor) ≡ bare c

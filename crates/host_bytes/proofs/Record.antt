@@ -3,15 +3,15 @@
 use mathlib.Core.Path.{_≡_, refl, sym, ap, _∙_}
 use mathlib.Core.Bool.{Bool, true, false, _||_, _&&_}
 use mathlib.Core.List.{List, [], _∷_, _++_}
-use Prim.Native.Nat.{ℕ, _+_, _-_, _%_, _^_, _<_}
+use Prim.Native.Nat.{ℕ, _-_, _%_, _^_, _<_}
 use native.Mathlib.Omega.{arith}
 use lib.Dec.{eqb, leb, ltb}
-use lib.ListN.{length, getD, set, take, drop, replicate}
+use lib.ListN.{length, getD, set, replicate}
 use Rattle.wire.specs.Bytes.{Bytes, number, bytesOf, bytesAt}
 use Rattle.wire.proofs.Bounds.{cons-bytes, join-bytes, no-bytes, word-bytes}
 use Rattle.wire.proofs.words.Laws.{round}
 use Rattle.bundle_layout.specs.Layout.{countIn}
-use Rattle.host_record.specs.Record.{FitsHostStage, FitsHost}
+use Rattle.host_record.specs.Record.{FitsHostStage, FitsHost, endingOf, numberOf, statusOf}
 use Rattle.host.specs.Step.{breaksN1}
 use Rattle.host_record.specs.declared.record.Host.{Host}
 use Rattle.host_record.specs.declared.record.HostStage.{HostStage}
@@ -19,20 +19,16 @@ use Rattle.host_record.specs.declared.record.HostStage.the-variants.{Fresh, Ope
 use Rattle.host_record.specs.declared.record.End.{End}
 use Rattle.host_record.specs.declared.record.End.the-variants as end
 use Rattle.host_bytes.specs.declared.stage.StageWords.{StageWords}
-use Rattle.host_bytes.specs.Layout.{TOKEN-AT, STAGE-START, FIRST-AT, SECOND-AT, MASK-AT, PACKETS-AT, PASSES-AT, SKIPPED-AT, LANDED-AT, HOST-SIZE, endWords, stageWords, stageBytes, flagByte, hostBytes, stageIn, hostIn, areFlags, flagsFit, refusedHost, readHost}
+use Rattle.host_bytes.specs.Layout.{wordsBytes, TOKEN-AT, STAGE-START, FIRST-AT, SECOND-AT, MASK-AT, PACKETS-AT, PASSES-AT, SKIPPED-AT, LANDED-AT, HOST-SIZE, endWords, stageWords, stageBytes, flagByte, hostBytes, stageIn, hostIn, areFlags, flagsFit, refusedHost, readHost}
 use Rattle.host_bytes.specs.Promises.{HostSized, HostReadsBack, OthersBreakN1}
+use Rattle.host_bytes.proofs.Words.{laid}
 
--- bytes that are stored in a record at a place
-abbrev stored : (at : ℕ) (s l : List ℕ) → List ℕ
-stored at s l = take at l ++ (s ++ drop (at + 4) l)
-
--- a record, field by field
-pub record-of : (h : Host) (w : StageWords) (a b c d e : List ℕ) (x y : ℕ) → w ≡ stageWords (h .stage)
-    → a ≡ stored FIRST-AT (bytesOf 4 (w .first)) (h .token ∷ w .number ∷ replicate (HOST-SIZE - FIRST-AT) 0) → b ≡ stored SECOND-AT (bytesOf 4 (w .second)) a → c ≡ stored MASK-AT (bytesOf 4 (h .mask)) b
-    → d ≡ stored PACKETS-AT (bytesOf 4 (h .packets)) c → e ≡ stored PASSES-AT (bytesOf 4 (h .passes)) d → x ≡ flagByte (h .skipped) → y ≡ flagByte (h .landed)
-    → set (set e SKIPPED-AT x) LANDED-AT y ≡ hostBytes h
-unfolding hostBytes
-record-of h w a b c d e x y f g i j k l m n = rw (n, m, l, k, j, i, g, f)
+-- a record: token and stage, the words, the two flags
+pub record-of : (h : Host) (w : StageWords) (a : List ℕ) (x y : ℕ) → w ≡ stageWords (h .stage)
+    → a ≡ laid FIRST-AT (w .first ∷ w .second ∷ h .mask ∷ h .packets ∷ h .passes ∷ []) (h .token ∷ w .number ∷ replicate (HOST-SIZE - FIRST-AT) 0)
+    → x ≡ flagByte (h .skipped) → y ≡ flagByte (h .landed) → set (set a SKIPPED-AT x) LANDED-AT y ≡ hostBytes h
+unfolding hostBytes wordsBytes
+record-of h w a x y e f g i = rw (i, g, f, e)
 
 -- the parts of a record are bytes
 words-bytes : (n a b : ℕ) → n < 256 → Bytes (n ∷ bytesOf 4 a ++ bytesOf 4 b)
@@ -58,6 +54,14 @@ stage-number (Ended e) = end-number e
 flag-byte : (x : Bool) → flagByte x < 256
 flag-byte false = omega arith
 flag-byte true = omega arith
+
+-- the words of an end: its number and its status
+pub end-words : (e : End) → record { number = 7; first = numberOf (endingOf e); second = statusOf (endingOf e) } ≡ endWords e
+end-words end.Done = refl
+end-words (end.Status s) = refl
+end-words end.Foreign = refl
+end-words end.Unexpected = refl
+end-words end.Busy = refl
 
 -- every record is bytes of the one length
 pub host-sized : HostSized
@@ -138,15 +142,15 @@ third : (x z : Bool) → (x || (true || z)) ≡ true
 third true z = refl
 third false z = refl
 
--- the lost record breaks N1 over every bundle: it counts too many packets
-lost-breaks : (bundle : List ℕ) → breaksN1 bundle refusedHost ≡ true
+-- the refused record breaks N1 over every bundle: it counts too many packets
+refused-breaks : (bundle : List ℕ) → breaksN1 bundle refusedHost ≡ true
 unfolding breaksN1
-lost-breaks bundle = third (ltb (countIn bundle) 0) (leb (2 ^ countIn bundle) 0)
+refused-breaks bundle = third (ltb (countIn bundle) 0) (leb (2 ^ countIn bundle) 0)
 
--- bytes of another length, or with a flag that no record has, are read as the lost record
+-- bytes of another length, or with a flag that no record has, are read as the refused record
 pub others-break-n1 : OthersBreakN1
 unfolding readHost
-others-break-n1 b bundle e = rw e (lost-breaks bundle)
+others-break-n1 b bundle e = rw e (refused-breaks bundle)
 
 -- the flags that were read
 pub flags-read : (b : List ℕ) (s e x y : ℕ) (t f : Bool) → s ≡ getD b STAGE-START 0 → e ≡ number (bytesAt 4 FIRST-AT b) → x ≡ getD b SKIPPED-AT 0 → y ≡ getD b LANDED-AT 0
@@ -162,11 +166,11 @@ pub fields-read : (b : List ℕ) (token mask packets passes number′ first seco
 unfolding hostIn
 fields-read b token mask packets passes number′ first second x y stage e f g h i j k l m n = rw (e, f, g, h, i, j, k, l, m, n)
 
--- the fields where the length and the flags are a record's, and otherwise the lost record
+-- the fields where the length and the flags are a record's, and otherwise the refused record
 pub read-fits : (b : List ℕ) (h : Host) → (eqb (length b) HOST-SIZE && flagsFit b) ≡ true → h ≡ hostIn b → h ≡ readHost b
 unfolding readHost
 read-fits b h t e = rw t e
 
-pub read-lost : (b : List ℕ) (h : Host) → (eqb (length b) HOST-SIZE && flagsFit b) ≡ false → h ≡ refusedHost → h ≡ readHost b
+pub read-refused : (b : List ℕ) (h : Host) → (eqb (length b) HOST-SIZE && flagsFit b) ≡ false → h ≡ refusedHost → h ≡ readHost b
 unfolding readHost
-read-lost b h t e = rw t e
+read-refused b h t e = rw t e

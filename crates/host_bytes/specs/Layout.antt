@@ -8,6 +8,7 @@ use lib.ListN.{length, getD, take, drop}
 use Rattle.wire.specs.Bytes.{number, bytesOf, bytesAt}
 use Rattle.wire_offer.specs.Offer.{blankOffer}
 use Rattle.bundle_layout.specs.Layout.{OFFER-LIMIT}
+use Rattle.bundle_layout.specs.Rows.{LAST-ROW}
 use Rattle.bundle_layout.specs.Rows as bundle
 use Rattle.bundle_layout.specs.declared.Entry.{Entry}
 use Rattle.bundle.specs.Contents.{Contents}
@@ -24,6 +25,15 @@ use Rattle.host_packet.specs.Made.{InnerStep}
 use Rattle.host.specs.Inner.{cursorAt}
 use Rattle.host_bytes.specs.declared.stage.StageWords.{StageWords}
 
+-- the size of a word
+abbrev pub WORD-SIZE : ℕ
+WORD-SIZE = 4
+
+-- words one after the other
+unfoldable pub wordsBytes : List ℕ → List ℕ
+wordsBytes [] = []
+wordsBytes (v ∷ vs) = bytesOf 4 v ++ wordsBytes vs
+
 -- where the fields of a record stand, and its length
 abbrev pub TOKEN-AT : ℕ
 TOKEN-AT = 0
@@ -35,22 +45,19 @@ abbrev pub FIRST-AT : ℕ
 FIRST-AT = STAGE-START + 1
 
 abbrev pub SECOND-AT : ℕ
-SECOND-AT = FIRST-AT + 4
-
-abbrev pub STAGE-SIZE : ℕ
-STAGE-SIZE = 9
+SECOND-AT = FIRST-AT + WORD-SIZE
 
 abbrev pub MASK-AT : ℕ
-MASK-AT = STAGE-START + STAGE-SIZE
+MASK-AT = SECOND-AT + WORD-SIZE
 
 abbrev pub PACKETS-AT : ℕ
-PACKETS-AT = MASK-AT + 4
+PACKETS-AT = MASK-AT + WORD-SIZE
 
 abbrev pub PASSES-AT : ℕ
-PASSES-AT = PACKETS-AT + 4
+PASSES-AT = PACKETS-AT + WORD-SIZE
 
 abbrev pub SKIPPED-AT : ℕ
-SKIPPED-AT = PASSES-AT + 4
+SKIPPED-AT = PASSES-AT + WORD-SIZE
 
 abbrev pub LANDED-AT : ℕ
 LANDED-AT = SKIPPED-AT + 1
@@ -120,7 +127,7 @@ hostIn b = record {
   landed = eqb (getD b LANDED-AT 0) 1;
 }
 
--- each flag is one that a record has: the stage, the number of an end where the stage is one, and the two booleans
+-- each number is one that a record has: the stage's, the end's where the host has ended, and the two booleans
 abbrev pub areFlags : (stage end skipped landed : ℕ) → Bool
 areFlags stage end skipped landed = leb stage 7 && ((not (eqb stage 7) || leb end 4) && (leb skipped 1 && leb landed 1))
 
@@ -149,17 +156,27 @@ COUNT-AT = ENTRY-AT + 1
 abbrev pub BODIES-START : ℕ
 BODIES-START = COUNT-AT + 1
 
+-- where the length and the number of records of a body stand in its part, and the length of that part
+abbrev pub LENGTH-IN : ℕ
+LENGTH-IN = WORD-SIZE
+
+abbrev pub RECORDS-IN : ℕ
+RECORDS-IN = LENGTH-IN + WORD-SIZE
+
 abbrev pub BODY-SIZE : ℕ
-BODY-SIZE = 12
+BODY-SIZE = RECORDS-IN + WORD-SIZE
 
 abbrev pub HAND-START : ℕ
 HAND-START = BODIES-START + OFFER-LIMIT * BODY-SIZE
 
+abbrev pub BLOCK-AT : ℕ
+BLOCK-AT = HAND-START + WORD-SIZE
+
 abbrev pub CURSOR-START : ℕ
-CURSOR-START = HAND-START + 8
+CURSOR-START = BLOCK-AT + WORD-SIZE
 
 abbrev pub CONTENTS-SIZE : ℕ
-CONTENTS-SIZE = CURSOR-START + 8
+CONTENTS-SIZE = CURSOR-START + 2 * WORD-SIZE
 
 abbrev pub rowBytes : bundle.Row → List ℕ
 rowBytes bundle.served = 0 ∷ 0 ∷ []
@@ -187,7 +204,7 @@ abbrev pub rowIn : List ℕ → bundle.Row
 rowIn q = bundle.rowAt (getD q ROW-AT 0) (getD q ENTRY-AT 0)
 
 abbrev pub bodyIn : List ℕ → Entry
-bodyIn q = record { offer = blankOffer; offset = number (bytesAt 4 0 q); length = number (bytesAt 4 4 q); records = number (bytesAt 4 8 q) }
+bodyIn q = record { offer = blankOffer; offset = number (bytesAt 4 0 q); length = number (bytesAt 4 LENGTH-IN q); records = number (bytesAt 4 RECORDS-IN q) }
 
 unfoldable pub bodiesIn : ℕ → List ℕ → List Entry
 bodiesIn zero q = []
@@ -196,24 +213,24 @@ bodiesIn (suc n) q = bodyIn q ∷ bodiesIn n (drop BODY-SIZE q)
 unfoldable pub contentsIn : List ℕ → Contents
 contentsIn q = record { row = rowIn q; place = getD q ENTRY-AT 0; count = getD q COUNT-AT 0; table = bodiesIn OFFER-LIMIT (drop BODIES-START q) }
 
--- the body of an entry of these; past the most offers it is empty, and so in bytes that are no contents
+-- the body of an entry of these; past the most offers it is empty, and so in bytes of another length than contents have
 unfoldable pub bodyRead : List ℕ → ℕ → Body
 bodyRead q i = cond (eqb (length q) CONTENTS-SIZE && ltb i OFFER-LIMIT) (bodyOf (contentsIn q) i) (record { start = 0; end = 0; records = 0 })
 
 abbrev pub placeIn : List ℕ → Place
-placeIn q = record { entry = number (bytesAt 4 HAND-START q); block = number (bytesAt 4 (HAND-START + 4) q) }
+placeIn q = record { entry = number (bytesAt 4 HAND-START q); block = number (bytesAt 4 BLOCK-AT q) }
 
 abbrev pub cursorIn : List ℕ → ℕ
 cursorIn q = number (bytesAt 8 CURSOR-START q)
 
 -- the number of a row of the check, and 0 for none; and how many offers an accepted bundle may have
 abbrev pub isRow : ℕ → Bool
-isRow k = leb k 8
+isRow k = leb k LAST-ROW
 
 abbrev pub isCount : ℕ → Bool
 isCount n = leb 1 n && leb n OFFER-LIMIT
 
--- bytes that a check may have left: of the one length, with a row of the check, and 1 to OFFER-LIMIT offers where none refuses
+-- what is judged of bytes as contents: their length, that the row is one of the check's, and that there are 1 to OFFER-LIMIT offers where no row refuses
 abbrev pub areContents : List ℕ → Bool
 areContents q =
     eqb (length q) CONTENTS-SIZE && (isRow (getD q ROW-AT 0) && (not (eqb (getD q ROW-AT 0) 0) || isCount (getD q COUNT-AT 0)))

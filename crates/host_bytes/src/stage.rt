@@ -1,51 +1,20 @@
 // What the host awaits as a number and two words, zero where the stage has none: the entry and its BUSY replies, the entry and the block, or the end.
 ghost use mathlib.Core.Path.{_≡_};
-ghost use Rattle.host_bytes.specs.Layout.{endWords, stageWords, endIn, stageIn};
+ghost use Rattle.host_bytes.specs.Layout.{stageWords, endIn, stageIn};
 use host_record::record::End;
 use host_record::record::HostStage;
 use host_record::record::Place;
 use host_record::record::Turn;
 
-// The number of the stage in which the reply to a block is awaited.
+// The numbers of two stages: the reply to a block is awaited; the host has ended.
 pub(crate) const SENDING: u8 = 5;
+
+pub const ENDED: u8 = 7;
 
 pub(crate) struct StageWords {
     pub number: u8,
     pub first: u32,
     pub second: u32,
-}
-
-// The stage of an end, its number, and the content status of H1.
-fn end_words(e: End) -> StageWords
-    ensures { λ r. ⌜ r ≡ endWords e ⌝ }
-{
-    match e {
-        End::Done => StageWords {
-            number: 7,
-            first: 0,
-            second: 0,
-        },
-        End::Status(s) => StageWords {
-            number: 7,
-            first: 1,
-            second: s as u32,
-        },
-        End::Foreign => StageWords {
-            number: 7,
-            first: 2,
-            second: 0,
-        },
-        End::Unexpected => StageWords {
-            number: 7,
-            first: 3,
-            second: 0,
-        },
-        End::Busy => StageWords {
-            number: 7,
-            first: 4,
-            second: 0,
-        },
-    }
 }
 
 pub(crate) fn stage_words(stage: HostStage) -> StageWords
@@ -87,7 +56,11 @@ pub(crate) fn stage_words(stage: HostStage) -> StageWords
             first: 0,
             second: 0,
         },
-        HostStage::Ended(e) => end_words(e),
+        HostStage::Ended(e) => StageWords {
+            number: ENDED,
+            first: e.number() as u32,
+            second: e.status() as u32,
+        },
     }
 }
 

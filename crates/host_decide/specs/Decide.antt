@@ -6,10 +6,10 @@ use mathlib.Core.Bool.{Bool, true, false, not, cond, _&&_, _||_}
 use mathlib.Core.List.{List}
 use lib.Dec.{ltb, eqb}
 use lib.ListN.{length}
-use Rattle.wire.specs.Codes.{INFO-START-ENTIRE-TRANSACTION, INFO-START-OFFER-LIST, INFO-END-OFFER-LIST, OFFER-SKIP, SUCCESS}
+use Rattle.wire.specs.Codes.{INFO-START-ENTIRE-TRANSACTION, INFO-START-OFFER-LIST, INFO-END-OFFER-LIST, OFFER-SKIP, SUCCESS, SHORT-SIZE}
 use Rattle.wire_offer.specs.Reply as offerReply
 use Rattle.wire_content.specs.Reply as contentReply
-use Rattle.host_table.specs.Table.{LIST, OFFER, SEND, NEXT, WAIT, SAME, DECIDE, cell}
+use Rattle.host_table.specs.Table.{LIST, OFFER, SEND, NEXT-OFFER, WAIT, SAME, DECIDE, OPENING, LISTING, OFFERING, WAITING, CLOSING, cell}
 use Rattle.host_record.specs.declared.record.Host.{Host}
 use Rattle.host_record.specs.declared.record.Turn.{Turn}
 use Rattle.host_record.specs.declared.record.Place.{Place}
@@ -110,7 +110,7 @@ act code n t status h =
     cond (eqb code LIST) (list h)
     (cond (eqb code OFFER) (offerFrom n 0 h)
     (cond (eqb code SEND) (sends h (Sending (record { entry = t .entry; block = 0 })) (Block (record { entry = t .entry; block = 0 })))
-    (cond (eqb code NEXT) (offerFrom n (t .entry + 1) (noted h status))
+    (cond (eqb code NEXT-OFFER) (offerFrom n (t .entry + 1) (noted h status))
     (cond (eqb code WAIT) (cond (ltb (t .busy) BUSY-LIMIT) (sends h (Waiting (record { entry = t .entry; busy = t .busy + 1 })) Notify) (ends h Busy))
     (cond (eqb code SAME) (sends h (Offering t) (Offer (t .entry)))
     (cond (eqb code DECIDE) (cond (replays n h) (list h) (ends h Done))
@@ -122,7 +122,7 @@ noTurn = record { entry = 0; busy = 0 }
 
 -- H2 for a reply of the offer kinds: not 16 bytes, or not our token
 abbrev pub foreignOffer : Host → List ℕ → Bool
-foreignOffer h reply = not (eqb (length reply) 16) || not (eqb (offerReply.replyIn reply .token) (h .token))
+foreignOffer h reply = not (eqb (length reply) SHORT-SIZE) || not (eqb (offerReply.replyIn reply .token) (h .token))
 
 -- on a reply of the offer kinds: H2 first, then the table
 unfoldable pub hears : (row n : ℕ) → Turn → Host → (reply : List ℕ) → Move
@@ -132,7 +132,7 @@ hears row n t h reply =
 
 -- H2 for a reply to a block: not 16 bytes, or not our sequence
 abbrev pub foreignContent : Place → List ℕ → Bool
-foreignContent p reply = not (eqb (length reply) 16) || not (eqb (contentReply.replyIn reply .sequence) (sequenceOf (p .block)))
+foreignContent p reply = not (eqb (length reply) SHORT-SIZE) || not (eqb (contentReply.replyIn reply .sequence) (sequenceOf (p .block)))
 
 -- after a block is taken: the next one, or the offer is completed and the next offer is due
 abbrev pub goesOn : (n : ℕ) → Bool → Place → Host → Move
@@ -149,12 +149,12 @@ hearsBlock n last p h reply =
 -- what the host does, by its stage; a fresh host and an ended one await no reply
 unfoldable pub decideIn : HostStage → (n : ℕ) → (last : Bool) → Host → (reply : List ℕ) → Move
 decideIn Fresh n last h reply = sends h Opening (Information INFO-START-ENTIRE-TRANSACTION)
-decideIn Opening n last h reply = hears 0 n noTurn h reply
-decideIn Listing n last h reply = hears 1 n noTurn h reply
-decideIn (Offering t) n last h reply = hears 2 n t h reply
-decideIn (Waiting t) n last h reply = hears 3 n t h reply
+decideIn Opening n last h reply = hears OPENING n noTurn h reply
+decideIn Listing n last h reply = hears LISTING n noTurn h reply
+decideIn (Offering t) n last h reply = hears OFFERING n t h reply
+decideIn (Waiting t) n last h reply = hears WAITING n t h reply
 decideIn (Sending p) n last h reply = hearsBlock n last p h reply
-decideIn Closing n last h reply = hears 4 n noTurn h reply
+decideIn Closing n last h reply = hears CLOSING n noTurn h reply
 decideIn (Ended e) n last h reply = record { action = Nothing; host = h }
 
 abbrev pub decideOf : (n : ℕ) → (last : Bool) → Host → (reply : List ℕ) → Move

@@ -4,7 +4,7 @@ ghost use mathlib.Core.Path.{_≡_};
 ghost use Prim.Native.Nat.{_<_};
 ghost use Rattle.host_record.specs.Record.{withBit};
 ghost use Rattle.host_decide.specs.Decide as decided;
-ghost use Rattle.host_record.specs.Room.{Spare, RoomIn, Room};
+ghost use Rattle.host_record.specs.Spare.{Spare, SpareIn, SpareCounts};
 use crate::Action;
 use crate::Move;
 use host_record::fits::BUSY_LIMIT;
@@ -16,11 +16,12 @@ use host_record::record::Turn;
 use host_record::record::sequence;
 use host_table::code_for;
 use wire::codes;
+use wire::codes::SHORT_SIZE;
 use wire_content::reply::read_content_reply;
 use wire_offer::reply::read_offer_reply;
 
 // The length of a reply.
-const REPLY: usize = 16;
+const REPLY: usize = SHORT_SIZE;
 
 // A packet is sent, and its reply awaited.
 fn sends(h: Host, stage: HostStage, action: Action) -> Move
@@ -61,7 +62,7 @@ fn ends(h: Host, e: End) -> Move
 
 // Code 1 opens a pass.
 fn list(h: Host) -> Move
-    requires { ⌜ Room h ⌝ }
+    requires { ⌜ SpareCounts h ⌝ }
     ensures { λ r. ⌜ r ≡ decided.list h ⌝ }
 {
     let mut opened = h;
@@ -140,7 +141,7 @@ fn replays(n: u32, h: Host) -> bool
 
 // What a step code does, with the offer in hand and the status of its reply.
 fn act(code: u8, n: u32, t: Turn, status: u8, h: Host) -> Move
-    requires { ⌜ Room h × Spare (t .entry) ⌝ }
+    requires { ⌜ SpareCounts h × Spare (t .entry) ⌝ }
     ensures { λ r. ⌜ r ≡ decided.act code n t status h ⌝ }
 {
     match code {
@@ -182,7 +183,7 @@ fn act(code: u8, n: u32, t: Turn, status: u8, h: Host) -> Move
 
 // On a reply of the offer kinds: H2 first, then the table.
 fn hears(row: usize, n: u32, t: Turn, h: Host, reply: &[u8]) -> Move
-    requires { ⌜ Room h × Spare (t .entry) ⌝ }
+    requires { ⌜ SpareCounts h × Spare (t .entry) ⌝ }
     ensures { λ r. ⌜ r ≡ decided.hears row n t h (now (reply .entry)) ⌝ }
 {
     if reply.len() != REPLY {
@@ -199,7 +200,7 @@ fn hears(row: usize, n: u32, t: Turn, h: Host, reply: &[u8]) -> Move
 
 // After a block is taken: the next one, or the offer is completed and the next offer is due.
 fn goes_on(n: u32, last: bool, p: Place, h: Host) -> Move
-    requires { ⌜ Room h × (p .entry < 32) × Spare (p .block) ⌝ }
+    requires { ⌜ SpareCounts h × (p .entry < 32) × Spare (p .block) ⌝ }
     ensures { λ r. ⌜ r ≡ decided.goesOn n last p h ⌝ }
 {
     if last {
@@ -217,7 +218,7 @@ fn goes_on(n: u32, last: bool, p: Place, h: Host) -> Move
 
 // On a reply to a block: H2 first, then H1.
 fn hears_block(n: u32, last: bool, p: Place, h: Host, reply: &[u8]) -> Move
-    requires { ⌜ Room h × (p .entry < 32) × Spare (p .block) ⌝ }
+    requires { ⌜ SpareCounts h × (p .entry < 32) × Spare (p .block) ⌝ }
     ensures { λ r. ⌜ r ≡ decided.hearsBlock n last p h (now (reply .entry)) ⌝ }
 {
     if reply.len() != REPLY {
@@ -237,7 +238,7 @@ fn hears_block(n: u32, last: bool, p: Place, h: Host, reply: &[u8]) -> Move
 
 // What the host does, by its stage; a fresh host and an ended one await no reply.
 pub(crate) fn decide(h: Host, n: u32, last: bool, reply: &[u8]) -> Move
-    requires { ⌜ Room h × RoomIn (h .stage) ⌝ }
+    requires { ⌜ SpareCounts h × SpareIn (h .stage) ⌝ }
     ensures { λ r. ⌜ r ≡ decided.decideOf n last h (now (reply .entry)) ⌝ }
 {
     let stage = h.stage;

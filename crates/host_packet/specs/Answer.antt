@@ -3,6 +3,7 @@ use Prim.Native.Nat.{ℕ, _-_}
 use mathlib.Core.Bool.{Bool, true, false}
 use mathlib.Core.List.{List, [], _∷_, _++_}
 use lib.ListN.{length, take, replicate}
+use Rattle.wire.specs.Codes.{SHORT-SIZE}
 use Rattle.bundle_layout.specs.Rows as bundle
 use Rattle.host_record.specs.declared.record.Host.{Host}
 use Rattle.host_packet.specs.Packet.{PACKET-SIZE}
@@ -29,7 +30,7 @@ abbrev pub filled : List (List ℕ) → List ℕ
 filled [] = replicate PACKET-SIZE 0
 filled (p ∷ ps) = p ++ replicate (PACKET-SIZE - length p) 0
 
--- a refused step: its row, nothing sent, the record unchanged
+-- a refused step: its row, nothing sent, a packet of zeros, the record unchanged
 abbrev pub refusedBy : Row → Host → Step
 refusedBy row h = record { row = row; sent = []; packet = replicate PACKET-SIZE 0; host = h }
 
@@ -55,9 +56,15 @@ isRefused served = false
 isRefused (B k entry) = true
 isRefused (N k) = true
 
+-- how many bytes are sent
+abbrev pub sizeOf : Sent → ℕ
+sizeOf sent.Nothing = 0
+sizeOf sent.Offer = SHORT-SIZE
+sizeOf sent.Content = PACKET-SIZE
+
 abbrev pub sentBy : Sent → List ℕ → List (List ℕ)
 sentBy sent.Nothing packet = []
-sentBy sent.Offer packet = take 16 packet ∷ []
+sentBy sent.Offer packet = take SHORT-SIZE packet ∷ []
 sentBy sent.Content packet = packet ∷ []
 
 abbrev pub told : StepAnswer → Step

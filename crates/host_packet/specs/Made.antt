@@ -4,7 +4,7 @@ use mathlib.Core.Bool.{Bool, true, false, cond}
 use mathlib.Core.List.{List, [], _∷_}
 use lib.Dec.{leb, eqb}
 use lib.ListN.{length, set, take, drop}
-use Rattle.wire.specs.Codes.{NOTIFY-ON-READY}
+use Rattle.wire.specs.Codes.{NOTIFY-ON-READY, SHORT-SIZE}
 use Rattle.wire_offer.specs.Signal.{informationBytes, extendedBytes}
 use Rattle.bundle_records.specs.Walk.{nextOf}
 use Rattle.bundle_records.specs.declared.Next.{Next}
@@ -43,7 +43,7 @@ lacking cursor = record { served = false; sent = []; packet = filled []; cursor 
 -- the offer of an entry with our token; where the bytes do not have it, N1
 abbrev pub laidOffer : (b : List ℕ) → (cursor token entry : ℕ) → Laid
 laidOffer b cursor token entry =
-    cond (leb (tableEnd (entry + 1)) (length b)) (sending (set (take 16 (drop (tableEnd entry) b)) 3 token) cursor) (lacking cursor)
+    cond (leb (tableEnd (entry + 1)) (length b)) (sending (set (take SHORT-SIZE (drop (tableEnd entry) b)) 3 token) cursor) (lacking cursor)
 
 -- where the record of a block starts: at the body's start, or at the cursor
 abbrev pub recordStart : Body → (cursor block : ℕ) → ℕ
@@ -67,7 +67,7 @@ laidOf b body cursor token action.Notify = sending (extendedBytes (record { code
 laidOf b body cursor token (action.Offer entry) = laidOffer b cursor token entry
 laidOf b body cursor token (action.Block p) = laidBlock b body cursor p
 
--- .. written into lent bytes; where these are not PACKET-SIZE, nothing is written and nothing sent
+-- the same, written into lent bytes; where these are not PACKET-SIZE, nothing is written, nothing is sent, and it is not served
 unfoldable pub writtenOf : (packet b : List ℕ) → Body → (cursor token : ℕ) → Action → Laid
 writtenOf packet b body cursor token action =
     cond (eqb (length packet) PACKET-SIZE) (laidOf b body cursor token action) (record { served = false; sent = []; packet = packet; cursor = cursor })
@@ -92,7 +92,7 @@ stepOfLaid l before after = record {
 abbrev pub madeOf : (b : List ℕ) → Body → (cursor : ℕ) → (before after : Host) → Action → InnerStep
 madeOf b body cursor before after action = stepOfLaid (laidOf b body cursor (after .token) action) before after
 
--- the same of the inner step
+-- an answer of the inner step and the lent bytes, in these terms
 abbrev pub toldInner : Stepped → (packet : List ℕ) → InnerStep
 toldInner a packet = record {
   step = record { row = rowOf (a .refusal); sent = sentBy (a .sent) packet; packet = packet; host = a .host };

@@ -4,14 +4,14 @@ use mathlib.Core.Bool.{Bool, cond}
 use mathlib.Core.List.{List, _++_}
 use lib.Dec.{eqb}
 use lib.ListN.{length, replicate}
-use Rattle.wire.specs.Codes.{FLAG-FIRST-BLOCK, FLAG-LAST-BLOCK}
+use Rattle.wire.specs.Codes.{FLAG-FIRST-BLOCK, FLAG-LAST-BLOCK, LONG-SIZE, DATA-SIZE}
 use Rattle.wire_content.specs.Content.{contentBytes}
 use Rattle.bundle_records.specs.Record.{Block}
 use Rattle.host_record.specs.Record.{sequenceOf}
 
 -- the bytes that are lent for a packet
 abbrev pub PACKET-SIZE : ℕ
-PACKET-SIZE = 60
+PACKET-SIZE = LONG-SIZE
 
 -- first and last flags as fit
 abbrev pub flagsOf : (first last : Bool) → ℕ
@@ -24,5 +24,5 @@ blockBytes k last r = contentBytes (record {
   length = length (r .bytes);
   sequence = sequenceOf k;
   address = r .address;
-  «data» = r .bytes ++ replicate (52 - length (r .bytes)) 0;
+  «data» = r .bytes ++ replicate (DATA-SIZE - length (r .bytes)) 0;
 })

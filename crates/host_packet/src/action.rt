@@ -2,6 +2,7 @@
 ghost use mathlib.Core.Path.{_≡_};
 ghost use mathlib.Core.List.{[]};
 ghost use lib.ListN.{length, replicate};
+ghost use Rattle.host_packet.specs.Packet.{PACKET-SIZE};
 ghost use Rattle.host_packet.specs.Made.{recordStart, laidOffer, laidBlock, laidOf, writtenOf, laidBy};
 use crate::answer::Sent;
 use crate::answer::Written;
@@ -32,7 +33,7 @@ fn none(packet: &mut [u8], served: bool, cursor: usize) -> Written
 
 // The offer of an entry; where the bytes do not have it, N1.
 fn written_offer(packet: &mut [u8], b: &[u8], cursor: usize, entry: u32, token: u8) -> Written
-    requires { ⌜ length (now packet) ≡ 60 ⌝ }
+    requires { ⌜ length (now packet) ≡ PACKET-SIZE ⌝ }
     ensures { λ r. ⌜ laidBy r (now (packet .exit)) ≡ laidOffer (now (b .entry)) cursor token entry ⌝ }
 {
     if (HEAD as u64) + (ENTRY as u64) * (entry as u64 + 1) <= b.len() as u64 {
@@ -56,7 +57,7 @@ fn start_of(body: Body, cursor: usize, k: u32) -> usize
 
 // The block of the record that stands at its start; where none stands there, N1.
 fn written_block(packet: &mut [u8], b: &[u8], body: Body, cursor: usize, p: Place) -> Written
-    requires { ⌜ length (now packet) ≡ 60 ⌝ }
+    requires { ⌜ length (now packet) ≡ PACKET-SIZE ⌝ }
     ensures { λ r. ⌜ laidBy r (now (packet .exit)) ≡ laidBlock (now (b .entry)) body cursor p ⌝ }
 {
     let at = start_of(body, cursor, p.block);
@@ -90,7 +91,7 @@ fn written_in(
     action: Action,
     token: u8,
 ) -> Written
-    requires { ⌜ length (now packet) ≡ 60 ⌝ }
+    requires { ⌜ length (now packet) ≡ PACKET-SIZE ⌝ }
     ensures { λ r. ⌜ laidBy r (now (packet .exit)) ≡ laidOf (now (b .entry)) body cursor token action ⌝ }
 {
     match action {

@@ -1,9 +1,10 @@
 // What a step of the host answers.
 ghost use mathlib.Core.Path.{_≡_};
-ghost use Rattle.host_packet.specs.Answer.{rowOf, numberOf, entryOf, isRefused};
+ghost use Rattle.host_packet.specs.Answer.{rowOf, numberOf, entryOf, isRefused, sizeOf};
 use crate::packet::PACKET_SIZE;
 use bundle_layout::BundleVerdict;
 use host_record::record::Host;
+use wire::codes::SHORT_SIZE;
 
 // Served, or the row that refuses the step.
 pub enum StepRefusal {
@@ -51,11 +52,24 @@ impl StepRefusal {
     }
 }
 
-// What is sent: nothing, the first 16 bytes of the packet, or all of it.
+// What is sent: nothing, the short packet at the start of the bytes, or all of them.
 pub enum Sent {
     Nothing,
     Offer,
     Content,
+}
+
+impl Sent {
+    // How many bytes are sent.
+    pub fn size(self) -> usize
+        ensures { λ r. ⌜ r ≡ sizeOf self ⌝ }
+    {
+        match self {
+            Sent::Nothing => 0,
+            Sent::Offer => SHORT_SIZE,
+            Sent::Content => PACKET_SIZE,
+        }
+    }
 }
 
 pub struct StepAnswer {

@@ -1,3 +1,3 @@
 pub mod Record
-pub mod Room
+pub mod Spare
 pub mod Fits

@@ -18,8 +18,8 @@ OFFER = 2
 abbrev pub SEND : ℕ
 SEND = 3
 
-abbrev pub NEXT : ℕ
-NEXT = 4
+abbrev pub NEXT-OFFER : ℕ
+NEXT-OFFER = 4
 
 abbrev pub WAIT : ℕ
 WAIT = 5
@@ -30,12 +30,28 @@ SAME = 6
 abbrev pub DECIDE : ℕ
 DECIDE = 7
 
+-- the rows of the table, by stage
+abbrev pub OPENING : ℕ
+OPENING = 0
+
+abbrev pub LISTING : ℕ
+LISTING = 1
+
+abbrev pub OFFERING : ℕ
+OFFERING = 2
+
+abbrev pub WAITING : ℕ
+WAITING = 3
+
+abbrev pub CLOSING : ℕ
+CLOSING = 4
+
 -- rows: opening, listing, offering, waiting, closing; columns: SKIP, ACCEPT, REJECT, BUSY, READY, any other status
 unfoldable pub table : List (List ℕ)
 table =
     (NONE ∷ LIST ∷ NONE ∷ NONE ∷ NONE ∷ NONE ∷ [])
     ∷ (NONE ∷ OFFER ∷ NONE ∷ NONE ∷ NONE ∷ NONE ∷ [])
-    ∷ (NEXT ∷ SEND ∷ NEXT ∷ WAIT ∷ NONE ∷ NONE ∷ [])
+    ∷ (NEXT-OFFER ∷ SEND ∷ NEXT-OFFER ∷ WAIT ∷ NONE ∷ NONE ∷ [])
     ∷ (NONE ∷ NONE ∷ NONE ∷ NONE ∷ SAME ∷ NONE ∷ [])
     ∷ (NONE ∷ DECIDE ∷ NONE ∷ NONE ∷ NONE ∷ NONE ∷ [])
     ∷ []

@@ -31,7 +31,7 @@ pub const WAITING: usize = 3;
 pub const CLOSING: usize = 4;
 
 // The columns: SKIP, ACCEPT, REJECT, BUSY, READY, any other status.
-const NEXT: [[u8; 6]; 5] = [
+const TABLE: [[u8; 6]; 5] = [
     [NONE, LIST, NONE, NONE, NONE, NONE],
     [NONE, OFFER, NONE, NONE, NONE, NONE],
     [NEXT_OFFER, SEND, NEXT_OFFER, WAIT, NONE, NONE],
@@ -52,7 +52,7 @@ pub fn code_for(row: usize, status: u8) -> u8
 {
     if row < 5 {
         let column = class(status);
-        NEXT[row][column]
+        TABLE[row][column]
     } else {
         NONE
     }

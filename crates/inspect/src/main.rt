@@ -4,8 +4,8 @@ use bundle_layout::limits::OFFER_LIMIT;
 use bundle_report::check_input;
 use bundle_report::line_of;
 use libc::STDIN_FILENO;
+use run_print::form::form;
 use run_print::number;
-use run_print::rows;
 use run_print::text;
 
 fn print_entry(e: Entry) {
@@ -44,7 +44,6 @@ fn main() {
         text(b"\n");
         print_entries(table, c.count);
     } else {
-        rows::refused(row, c.place);
-        text(b"\n");
+        form(b"refused B%1 %1\n", &[row, c.place]);
     }
 }

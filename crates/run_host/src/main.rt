@@ -1,78 +1,61 @@
-// Runs a script of frames (tests/host/README.md) against the host end: a line for each record that is set and for each step.
+// Runs a script of frames (tests/host/README.md) against the host end: a line for each record that is set and for each step. The host's record is kept as
+// its bytes.
 use host::step::step;
+use host_bytes::HOST_SIZE;
+use host_bytes::host_bytes;
+use host_bytes::read_host;
 use host_record::record::Host;
-use run_print::text;
-use run_script::script::FRAMES;
-use run_script::script::Frame;
-use run_script::script::next;
+use run_print::first;
+use run_print::script::FRAMES;
+use run_print::script::Frame;
+use run_print::script::PAYLOAD_SIZE;
+use run_print::script::next;
 use wire::words::byte_at;
 use wire::words::copy;
 
-mod frame; // frame.rt: a record in the payload of a frame
 mod told; // told.rt: what is printed of a step and of a record
 
-// What a script runs against, beside the buffer: the record, and how many bytes of the buffer are the bundle.
-struct Bench {
-    host: Host,
-    len: usize,
-}
-
-// The record becomes this one.
-fn set(host: Host) -> Host {
-    told::record(host);
-    host
-}
-
-// A reply: one step.
 fn run_step(h: Host, bundle: &[u8], reply: &[u8]) -> Host {
     let a = step(h, bundle, reply);
     told::step(a);
-    set(a.host)
+    a.host
 }
 
-// A frame that keeps the bundle.
-fn run_kept(host: Host, kind: u8, bundle: &[u8], p: &[u8]) -> Host {
-    if kind == b'#' {
-        text(p);
-        text(b"\n");
-        return host;
-    }
-    if kind == b'F' {
-        return set(Host::fresh(byte_at(p, 0)));
-    }
-    if kind == b'K' {
-        return set(frame::record(p));
-    }
-    run_step(host, bundle, p)
+// A frame that leaves a record.
+fn run_kept(record: &mut [u8], kind: u8, p: &[u8], bundle: &[u8]) {
+    let h = match kind {
+        b'F' => Host::fresh(byte_at(p, 0)),
+        b'K' => read_host(p),
+        _ => run_step(read_host(record), bundle, p),
+    };
+    copy(record, &host_bytes(h));
+    told::record(record);
 }
 
-// A frame, with its payload at the start of the bytes that were read. The payload of `B` becomes the bundle.
-fn run_frame(b: Bench, f: Frame, read: &[u8], buffer: &mut [u8]) -> Bench {
-    let host = b.host;
+// A frame, with its payload at the start of the bytes that were read. The payload of `B` becomes the bundle; gives the bundle's length.
+fn run_frame(record: &mut [u8], f: Frame, read: &[u8], bundle: &mut [u8], len: usize) -> usize {
     if f.kind == b'B' {
-        copy(buffer, read);
-        return Bench { host, len: f.len };
+        copy(bundle, read);
+        return f.len;
     }
-    let bundle = run_print::first(buffer, b.len);
-    let next = run_kept(host, f.kind, bundle, run_print::first(read, f.len));
-    Bench {
-        host: next,
-        len: b.len,
+    if f.kind != b'#' {
+        run_kept(record, f.kind, first(read, f.len), first(bundle, len));
     }
+    len
 }
 
 fn main() {
-    let mut buffer = [0u8; 2048];
-    let host = Host::fresh(0);
-    let mut bench = Bench { host, len: 0 };
+    let mut record = [0u8; HOST_SIZE];
+    let mut bundle = [0u8; PAYLOAD_SIZE];
+    let mut len = 0;
     let mut k: u32 = 0;
     while k < FRAMES {
-        let mut payload = [0u8; 2048];
-        let f = next(&mut payload, 3);
+        let mut payload = [0u8; PAYLOAD_SIZE];
+        let f = next(&mut payload);
         if !f.whole {
             return;
         }
-        bench = run_frame(bench, f, &payload, &mut buffer);
+        len = run_frame(&mut record, f, &payload, &mut bundle, len);
         k += 1;
     }
 }

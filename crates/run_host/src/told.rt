@@ -1,32 +1,31 @@
 // What is printed of a step and of a record.
-use host_packet::answer::Sent;
+use host_bytes::FIRST_AT;
+use host_bytes::LANDED_AT;
+use host_bytes::MASK_AT;
+use host_bytes::PACKETS_AT;
+use host_bytes::PASSES_AT;
+use host_bytes::SECOND_AT;
+use host_bytes::SKIPPED_AT;
+use host_bytes::STAGE_START;
+use host_bytes::TOKEN_AT;
+use host_bytes::stage::ENDED;
 use host_packet::answer::StepAnswer;
 use host_packet::answer::StepRefusal;
-use host_record::record::Host;
-use host_record::record::HostStage;
-use run_print::number;
-use run_print::rows;
+use run_print::first;
+use run_print::form::form;
+use run_print::form::pick;
+use run_print::rest;
 use run_print::text;
-
-fn numbers(name: &[u8], a: u32, other: &[u8], b: u32) {
-    number(name, a);
-    number(other, b);
-}
+use wire::words::byte_at;
 
 fn refusal(r: StepRefusal) {
     match r {
         StepRefusal::Served => {}
         StepRefusal::Bundle { verdict, place } => {
-            rows::refused(verdict.number(), place);
-            text(b", ");
+            form(b"refused B%1 %1, ", &[verdict.number(), place]);
         }
         StepRefusal::N1 => text(b"refused N1, "),
     }
-}
-
-fn bytes(p: &[u8]) {
-    text(b"sent ");
-    run_print::bytes(p);
 }
 
 // The words before the record that a step leaves.
@@ -35,44 +34,29 @@ pub fn step(a: StepAnswer) {
     let sent = a.sent;
     let packet = a.packet;
     refusal(r);
-    match sent {
-        Sent::Nothing => text(b"nothing"),
-        Sent::Offer => bytes(run_print::first(&packet, 16)),
-        Sent::Content => bytes(&packet),
-    }
-    text(b"; ");
+    let n = sent.size();
+    pick(b"nothing; |sent %*; ", (0 < n) as u8, first(&packet, n));
 }
 
-fn stage(s: HostStage) {
-    match s {
-        HostStage::Fresh => text(b"fresh"),
-        HostStage::Opening => text(b"opening"),
-        HostStage::Listing => text(b"listing"),
-        HostStage::Offering(t) => numbers(b"offering ", t.entry, b" busy ", t.busy),
-        HostStage::Waiting(t) => numbers(b"waiting ", t.entry, b" busy ", t.busy),
-        HostStage::Sending(p) => numbers(b"sending ", p.entry, b" block ", p.block),
-        HostStage::Closing => text(b"closing"),
-        HostStage::Ended(e) => rows::end(e.number(), e.status()),
+// The bytes of a record: stage or end with its two numbers, token, mask, packets, passes, and whether this pass had a SKIP and a completed image.
+pub fn record(b: &[u8]) {
+    let stage = byte_at(b, STAGE_START);
+    let first = rest(b, FIRST_AT as usize);
+    let second = rest(b, SECOND_AT as usize);
+    if stage == ENDED {
+        pick(b"done|H1 status %4|H2|H3|H4", byte_at(first, 0), second);
+    } else {
+        pick(
+            b"fresh|opening|listing|offering %4|waiting %4|sending %4|closing",
+            stage,
+            first,
+        );
+        pick(b"||| busy %4| busy %4| block %4|", stage, second);
     }
-}
-
-fn flags(skipped: bool, landed: bool) {
-    if skipped {
-        text(b", skipped");
-    }
-    if landed {
-        text(b", landed");
-    }
-}
-
-pub fn record(h: Host) {
-    let s = h.stage;
-    stage(s);
-    text(b", token ");
-    run_print::byte(h.token);
-    text(b", mask ");
-    run_print::hex(h.mask as u64, 8);
-    numbers(b", packets ", h.packets, b", passes ", h.passes);
-    flags(h.skipped, h.landed);
-    text(b"\n");
+    form(b", token %a", rest(b, TOKEN_AT));
+    form(b", mask %d", rest(b, MASK_AT as usize));
+    form(b", packets %4", rest(b, PACKETS_AT as usize));
+    form(b", passes %4", rest(b, PASSES_AT as usize));
+    form(b"{|, skipped}", rest(b, SKIPPED_AT));
+    form(b"{|, landed}\n", rest(b, LANDED_AT));
 }

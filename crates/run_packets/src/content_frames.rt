@@ -2,6 +2,8 @@
 use run_print::line;
 use run_print::names;
 use wire::address::RegionAddress;
+use wire::codes::DATA_AT;
+use wire::codes::DATA_SIZE;
 use wire::words;
 use wire::words::byte_at;
 use wire::words::word16_at;
@@ -21,8 +23,8 @@ fn fields(c: ContentFields) {
 }
 
 pub fn build(p: &[u8]) {
-    let mut data = [0u8; 52];
-    words::copy(&mut data, run_print::part(p, 8, 52));
+    let mut data = [0u8; DATA_SIZE];
+    words::copy(&mut data, run_print::part(p, DATA_AT, DATA_SIZE));
     let c = ContentFields {
         flags: byte_at(p, 0),
         length: byte_at(p, 1),

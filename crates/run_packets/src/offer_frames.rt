@@ -13,7 +13,7 @@ use wire_offer::reply::OfferReply;
 use wire_offer::signal::Signal;
 
 // The fields, behind a word.
-fn fields(k: usize, o: OfferFields) {
+fn fields(k: u8, o: OfferFields) {
     line::word(k);
     line::hex8(names::SEGMENT, o.segment);
     line::decimal8(names::I, o.force_immediate_reset as u8);
@@ -49,7 +49,7 @@ pub fn build(p: &[u8]) {
 }
 
 // The code and the token, behind a word.
-fn signal(k: usize, s: Signal) {
+fn signal(k: u8, s: Signal) {
     line::word(k);
     line::hex8(names::CODE, s.code);
     line::hex8(names::TOKEN, s.token);

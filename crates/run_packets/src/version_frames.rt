@@ -1,60 +1,47 @@
-// The version reply. To build: count, protocol, and for each of the seven components version (4), id, platform (2).
+// The version reply. To build: count, protocol, and for each component version (4), id, platform (2), as C lends them.
+use c_version::ID_AT;
+use c_version::PLATFORM_AT;
+use c_version::RUNNING_SIZE;
+use c_version::components_bytes;
+use c_version::read_components;
+use run_print::form::form;
 use run_print::line;
-use run_print::names;
+use run_print::rest;
+use std::num::wrapping_add_usize;
 use wire::codes::COMPONENT_LIMIT;
-use wire::version::Version;
 use wire::words::byte_at;
-use wire::words::word16_at;
-use wire_version::Running;
 use wire_version::VersionReply;
 
-fn component(es: [Running; COMPONENT_LIMIT], i: usize) {
-    if i < COMPONENT_LIMIT {
-        let e = es[i];
-        line::hex8(names::COMPONENT, e.id);
-        let version = e.version;
-        line::version(names::VERSION, version);
-        line::hex16(names::PLATFORM, e.platform);
-    }
+fn head(s: &[u8]) {
+    form(b" count %1 protocol %1", s);
 }
 
-fn fields(r: VersionReply) {
-    let es = r.components;
-    line::decimal8(names::COUNT, r.count);
-    line::decimal8(names::PROTOCOL, r.protocol);
-    component(es, 0);
-    component(es, 1);
-    component(es, 2);
-    component(es, 3);
-    component(es, 4);
-    component(es, 5);
-    component(es, 6);
+fn component(s: &[u8]) {
+    form(b"; version %v id ", s);
+    form(b"%a platform ", rest(s, ID_AT));
+    form(b"%b", rest(s, PLATFORM_AT as usize));
 }
 
-fn component_in(p: &[u8], at: u8) -> Running {
-    Running {
-        version: Version::read_at(p, at as u16),
-        id: byte_at(p, at as usize + 4),
-        platform: word16_at(p, at as u16 + 5),
+fn components(s: &[u8]) {
+    let mut at = 0;
+    let mut i = 0;
+    while i < COMPONENT_LIMIT {
+        component(rest(s, at));
+        at = wrapping_add_usize(at, RUNNING_SIZE);
+        i += 1;
     }
 }
 
 pub fn build(p: &[u8]) {
-    let es = [
-        component_in(p, 2),
-        component_in(p, 9),
-        component_in(p, 16),
-        component_in(p, 23),
-        component_in(p, 30),
-        component_in(p, 37),
-        component_in(p, 44),
-    ];
+    head(p);
+    let q = rest(p, 2);
+    components(q);
+    let es = read_components(q);
     let r = VersionReply {
         count: byte_at(p, 0),
         protocol: byte_at(p, 1),
         components: es,
     };
-    fields(r);
     let b = wire_version::build_version_reply(r);
     let verdict = b.verdict;
     let packet = b.packet;
@@ -67,5 +54,7 @@ pub fn read(p: &[u8]) {
     let verdict = r.verdict;
     line::gives(verdict);
     let told = r.reply;
-    fields(told);
+    let es = told.components;
+    head(&[told.count, told.protocol]);
+    components(&components_bytes(es));
 }

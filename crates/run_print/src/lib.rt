@@ -1,7 +1,8 @@
-// What the programs print lines with: words, numbers, bytes, versions. Nothing here decides anything.
+// What the programs read scripts and print lines with: frames, words, numbers, bytes, versions. Nothing here decides anything.
 pub mod names; // names.rt: the words of a line, by number
 pub mod line; // line.rt: words and numbers behind them
-pub mod rows; // rows.rt: the row of a bundle, and how a host's session ends
+pub mod form; // form.rt: texts with places for bytes
+pub mod script; // script.rt: the frames of a script
 
 use libc::STDOUT_FILENO;
 use wire::version::Version;
@@ -40,6 +41,12 @@ pub fn bytes(s: &[u8]) {
     }
 }
 
+// The bytes, and the end of the line.
+pub fn bytes_line(s: &[u8]) {
+    bytes(s);
+    text(b"\n");
+}
+
 // Major, minor and variant, in decimal.
 pub fn version(v: Version) {
     decimal(v.major() as u64);
@@ -54,11 +61,12 @@ pub fn first(s: &[u8], n: usize) -> &[u8] {
     if n <= s.len() { &s[..n] } else { &s[..0] }
 }
 
+// The bytes of a slice from a place on.
+pub fn rest(s: &[u8], at: usize) -> &[u8] {
+    if at <= s.len() { &s[at..] } else { &s[..0] }
+}
+
 // The n bytes of a slice from place `at`, and none where it has not so many.
 pub fn part(s: &[u8], at: usize, n: usize) -> &[u8] {
-    if at <= s.len() {
-        first(&s[at..], n)
-    } else {
-        first(s, 0)
-    }
+    first(rest(s, at), n)
 }

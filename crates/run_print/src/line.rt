@@ -1,55 +1,47 @@
 // What a line is made of: words by number, numbers behind a word, bytes, and the row of a verdict.
+use crate::form::pick;
 use crate::names;
+use wire::codes::SHORT_SIZE;
 use wire::verdict::Verdict;
 use wire::version::Version;
 
-// The part of a text behind its first k bars, up to the next one.
-fn part(s: &[u8], k: usize) {
-    let mut bars: usize = 0;
-    let mut i = 0;
-    while i < s.len() {
-        if s[i] == b'/' {
-            bars += 1;
-        } else if bars == k {
-            crate::text(&s[i..i + 1]);
-        }
-        i += 1;
-    }
-}
-
 // A word of names.rt: they stand here in the order of their numbers.
-pub fn word(k: usize) {
-    part(
-        b" / ->/ refused P1,/ refused P2,/ refused P1/ bad frame/\n\
-        / count / protocol / | id / version / platform \
-        / segment / I / V / id / token / need / least / offer/ information/ extended/ code / reason / status \
-        / flags / length / sequence / address / data/",
+pub fn word(k: u8) {
+    pick(
+        b" | ->| refused P1,| refused P2,| refused P1|\n|| segment | I | V | id | token | version | need | least | protocol | platform | offer| information\
+        | extended| code | reason | status | flags | length | sequence | address | data|, packets |, passes |, completed |, mask ",
         k,
+        b"",
     );
 }
 
-pub fn decimal8(k: usize, x: u8) {
+pub fn decimal8(k: u8, x: u8) {
     word(k);
     crate::decimal(x as u64);
 }
 
-pub fn hex8(k: usize, x: u8) {
+pub fn decimal32(k: u8, x: u32) {
+    word(k);
+    crate::decimal(x as u64);
+}
+
+pub fn hex8(k: u8, x: u8) {
     word(k);
     crate::byte(x);
 }
 
-pub fn hex16(k: usize, x: u16) {
+pub fn hex16(k: u8, x: u16) {
     word(k);
     crate::hex(x as u64, 4);
 }
 
 // A number of 24 or 32 bits.
-pub fn hex32(k: usize, x: u32, digits: usize) {
+pub fn hex32(k: u8, x: u32, digits: usize) {
     word(k);
     crate::hex(x as u64, digits);
 }
 
-pub fn version(k: usize, v: Version) {
+pub fn version(k: u8, v: Version) {
     word(k);
     crate::version(v);
 }
@@ -79,6 +71,6 @@ pub fn built(v: Verdict, p: &[u8]) {
 }
 
 // A packet of 16 bytes that is always built.
-pub fn packet(p: [u8; 16]) {
+pub fn packet(p: [u8; SHORT_SIZE]) {
     built(Verdict::Served, &p);
 }

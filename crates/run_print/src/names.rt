@@ -1,62 +1,64 @@
 // The words of a line, by number; line.rt has them.
-pub const SPACE: usize = 0;
+pub const SPACE: u8 = 0;
 
-pub const GIVES: usize = 1;
+pub const GIVES: u8 = 1;
 
-pub const REFUSED_P1: usize = 2;
+pub const REFUSED_P1: u8 = 2;
 
-pub const REFUSED_P2: usize = 3;
+pub const REFUSED_P2: u8 = 3;
 
-pub const NO_FIELDS: usize = 4;
+pub const NO_FIELDS: u8 = 4;
 
-pub const BAD_FRAME: usize = 5;
+pub const END: u8 = 5;
 
-pub const END: usize = 6;
+pub const NOTHING: u8 = 6;
 
-pub const COUNT: usize = 7;
+pub const SEGMENT: u8 = 7;
 
-pub const PROTOCOL: usize = 8;
+pub const I: u8 = 8;
 
-pub const COMPONENT: usize = 9;
+pub const V: u8 = 9;
 
-pub const VERSION: usize = 10;
+pub const ID: u8 = 10;
 
-pub const PLATFORM: usize = 11;
+pub const TOKEN: u8 = 11;
 
-pub const SEGMENT: usize = 12;
+pub const VERSION: u8 = 12;
 
-pub const I: usize = 13;
+pub const NEED: u8 = 13;
 
-pub const V: usize = 14;
+pub const LEAST: u8 = 14;
 
-pub const ID: usize = 15;
+pub const PROTOCOL: u8 = 15;
 
-pub const TOKEN: usize = 16;
+pub const PLATFORM: u8 = 16;
 
-pub const NEED: usize = 17;
+pub const OFFER: u8 = 17;
 
-pub const LEAST: usize = 18;
+pub const INFORMATION: u8 = 18;
 
-pub const OFFER: usize = 19;
+pub const EXTENDED: u8 = 19;
 
-pub const INFORMATION: usize = 20;
+pub const CODE: u8 = 20;
 
-pub const EXTENDED: usize = 21;
+pub const REASON: u8 = 21;
 
-pub const CODE: usize = 22;
+pub const STATUS: u8 = 22;
 
-pub const REASON: usize = 23;
+pub const FLAGS: u8 = 23;
 
-pub const STATUS: usize = 24;
+pub const LENGTH: u8 = 24;
 
-pub const FLAGS: usize = 25;
+pub const SEQUENCE: u8 = 25;
 
-pub const LENGTH: usize = 26;
+pub const ADDRESS: u8 = 26;
 
-pub const SEQUENCE: usize = 27;
+pub const DATA: u8 = 27;
 
-pub const ADDRESS: usize = 28;
+pub const PACKETS: u8 = 28;
 
-pub const DATA: usize = 29;
+pub const PASSES: u8 = 29;
 
-pub const NOTHING: usize = 30;
+pub const COMPLETED: u8 = 30;
+
+pub const MASK: u8 = 31;

@@ -2,149 +2,187 @@
 use device::answer::Answer;
 use device::answer::Refusal;
 use device::answer::ready_reply;
-use device::record::Device;
-use device_component::record::Component;
-use device_component::record::Staged;
+use device_bytes::COMPONENTS_START;
+use device_bytes::COUNT_AT;
+use device_bytes::PLATFORM_AT;
+use device_bytes::SESSION_START;
+use device_bytes::STAGING_LEN_AT;
 use device_component::setup::SetupVerdict;
+use device_component_bytes::COMPONENT_SIZE;
+use device_component_bytes::REGION_AT;
+use device_component_bytes::REGION_LEN_AT;
+use device_component_bytes::RUNNING_AT;
+use device_component_bytes::STAGED_AT;
+use device_component_bytes::STAGED_VERSION_AT;
 use device_session::effect::Replies;
 use device_session::owed::Owed;
-use device_session::stage::Stage;
-use run_print::bytes;
-use run_print::number;
+use device_session_bytes::NEXT_AT;
+use device_session_bytes::OWED_AT;
+use device_session_bytes::OWED_TOKEN_AT;
+use device_session_bytes::SLOT_AT;
+use device_session_bytes::TOKEN_AT;
+use run_print::form::form;
+use run_print::form::pick;
+use run_print::rest;
 use run_print::text;
+use std::num::wrapping_add_usize;
+use wire::codes;
 use wire::codes::COMPONENT_LIMIT;
+use wire::codes::SHORT_SIZE;
+use wire::words::byte_at;
+use wire::words::least;
 
 pub fn set_up(v: SetupVerdict) {
-    match v {
-        SetupVerdict::Fine => text(b"set-up: served\n"),
-        SetupVerdict::S1 => text(b"set-up: refused S1\n"),
-        SetupVerdict::S2 => text(b"set-up: refused S2\n"),
-        SetupVerdict::S3 => text(b"set-up: refused S3\n"),
-        SetupVerdict::S4 => text(b"set-up: refused S4\n"),
-    }
+    form(
+        b"set-up: {served|refused S1|refused S2|refused S3|refused S4}\n",
+        &[v.number()],
+    );
 }
 
-// The words before what a refused call answers; nothing where it is served.
-pub fn refusal(r: Refusal) {
-    match r {
-        Refusal::Served => {}
-        Refusal::D1 => text(b"refused D1"),
-        Refusal::D2 => text(b"refused D2"),
-        Refusal::D3 => text(b"refused D3"),
-    }
+pub fn reset(r: Refusal) {
+    form(
+        b"reset: {served|refused D1|refused D2|refused D3}\n",
+        &[r.number()],
+    );
 }
 
-// The READY that follows the reply.
+pub fn version_reply(r: Refusal, packet: &[u8]) {
+    pick(
+        b"version reply: %*\n|version reply: refused D1, %*\n",
+        r.number(),
+        packet,
+    );
+}
+
+// The packet of a frame, before its answer.
+pub fn packet(kind: u8, p: &[u8]) {
+    let k = match kind {
+        b'O' => 0,
+        b'C' => 1,
+        _ => 2,
+    };
+    pick(b"offer %*: |content %*: ", k, p);
+}
+
+// The READY that follows the reply, and the end of the line.
 fn follows(ready: Owed) {
     match ready {
-        Owed::Nothing => {}
-        Owed::Token(t) => {
-            let r = ready_reply(t);
-            text(b", then ");
-            bytes(&r);
-        }
+        Owed::Nothing => text(b"\n"),
+        Owed::Token(t) => form(b", then %*\n", &ready_reply(t)),
     }
 }
 
-// What is sent after a served call.
-fn sent(r: Replies) {
-    let reply = r.reply;
-    let ready = r.ready;
-    if r.due {
-        text(b"reply ");
-        bytes(&reply);
-        follows(ready);
-    } else {
-        text(b"no reply");
-    }
+// What a packet is answered by.
+pub fn replied(r: Refusal, replies: Replies) {
+    let reply = replies.reply;
+    let ready = replies.ready;
+    let k = if replies.due { 4 } else { r.number() };
+    pick(
+        b"no reply|refused D1, %*|refused D2, %*|refused D3, %*|reply %*",
+        k,
+        &reply,
+    );
+    follows(ready);
 }
 
 pub fn answer(a: Answer) {
     let r = a.refusal;
     let replies = a.replies;
-    if r.is_refused() {
-        let reply = replies.reply;
-        refusal(r);
-        text(b", ");
-        bytes(&reply);
+    replied(r, replies);
+}
+
+// What stands before the answer to a packet of the host: its kind, and its code, id, or flags and sequence.
+fn kind_of(p: &[u8]) -> u8 {
+    if p.len() != SHORT_SIZE {
+        return 0;
+    }
+    match byte_at(p, 2) {
+        codes::KIND_INFORMATION => 1,
+        codes::KIND_EXTENDED => 2,
+        _ => 3,
+    }
+}
+
+// The first reply to a packet of n bytes, in the words of CFU.
+fn reply(n: usize, r: &[u8]) {
+    if n == SHORT_SIZE {
+        pick(
+            b"SKIP\n|ACCEPT\n|REJECT %1\n|BUSY\n|READY\n|unsupported\n",
+            least(byte_at(r, 12) as usize, 5) as u8,
+            rest(r, 8),
+        );
     } else {
-        sent(replies);
+        form(b"%Dstatus %1\n", r);
+    }
+}
+
+// A packet of the host, and what the device answers.
+pub fn exchange(p: &[u8], r: Refusal, replies: Replies) {
+    let bytes = replies.reply;
+    pick(
+        b"content flags %a%A sequence %2: |information %1: |extended %1: |offer %B%1: ",
+        kind_of(p),
+        p,
+    );
+    if replies.due {
+        reply(p.len(), &bytes);
+    } else {
+        pick(
+            b"no reply\n|refused D1\n|refused D2\n|refused D3\n",
+            r.number(),
+            p,
+        );
+    }
+}
+
+// A session: its stage, and what is owed.
+fn session(b: &[u8]) {
+    let stage = byte_at(b, 0);
+    pick(
+        b"idle|offered slot %1|receiving slot %1",
+        stage,
+        rest(b, SLOT_AT),
+    );
+    pick(b"| token %a| token %a", stage, rest(b, TOKEN_AT));
+    pick(b"|| next %2", stage, rest(b, NEXT_AT));
+    pick(
+        b", owes nothing|, owes token %a",
+        byte_at(b, OWED_AT),
+        rest(b, OWED_TOKEN_AT),
+    );
+}
+
+// A component: its id, running version, region, and what is staged.
+fn component(b: &[u8]) {
+    form(b"; %1 at ", b);
+    form(b"%v in ", rest(b, RUNNING_AT));
+    form(b"%4+", rest(b, REGION_AT));
+    form(b"%4", rest(b, REGION_LEN_AT));
+    pick(
+        b"|, pending %v",
+        byte_at(b, STAGED_AT),
+        rest(b, STAGED_VERSION_AT),
+    );
+}
+
+// The bytes of a record: platform, staging, session, and as many components as it counts.
+pub fn record(b: &[u8]) {
+    form(b"record: platform %b, staging ", rest(b, PLATFORM_AT));
+    form(b"%4, ", rest(b, STAGING_LEN_AT));
+    session(rest(b, SESSION_START));
+    let n = least(byte_at(b, COUNT_AT) as usize, COMPONENT_LIMIT);
+    let mut at = COMPONENTS_START;
+    let mut i = 0;
+    while i < n {
+        component(rest(b, at));
+        at = wrapping_add_usize(at, COMPONENT_SIZE);
+        i += 1;
     }
     text(b"\n");
 }
 
-fn stage(s: Stage) {
-    match s {
-        Stage::Idle => text(b"idle"),
-        Stage::Offered(o) => {
-            number(b"offered slot ", o.slot as u32);
-            text(b" token ");
-            run_print::byte(o.token);
-        }
-        Stage::Receiving(r) => {
-            number(b"receiving slot ", r.slot as u32);
-            text(b" token ");
-            run_print::byte(r.token);
-            number(b" next ", r.next as u32);
-        }
-    }
-}
-
-fn owed(o: Owed) {
-    match o {
-        Owed::Nothing => text(b"owes nothing"),
-        Owed::Token(t) => {
-            text(b"owes token ");
-            run_print::byte(t);
-        }
-    }
-}
-
-fn component(c: Component) {
-    let fixed = c.fixed;
-    let region = fixed.region;
-    let base = region.base;
-    let running = c.running;
-    let staged = c.staged;
-    number(b"; ", fixed.id as u32);
-    text(b" at ");
-    run_print::version(running);
-    number(b" in ", base.number());
-    number(b"+", region.len);
-    match staged {
-        Staged::Nothing => {}
-        Staged::Pending(v) => {
-            text(b", pending ");
-            run_print::version(v);
-        }
-    }
-}
-
-fn listed(d: Device, slot: u8) {
-    let components = d.components;
-    if (slot < d.count) & (slot < COMPONENT_LIMIT as u8) {
-        let c = components[(slot % COMPONENT_LIMIT as u8) as usize];
-        component(c);
-    }
-}
-
-pub fn record(d: Device) {
-    let session = d.session;
-    let s = session.stage;
-    let o = session.owed;
-    text(b"record: platform ");
-    run_print::hex(d.platform as u64, 4);
-    number(b", staging ", d.staging_len);
-    text(b", ");
-    stage(s);
-    text(b", ");
-    owed(o);
-    listed(d, 0);
-    listed(d, 1);
-    listed(d, 2);
-    listed(d, 3);
-    listed(d, 4);
-    listed(d, 5);
-    listed(d, 6);
-    text(b"\n");
+// What a run leaves: the record, and the bytes of the staging buffer.
+pub fn left(device: &[u8], staging: &[u8]) {
+    record(device);
+    form(b"staging %*\n", staging);
 }

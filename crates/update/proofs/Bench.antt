@@ -43,6 +43,11 @@ use Rattle.update.proofs.Goodness.{bodies-good}
 use Rattle.update.proofs.Fitting.{blank-fits, all-fit, component-fits}
 use Rattle.update.specs.Bench.{placed, image, oneFirst, twoFirst, OneFirst, TwoFirst}
 
+-- what the examples compute with: to unfold it is to unfold all that its line names
+unfoldable pub computing : Unit {0}
+unfolding firstOf any pairs bitStep bitSteps byteStep crcFrom crcOf flatten tableBytes bundleBytes written placed headIn parse entriesFrom entriesIn bodyIn firstEntry rowB5 repeated rowB6 gap rowB7 rowB8 bundleRow offer.fieldsIn kindIn content.fieldsIn content.cleared content.contentBytes within regionBytes blank put eraseOf writeOf imageIn firstFrom find badIds badRegions setupVerdict breaksD1 refusalOf rejections needUnmet offerVerdict onOffer onInformation offerEntry contentVerdict takeBlock finish onBlock contentEntry contentStaging serveEntry serveStaging table act hears hearsBlock decideIn breaksN1 packetOf stepOn stepOf deliver exchange run recordsFrom passesIn writes imageOf
+computing = tt
+
 bench-fits : FitsDevice (bench Idle)
 bench-fits = record {
   platform = omega arith;
@@ -62,7 +67,7 @@ bench-fits = record {
 
 -- each run, by computation
 pub one-first : OneFirst
-unfolding firstOf any pairs bitStep bitSteps byteStep crcFrom crcOf flatten tableBytes bundleBytes written placed image headIn parse entriesFrom entriesIn bodyIn firstEntry rowB5 repeated rowB6 gap rowB7 rowB8 bundleRow offer.fieldsIn kindIn content.fieldsIn content.cleared content.contentBytes within regionBytes blank put eraseOf writeOf imageIn firstFrom find badIds badRegions setupVerdict breaksD1 refusalOf rejections needUnmet offerVerdict onOffer onInformation offerEntry contentVerdict takeBlock finish onBlock contentEntry contentStaging serveEntry serveStaging table act hears hearsBlock decideIn breaksN1 packetOf stepOn stepOf deliver exchange run recordsFrom passesIn writes imageOf
+unfolding computing image
 one-first = record {
   size = refl;
   accepted = refl;
@@ -85,7 +90,7 @@ one-first = record {
 }
 
 pub two-first : TwoFirst
-unfolding firstOf any pairs bitStep bitSteps byteStep crcFrom crcOf flatten tableBytes bundleBytes written placed image headIn parse entriesFrom entriesIn bodyIn firstEntry rowB5 repeated rowB6 gap rowB7 rowB8 bundleRow offer.fieldsIn kindIn content.fieldsIn content.cleared content.contentBytes within regionBytes blank put eraseOf writeOf imageIn firstFrom find badIds badRegions setupVerdict breaksD1 refusalOf rejections needUnmet offerVerdict onOffer onInformation offerEntry contentVerdict takeBlock finish onBlock contentEntry contentStaging serveEntry serveStaging table act hears hearsBlock decideIn breaksN1 packetOf stepOn stepOf deliver exchange run recordsFrom passesIn writes imageOf
+unfolding computing image
 two-first = record {
   size = refl;
   accepted = refl;

@@ -1,51 +1,20 @@
 -- The chain of seven, the mixed case and the need cycle, by computation. Assumes nothing.
 use mathlib.Core.Path.{refl}
-use mathlib.Core.List.{flatten}
 use Prim.Native.Nat.{ℕ, _*_, _-_, _≤_}
 use native.Mathlib.Omega.{arith}
 use lib.ListN.{replicate}
 use Rattle.wire.specs.Codes.{COMPONENT-LIMIT}
-use Rattle.wire.specs.Checks.{firstOf, any, pairs}
 use Rattle.wire.proofs.Tests.{all-bytes}
-use Rattle.crc16.specs.Crc.{bitStep, bitSteps, byteStep, crcFrom, crcOf}
-use Rattle.wire_offer.specs.Offer as offer
-use Rattle.wire_offer.specs.Kind.{kindIn}
-use Rattle.wire_content.specs.Content as content
-use Rattle.bundle_records.specs.Record.{headIn}
-use Rattle.bundle_records.specs.Parse.{parse, written}
-use Rattle.image.specs.Region.{within, regionBytes, blank, put, eraseOf, writeOf}
-use Rattle.image.specs.Judge.{imageIn}
 use Rattle.device_component.specs.Record.{FitsComponent}
 use Rattle.device_component.specs.declared.record.Staged.the-variants.{Nothing}
-use Rattle.device_component.specs.Lists.{firstFrom, find}
-use Rattle.device_component.specs.Setup.{badIds, badRegions, setupVerdict}
-use Rattle.bundle_layout.specs.Layout.{entriesFrom, entriesIn, bodyIn}
-use Rattle.bundle_layout.specs.Rows.{firstEntry, rowB5, repeated, rowB6, gap, rowB7, rowB8, bundleRow}
-use Rattle.bundle.specs.Contents.{tableBytes, bundleBytes}
 use Rattle.device.specs.Record.{FitsDevice}
-use Rattle.device_session.specs.Sound.{breaksD1}
 use Rattle.device_session.proofs.effect.Laws.{idle-fits}
-use Rattle.device_offering.specs.Offer.{rejections, needUnmet, offerVerdict, onOffer}
-use Rattle.device_offering.specs.Signal.{onInformation}
-use Rattle.device_receiving.specs.Content.{contentVerdict, takeBlock}
-use Rattle.device_receiving.specs.Finish.{finish}
-use Rattle.device_receiving.specs.Receive.{onBlock}
-use Rattle.device.specs.Refusals.{refusalOf}
-use Rattle.device.specs.Offer.{offerEntry}
-use Rattle.device.specs.Content.{contentEntry, contentStaging}
-use Rattle.device.specs.Entries.{serveEntry, serveStaging}
-use Rattle.host_table.specs.Table.{table}
-use Rattle.host_decide.specs.Decide.{act, hears, hearsBlock, decideIn}
-use Rattle.host.specs.Step.{breaksN1, packetOf, stepOn, stepOf}
-use Rattle.update.specs.Trace.{passesIn}
-use Rattle.update.specs.Run.{deliver, exchange, run, recordsFrom}
-use Rattle.update.specs.Claim.{writes, imageOf}
 use Rattle.update.specs.Demand.{Premise}
+use Rattle.update.proofs.Bench.{computing}
 use Rattle.update.proofs.Goodness.{bodies-good}
 use Rattle.update.proofs.Fitting.{blank-fits, all-fit, component-fits}
 use Rattle.wire.specs.Version.{versionOf}
 use Rattle.device_component.specs.declared.record.Staged.the-variants.{Pending}
-use Rattle.update.specs.Bench.{placed}
 use Rattle.update.specs.Cases.{at100, image16, seven, chain, mixed, mixedBundle, ChainReaches, MixedDevice, MixedStaging, MixedRuns, CycleStops}
 
 -- a component of the cases
@@ -93,11 +62,11 @@ mixed-fits = record {
 }
 
 pub cycle-stops : CycleStops
-unfolding firstOf any pairs bitStep bitSteps byteStep crcFrom crcOf flatten tableBytes bundleBytes written placed headIn parse entriesFrom entriesIn bodyIn firstEntry rowB5 repeated rowB6 gap rowB7 rowB8 bundleRow offer.fieldsIn kindIn content.fieldsIn content.cleared content.contentBytes within regionBytes blank put eraseOf writeOf imageIn firstFrom find badIds badRegions setupVerdict breaksD1 refusalOf rejections needUnmet offerVerdict onOffer onInformation offerEntry contentVerdict takeBlock finish onBlock contentEntry contentStaging serveEntry serveStaging table act hears hearsBlock decideIn breaksN1 packetOf stepOn stepOf deliver exchange run recordsFrom passesIn writes imageOf image16
+unfolding computing image16
 cycle-stops = record { done = refl; passes = refl; packets = refl }
 
 pub chain-reaches : ChainReaches
-unfolding firstOf any pairs bitStep bitSteps byteStep crcFrom crcOf flatten tableBytes bundleBytes written placed headIn parse entriesFrom entriesIn bodyIn firstEntry rowB5 repeated rowB6 gap rowB7 rowB8 bundleRow offer.fieldsIn kindIn content.fieldsIn content.cleared content.contentBytes within regionBytes blank put eraseOf writeOf imageIn firstFrom find badIds badRegions setupVerdict breaksD1 refusalOf rejections needUnmet offerVerdict onOffer onInformation offerEntry contentVerdict takeBlock finish onBlock contentEntry contentStaging serveEntry serveStaging table act hears hearsBlock decideIn breaksN1 packetOf stepOn stepOf deliver exchange run recordsFrom passesIn writes imageOf image16
+unfolding computing image16
 chain-reaches = record {
   premise = record {
     small = omega arith;
@@ -116,7 +85,7 @@ chain-reaches = record {
 }
 
 mixed-premise : Premise mixedBundle 7 mixed (replicate 64 0)
-unfolding firstOf any pairs bitStep bitSteps byteStep crcFrom crcOf flatten tableBytes bundleBytes written placed headIn parse entriesFrom entriesIn bodyIn firstEntry rowB5 repeated rowB6 gap rowB7 rowB8 bundleRow offer.fieldsIn kindIn content.fieldsIn content.cleared content.contentBytes within regionBytes blank put eraseOf writeOf imageIn firstFrom find badIds badRegions setupVerdict breaksD1 refusalOf rejections needUnmet offerVerdict onOffer onInformation offerEntry contentVerdict takeBlock finish onBlock contentEntry contentStaging serveEntry serveStaging table act hears hearsBlock decideIn breaksN1 packetOf stepOn stepOf deliver exchange run recordsFrom passesIn writes imageOf image16
+unfolding computing image16
 mixed-premise = record {
   small = omega arith;
   fits = mixed-fits;
@@ -129,13 +98,13 @@ mixed-premise = record {
 }
 
 mixed-device : MixedDevice
-unfolding firstOf any pairs bitStep bitSteps byteStep crcFrom crcOf flatten tableBytes bundleBytes written placed headIn parse entriesFrom entriesIn bodyIn firstEntry rowB5 repeated rowB6 gap rowB7 rowB8 bundleRow offer.fieldsIn kindIn content.fieldsIn content.cleared content.contentBytes within regionBytes blank put eraseOf writeOf imageIn firstFrom find badIds badRegions setupVerdict breaksD1 refusalOf rejections needUnmet offerVerdict onOffer onInformation offerEntry contentVerdict takeBlock finish onBlock contentEntry contentStaging serveEntry serveStaging table act hears hearsBlock decideIn breaksN1 packetOf stepOn stepOf deliver exchange run recordsFrom passesIn writes imageOf image16
+unfolding computing image16
 mixed-device = refl
 
 mixed-staging : MixedStaging
-unfolding firstOf any pairs bitStep bitSteps byteStep crcFrom crcOf flatten tableBytes bundleBytes written placed headIn parse entriesFrom entriesIn bodyIn firstEntry rowB5 repeated rowB6 gap rowB7 rowB8 bundleRow offer.fieldsIn kindIn content.fieldsIn content.cleared content.contentBytes within regionBytes blank put eraseOf writeOf imageIn firstFrom find badIds badRegions setupVerdict breaksD1 refusalOf rejections needUnmet offerVerdict onOffer onInformation offerEntry contentVerdict takeBlock finish onBlock contentEntry contentStaging serveEntry serveStaging table act hears hearsBlock decideIn breaksN1 packetOf stepOn stepOf deliver exchange run recordsFrom passesIn writes imageOf image16
+unfolding computing image16
 mixed-staging = refl
 
 pub mixed-runs : MixedRuns
-unfolding firstOf any pairs bitStep bitSteps byteStep crcFrom crcOf flatten tableBytes bundleBytes written placed headIn parse entriesFrom entriesIn bodyIn firstEntry rowB5 repeated rowB6 gap rowB7 rowB8 bundleRow offer.fieldsIn kindIn content.fieldsIn content.cleared content.contentBytes within regionBytes blank put eraseOf writeOf imageIn firstFrom find badIds badRegions setupVerdict breaksD1 refusalOf rejections needUnmet offerVerdict onOffer onInformation offerEntry contentVerdict takeBlock finish onBlock contentEntry contentStaging serveEntry serveStaging table act hears hearsBlock decideIn breaksN1 packetOf stepOn stepOf deliver exchange run recordsFrom passesIn writes imageOf image16
+unfolding computing image16
 mixed-runs = record { premise = mixed-premise; done = refl; says = refl; device = mixed-device; staging = mixed-staging }

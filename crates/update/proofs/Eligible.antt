@@ -61,7 +61,7 @@ rejects platform o f c h = go (rejected platform o f c) refl
     go false e = absurd (h (eligible-is platform (record { at = f; component = c }) o .0 e))
 
 -- nothing is no slot
-no-slot : (k : ℕ) → found.Nothing ≡ found.At k → ⊥
+pub no-slot : (k : ℕ) → found.Nothing ≡ found.At k → ⊥
 no-slot k e = true≢false (ap isAbsent e)
 
 -- an absent component is rejected

@@ -38,7 +38,7 @@ use Rattle.device.specs.declared.record.Device.{Device}
 use Rattle.device.proofs.Opened.{staged-passes}
 use Rattle.host.specs.Step.{blocksAt}
 use Rattle.update.specs.Claim.{offerAt, isEligible, isMet, feeds, NotTargeted}
-use Rattle.update.proofs.Eligible.{ids-apart, rejected, rejected-is, absent-rejected, pending-rejected, Fresher, eligible-says}
+use Rattle.update.proofs.Eligible.{ids-apart, rejected, rejected-is, no-slot, absent-rejected, pending-rejected, Fresher, eligible-says}
 
 -- a slot was found there
 abbrev isSlot : Found → ℕ → Bool
@@ -217,9 +217,6 @@ module _ (b : List ℕ) (α : Accepted b) (d : Device) where
             sym (fails (any fed os)
             (λ t. let x = some-out os fed t in let y = feeding (x .j) (x .has) in let w = fed-slot (x .j) (below-count b (x .j) (x .listed)) y in
             no-slot (w .slot) (sym g ∙ ap (find d) (sym (y .for)) ∙ w .here)))
-          where
-            no-slot : (k : ℕ) → found.Nothing ≡ found.At k → ⊥
-            no-slot k q = let y : _≡_ {A = ℕ} 0 1 = cc in omega arith
         meets-slot (found.At k) g z = go (decide S k)
           where
             was : Bool

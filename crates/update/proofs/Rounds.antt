@@ -3,7 +3,6 @@ use Prim.Native.Nat.{ℕ, zero, suc, _+_, _*_}
 use mathlib.Core.Path.{_≡_, refl, sym, subst, _∙_}
 use mathlib.Core.Bool.{Bool, true, false, _&&_, cond}
 use mathlib.Core.List.{List, [], _∷_, _++_}
-use native.Mathlib.Nat.{zero-div}
 use native.Mathlib.Omega.{arith}
 use borrow.Author.Tests.{lt-ltb, le-ltb}
 use lib.Dec.{ltb}
@@ -25,6 +24,7 @@ use Rattle.host_record.specs.declared.record.HostStage.the-variants.{Ended}
 use Rattle.host_record.specs.declared.record.End.the-variants.{Done}
 use Rattle.update.specs.Trace.{Exchange}
 use Rattle.update.specs.Run.{System, start}
+use Rattle.update.proofs.Mask.{no-bit}
 use Rattle.update.proofs.Leads.{said, more-length, Leads, leads-none, leads-step, leads-then}
 use Rattle.update.proofs.Turns.{replied, codeBytes, listing, x-open, x-list, x-first, x-again, x-done}
 use Rattle.update.proofs.Landed.{offers, holding-none}
@@ -194,9 +194,6 @@ module _ (b : List ℕ) (t : ℕ) (d : Device) (s : List ℕ) (G : Given b t d s
     where
       hello : System
       hello = list 0 2 1 (d .components) s (coded 0 ∷ [])
-
-      no-bit : (j : ℕ) → hasBit 0 j ≡ false
-      no-bit j = rw zero-div
 
       go : (n : ℕ) → countIn b ≡ n → Comes (list 0 2 1 (d .components) s (coded 0 ∷ [])) (rounds n unpassed)
       go zero z = absurd (omega (arith, G .accepted .some))

@@ -1,6 +1,6 @@
 -- What `run` answers: the rows that refuse it, or the end of the run.
 use Prim.Native.Nat.{ℕ}
-use mathlib.Core.Bool.{not}
+use mathlib.Core.Bool.{Bool, true, false, not}
 use mathlib.Core.List.{List, [], _∷_}
 use lib.Dec.{eqb}
 use lib.ListN.{length}
@@ -26,6 +26,22 @@ rowOf (refusal.Bundle verdict place) = B (bundle.numberOf verdict) place
 rowOf refusal.D1 = D 1
 rowOf refusal.D2 = D 2
 
+-- the number of a row, 0 where none refuses; the entry that it names, or 0; and whether it refuses
+abbrev pub numberOf : Row → ℕ
+numberOf served = 0
+numberOf (B k entry) = k
+numberOf (D k) = k
+
+abbrev pub entryOf : Row → ℕ
+entryOf served = 0
+entryOf (B k entry) = entry
+entryOf (D k) = 0
+
+abbrev pub isRefused : Row → Bool
+isRefused served = false
+isRefused (B k entry) = true
+isRefused (D k) = true
+
 -- what a run answers: its row, the report, the next record, and every byte of the staging buffer
 pub record Ran : Type 0 where
   pub row : Row
@@ -44,7 +60,7 @@ refusedBy row token d staging = record { row = row; report = unsent token; devic
 abbrev pub ended : System → Ran
 ended s = record { row = served; report = reportOf (s .host); device = s .device; staging = s .staging }
 
--- the bundle's rows first, since the host steps first; then D1 and D2
+-- D1, then D2
 abbrev pub deviceRow : Device → (staging : List ℕ) → Row
 deviceRow d staging = firstOf ((breaksD1 d, D 1) ∷ (not (eqb (length staging) (d .«staging_len»)), D 2) ∷ []) served
 
@@ -53,6 +69,7 @@ ranBy served b token d staging = ended (lastOf b token d staging [])
 ranBy (B k entry) b token d staging = refusedBy (B k entry) token d staging
 ranBy (D k) b token d staging = refusedBy (D k) token d staging
 
+-- the bundle's rows first, since the host steps first; then the device's
 abbrev pub firstRow : bundle.Row → Device → (staging : List ℕ) → Row
 firstRow bundle.served d staging = deviceRow d staging
 firstRow (bundle.B k entry) d staging = B k entry

@@ -4,6 +4,7 @@ use mathlib.Core.Bool.{cond}
 use mathlib.Core.List.{List, [], _∷_, _++_}
 use lib.Dec.{eqb}
 use lib.ListN.{length}
+use Rattle.wire.specs.Codes.{SHORT-SIZE}
 use Rattle.bundle_layout.specs.Layout.{countIn, entriesIn}
 use Rattle.bundle.specs.Contents.{blocksIn}
 use Rattle.device.specs.Entries.{serveEntry, serveStaging}
@@ -26,7 +27,7 @@ pub record System : Type 0 where
 
 -- which of the device's entries a packet is for
 abbrev pub channelOf : List ℕ → Channel
-channelOf p = cond (eqb (length p) 16) Offer Content
+channelOf p = cond (eqb (length p) SHORT-SIZE) Offer Content
 
 -- the reply that the host receives: the first that is sent, and no bytes where none is
 abbrev pub heard : List (List ℕ) → List ℕ

@@ -1,6 +1,6 @@
 // Both ends: the run of a fresh host against a device, and what it answers.
 ghost use mathlib.Core.Path.{_≡_};
-ghost use Rattle.update.specs.Answer.{rowOf, refusedBy, runOf, told};
+ghost use Rattle.update.specs.Answer.{rowOf, numberOf, entryOf, isRefused, refusedBy, runOf, told};
 ghost use Rattle.update.specs.Demand.{DemandOf};
 use crate::turn::run_to_end;
 use bundle::check;
@@ -19,6 +19,47 @@ pub enum RunRefusal {
     // The device's rows.
     D1,
     D2,
+}
+
+impl RunRefusal {
+    // The number of the row that refuses, 0 for none.
+    pub fn number(self) -> u8
+        ensures { λ r. ⌜ r ≡ numberOf (rowOf self) ⌝ }
+    {
+        match self {
+            RunRefusal::Served => 0,
+            RunRefusal::Bundle { verdict, place: _ } => verdict.number(),
+            RunRefusal::D1 => 1,
+            RunRefusal::D2 => 2,
+        }
+    }
+
+    // The entry that a bundle's row names, or 0.
+    pub fn entry(self) -> u8
+        ensures { λ r. ⌜ r ≡ entryOf (rowOf self) ⌝ }
+    {
+        match self {
+            RunRefusal::Served => 0,
+            RunRefusal::Bundle { verdict: _, place } => place,
+            RunRefusal::D1 => 0,
+            RunRefusal::D2 => 0,
+        }
+    }
+
+    // A row refuses.
+    pub fn is_refused(self) -> bool
+        ensures { λ r. ⌜ r ≡ isRefused (rowOf self) ⌝ }
+    {
+        match self {
+            RunRefusal::Served => false,
+            RunRefusal::Bundle {
+                verdict: _,
+                place: _,
+            } => true,
+            RunRefusal::D1 => true,
+            RunRefusal::D2 => true,
+        }
+    }
 }
 
 // A refused run sends nothing and changes nothing.

@@ -3,6 +3,7 @@ ghost use mathlib.Core.Path.{_≡_};
 ghost use mathlib.Core.Bool.{cond};
 ghost use mathlib.Core.List.{[]};
 ghost use lib.ListN.{length};
+ghost use Rattle.wire.specs.Codes.{SHORT-SIZE};
 ghost use Rattle.bundle_layout.specs.Rows as rows;
 ghost use Rattle.bundle.specs.Contents.{toldChecked, checkOf};
 ghost use Rattle.host_record.specs.Record.{hasEnded};
@@ -24,6 +25,7 @@ use host_record::fits::body_of;
 use host_record::fits::in_hand;
 use host_record::record::Host;
 use host_record::record::HostStage;
+use wire::codes::SHORT_SIZE;
 
 // Both ends between two turns.
 pub struct BothEnds {
@@ -53,9 +55,9 @@ fn has_ended(stage: HostStage) -> bool
 
 // How many bytes of the last reply the host receives: all where one was due, otherwise none.
 fn heard(due: bool) -> usize
-    ensures { λ r. ⌜ r ≡ cond due 16 0 ⌝ }
+    ensures { λ r. ⌜ r ≡ cond due SHORT-SIZE 0 ⌝ }
 {
-    if due { 16 } else { 0 }
+    if due { SHORT_SIZE } else { 0 }
 }
 
 // What the host sent is answered; where it sent nothing, the device and its last replies stay.
@@ -73,7 +75,7 @@ fn deliver(sent: Sent, packet: &[u8], e: BothEnds, staging: &mut [u8]) -> Answer
                 device,
             }
         }
-        Sent::Offer => device.offer(staging, &packet[..16]),
+        Sent::Offer => device.offer(staging, &packet[..SHORT_SIZE]),
         Sent::Content => device.content(staging, packet),
     }
 }

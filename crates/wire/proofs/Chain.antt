@@ -9,6 +9,16 @@ use Rattle.wire.proofs.Tests.{neither}
 pub by : {A : Type 0} {r s b : A} → r ≡ s → r ≡ b → s ≡ b
 by e t = sym e ∙ t
 
+-- a chain of tests answers by its first where that applies, and by those after it where it does not
+pub here : {A : Type 0} (t : Bool) (x y : A) → t ≡ true → x ≡ cond t x y
+here t x y e = rw e
+
+pub on : {A : Type 0} (t : Bool) (x y z : A) → t ≡ false → z ≡ y → z ≡ cond t x y
+on t x y z e h = rw e h
+
+-- for `search`: the answer of a chain, from what its helpers ensure and the branches that were taken
+pub ruleset chain = (here, on, by)
+
 -- no check applies
 abbrev pub Quiet : {A : Type 0} → List (Bool × A) → Type 0
 Quiet [] = Unit {0}

@@ -1,11 +1,11 @@
 -- What is known where a test holds. Assumes nothing.
 use mathlib.Core.Path.{_≡_, refl}
-use mathlib.Core.Bool.{Bool, true, false, cond, _&&_, _||_}
+use mathlib.Core.Bool.{Bool, true, false, not, cond, _&&_, _||_}
 use mathlib.Core.List.{List, [], _∷_}
 use Prim.Native.Nat.{ℕ, zero, suc, _<_}
 use native.Mathlib.Omega.{arith}
-use borrow.Author.Tests.{leb-false}
-use lib.Dec.{leb}
+use borrow.Author.Tests.{leb-false, eqb-true, not-false}
+use lib.Dec.{leb, eqb}
 use lib.ListN.{getD}
 use Rattle.wire.specs.Bytes.{Bytes}
 use Rattle.wire.specs.Checks.{any}
@@ -25,6 +25,10 @@ served-true false x y n h = cc
 pub neither : (a b : Bool) → (a || b) ≡ false → (a ≡ false) × (b ≡ false)
 neither false b h = (refl, h)
 neither true b h = let z : _≡_ {A = ℕ} 0 1 = cc in absurd (omega arith)
+
+-- a number that is not unlike n is n
+pub equal : (m n : ℕ) → not (eqb m n) ≡ false → m ≡ n
+equal m n h = eqb-true m n (not-false (eqb m n) h)
 
 -- a list of which no element is tested to be over a byte
 pub all-bytes : (l : List ℕ) → any (leb 256) l ≡ false → Bytes l

@@ -1,5 +1,6 @@
--- Every code, status and reject reason (document 01, "Packets" and "The device"), by CFU's names; the reasons 0xE0 and 0xE1 are the house's.
-use Prim.Native.Nat.{ℕ}
+-- Every code, status and reject reason (document 01, "Packets" and "The device"), by the names that document 01 gives them, and the sizes and limits of packets.
+-- The reasons 0xE0 and 0xE1 are the house's.
+use Prim.Native.Nat.{ℕ, _+_}
 
 -- The protocol's number; no other is supported.
 abbrev pub PROTOCOL : ℕ
@@ -13,7 +14,21 @@ COMPONENT-LIMIT = 7
 abbrev pub ID-LIMIT : ℕ
 ID-LIMIT = 0xDF
 
--- Byte 2 of a 16-byte packet on the offer channel that is no offer.
+-- The size of a packet on the offer channel, which is also that of both replies. Of a content packet: where its data start, how many bytes of data it has room
+-- for, and its size.
+abbrev pub SHORT-SIZE : ℕ
+SHORT-SIZE = 16
+
+abbrev pub DATA-AT : ℕ
+DATA-AT = 8
+
+abbrev pub DATA-SIZE : ℕ
+DATA-SIZE = 52
+
+abbrev pub LONG-SIZE : ℕ
+LONG-SIZE = DATA-AT + DATA-SIZE
+
+-- Byte 2 of a packet on the offer channel that is not an offer.
 abbrev pub KIND-INFORMATION : ℕ
 KIND-INFORMATION = 0xFF
 

@@ -1,4 +1,4 @@
-// Every code, status and reject reason of CFU that this updater uses, by CFU's names, and the few of the house.
+// Every code, status and reject reason that this updater uses, by the names that document 01 gives them, and the sizes and limits of packets.
 
 // The protocol's number; no other is supported.
 pub const PROTOCOL: u8 = 2;
@@ -9,7 +9,17 @@ pub const COMPONENT_LIMIT: usize = 7;
 // The highest id of a component; the lowest is 1.
 pub const ID_LIMIT: u8 = 0xDF;
 
-// Byte 2 of a 16-byte packet on the offer channel that is no offer.
+// The size of a packet on the offer channel, which is also that of both replies. Of a content packet: where its data start, how many bytes of data it has room
+// for, and its size.
+pub const SHORT_SIZE: usize = 16;
+
+pub const DATA_AT: usize = 8;
+
+pub const DATA_SIZE: usize = 52;
+
+pub const LONG_SIZE: usize = DATA_AT + DATA_SIZE;
+
+// Byte 2 of a packet on the offer channel that is not an offer.
 pub const KIND_INFORMATION: u8 = 0xFF;
 
 pub const KIND_EXTENDED: u8 = 0xFE;

@@ -8,13 +8,14 @@ use lib.ListN.{length, getD, take, drop, replicate}
 use Rattle.wire.specs.Bytes.{Bytes, number, bytesOf, bytesAt}
 use Rattle.wire.specs.Rows.{served, P, rowOf, Told}
 use Rattle.wire.specs.declared.address.RegionAddress.{RegionAddress}
+use Rattle.wire.specs.Codes.{FLAG-LAST-BLOCK, DATA-SIZE, LONG-SIZE, DATA-AT}
 use Rattle.wire_content.specs.declared.content.ContentFields.{ContentFields}
 use Rattle.wire_content.specs.declared.content.BuiltContent.{BuiltContent}
 use Rattle.wire_content.specs.declared.content.ReadContent.{ReadContent}
 
 -- the values of the type
 pub record FitsContent (c : ContentFields) : Type 0 where
-  pub size : length (c .«data») ≡ 52
+  pub size : length (c .«data») ≡ DATA-SIZE
   pub bytes : Bytes (c .«data»)
   pub flags : c .flags < 256
   pub length : c .length < 256
@@ -23,7 +24,7 @@ pub record FitsContent (c : ContentFields) : Type 0 where
 
 -- not P2: no flag but 0x80 and 0x40, and a length from 1 to 52
 abbrev pub allowed : (flags length : ℕ) → Bool
-allowed flags length = (eqb (flags % 64) 0 && leb 1 length) && leb length 52
+allowed flags length = (eqb (flags % FLAG-LAST-BLOCK) 0 && leb 1 length) && leb length DATA-SIZE
 
 -- bytes 0-7 in wire order
 abbrev pub headOf : (flags length sequence : ℕ) → RegionAddress → List ℕ
@@ -35,7 +36,7 @@ cleared n d = take n d ++ replicate (length d - n) 0
 
 -- how many bytes of data count: the length, of the 52 that there are
 abbrev pub usedOf : ℕ → ℕ
-usedOf length = cond (leb length 52) length 52
+usedOf length = cond (leb length DATA-SIZE) length DATA-SIZE
 
 -- the 60 bytes, unused data as zero
 unfoldable pub contentBytes : ContentFields → List ℕ
@@ -44,7 +45,7 @@ contentBytes c = headOf (c .flags) (c .length) (c .sequence) (c .address) ++ cle
 -- what building answers
 unfoldable pub buildOf : ContentFields → Told (List ℕ)
 buildOf c =
-    cond (allowed (c .flags) (c .length)) (record { row = served; value = contentBytes c }) (record { row = P 2; value = replicate 60 0 })
+    cond (allowed (c .flags) (c .length)) (record { row = served; value = contentBytes c }) (record { row = P 2; value = replicate LONG-SIZE 0 })
 
 -- the row and the bytes of a built packet
 abbrev pub toldBuilt : BuiltContent → Told (List ℕ)
@@ -57,16 +58,16 @@ fieldsIn p = record {
   length = getD p 1 0;
   sequence = number (bytesAt 2 2 p);
   address = record { 0 = number (bytesAt 4 4 p) };
-  «data» = cleared (getD p 1 0) (drop 8 p);
+  «data» = cleared (getD p 1 0) (drop DATA-AT p);
 }
 
 -- all fields zero
 abbrev pub blankContent : ContentFields
-blankContent = record { flags = 0; length = 0; sequence = 0; address = record { 0 = 0 }; «data» = replicate 52 0 }
+blankContent = record { flags = 0; length = 0; sequence = 0; address = record { 0 = 0 }; «data» = replicate DATA-SIZE 0 }
 
 -- what reading answers: P1 with all fields zero, or the fields
 unfoldable pub readOf : List ℕ → Told ContentFields
-readOf p = cond (eqb (length p) 60) (record { row = served; value = fieldsIn p }) (record { row = P 1; value = blankContent })
+readOf p = cond (eqb (length p) LONG-SIZE) (record { row = served; value = fieldsIn p }) (record { row = P 1; value = blankContent })
 
 -- the row and the fields of a reader's answer
 abbrev pub toldRead : ReadContent → Told ContentFields
@@ -84,4 +85,4 @@ norm c = record {
 
 -- the packet with unused data as zero
 unfoldable pub cleanContent : List ℕ → List ℕ
-cleanContent p = take 8 p ++ cleared (getD p 1 0) (drop 8 p)
+cleanContent p = take DATA-AT p ++ cleared (getD p 1 0) (drop DATA-AT p)

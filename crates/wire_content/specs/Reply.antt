@@ -6,6 +6,7 @@ use lib.Dec.{eqb}
 use lib.ListN.{length, getD, replicate}
 use Rattle.wire.specs.Bytes.{number, bytesOf, bytesAt}
 use Rattle.wire.specs.Rows.{served, P, rowOf, Told}
+use Rattle.wire.specs.Codes.{SHORT-SIZE}
 use Rattle.wire_content.specs.declared.reply.ContentReply.{ContentReply}
 use Rattle.wire_content.specs.declared.reply.ReadContentReply.{ReadContentReply}
 
@@ -24,7 +25,7 @@ replyIn p = record { sequence = number (bytesAt 2 0 p); status = getD p 4 0 }
 
 -- what reading answers: P1 with all fields zero, or the fields
 unfoldable pub readReplyOf : List ℕ → Told ContentReply
-readReplyOf p = cond (eqb (length p) 16) (record { row = served; value = replyIn p }) (record { row = P 1; value = record { sequence = 0; status = 0 } })
+readReplyOf p = cond (eqb (length p) SHORT-SIZE) (record { row = served; value = replyIn p }) (record { row = P 1; value = record { sequence = 0; status = 0 } })
 
 -- the row and the fields of a reader's answer
 abbrev pub toldReply : ReadContentReply → Told ContentReply

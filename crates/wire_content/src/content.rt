@@ -1,10 +1,18 @@
 // Content (CFU 5.5), 60 bytes: a block of an image.
 ghost use mathlib.Core.Path.{_≡_};
 ghost use lib.ListN.{length};
+ghost use Rattle.wire.specs.Codes.{LONG-SIZE};
 ghost use Rattle.wire_content.specs.Content.{allowed, usedOf, headOf, contentBytes, toldBuilt, buildOf, fieldsIn, toldRead, readOf};
 use wire::address::RegionAddress;
+use wire::codes::DATA_AT;
+use wire::codes::DATA_SIZE;
+use wire::codes::FLAG_LAST_BLOCK;
+use wire::codes::LONG_SIZE;
 use wire::verdict::Verdict;
 use wire::words;
+
+// The most bytes of data, as the length of a packet says it.
+pub const DATA_LIMIT: u8 = DATA_SIZE as u8;
 
 pub struct ContentFields {
     // Byte 0: 0x80 first block, 0x40 last block.
@@ -16,12 +24,12 @@ pub struct ContentFields {
     // Bytes 4-7.
     pub address: RegionAddress,
     // Bytes 8-59.
-    pub data: [u8; 52],
+    pub data: [u8; DATA_SIZE],
 }
 
 pub struct BuiltContent {
     pub verdict: Verdict,
-    pub packet: [u8; 60],
+    pub packet: [u8; LONG_SIZE],
 }
 
 pub struct ReadContent {
@@ -29,15 +37,15 @@ pub struct ReadContent {
     pub content: ContentFields,
 }
 
-// Not P2: no flag but the two, and a length from 1 to 52.
+// Not P2: no flag but the two, and a length from 1 to the limit.
 fn is_allowed(flags: u8, length: u8) -> bool
     ensures { λ r. ⌜ r ≡ allowed flags length ⌝ }
 {
-    (flags % 64 == 0) & (1 <= length) & (length <= 52)
+    (flags % FLAG_LAST_BLOCK == 0) & (1 <= length) & (length <= DATA_LIMIT)
 }
 
 // Bytes 0-7.
-pub fn head(flags: u8, length: u8, sequence: u16, address: RegionAddress) -> [u8; 8]
+pub fn head(flags: u8, length: u8, sequence: u16, address: RegionAddress) -> [u8; DATA_AT]
     ensures { λ r. ⌜ r ≡ headOf flags length sequence address ⌝ }
 {
     let s = words::bytes16(sequence);
@@ -45,23 +53,27 @@ pub fn head(flags: u8, length: u8, sequence: u16, address: RegionAddress) -> [u8
     [flags, length, s[0], s[1], a[0], a[1], a[2], a[3]]
 }
 
-// How many bytes of data count: the length, of the 52 that there are.
+// How many bytes of data count: the length, of all that there are.
 fn used(length: u8) -> usize
     ensures { λ r. ⌜ r ≡ usedOf length ⌝ }
 {
-    if length <= 52 { length as usize } else { 52 }
+    if length <= DATA_LIMIT {
+        length as usize
+    } else {
+        DATA_SIZE
+    }
 }
 
-fn packet(c: ContentFields) -> [u8; 60]
+fn packet(c: ContentFields) -> [u8; LONG_SIZE]
     ensures { λ r. ⌜ r ≡ contentBytes c ⌝ }
 {
     let data = c.data;
     let address = c.address;
     let n = used(c.length);
     let h = head(c.flags, c.length, c.sequence, address);
-    let mut p = [0u8; 60];
-    words::copy(&mut p[0..8], &h);
-    words::copy(&mut p[8..8 + n], &data[0..n]);
+    let mut p = [0u8; LONG_SIZE];
+    words::copy(&mut p[0..DATA_AT], &h);
+    words::copy(&mut p[DATA_AT..DATA_AT + n], &data[0..n]);
     p
 }
 
@@ -77,19 +89,19 @@ pub fn build_content(c: ContentFields) -> BuiltContent
     } else {
         BuiltContent {
             verdict: Verdict::P2,
-            packet: [0u8; 60],
+            packet: [0u8; LONG_SIZE],
         }
     }
 }
 
-// The fields of 60 bytes.
+// The fields of a packet.
 fn fields(p: &[u8]) -> ContentFields
-    requires { ⌜ length (now p) ≡ 60 ⌝ }
+    requires { ⌜ length (now p) ≡ LONG-SIZE ⌝ }
     ensures { λ r. ⌜ r ≡ fieldsIn (now (p .entry)) ⌝ }
 {
     let n = used(p[1]);
-    let mut data = [0u8; 52];
-    words::copy(&mut data[0..n], &p[8..8 + n]);
+    let mut data = [0u8; DATA_SIZE];
+    words::copy(&mut data[0..n], &p[DATA_AT..DATA_AT + n]);
     ContentFields {
         flags: p[0],
         length: p[1],
@@ -102,14 +114,14 @@ fn fields(p: &[u8]) -> ContentFields
 pub fn read_content(p: &[u8]) -> ReadContent
     ensures { λ r. ⌜ toldRead r ≡ readOf (now (p .entry)) ⌝ }
 {
-    if p.len() == 60 {
+    if p.len() == LONG_SIZE {
         let c = fields(p);
         ReadContent {
             verdict: Verdict::Served,
             content: c,
         }
     } else {
-        let none = [0u8; 52];
+        let none = [0u8; DATA_SIZE];
         ReadContent {
             verdict: Verdict::P1,
             content: ContentFields {

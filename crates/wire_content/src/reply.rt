@@ -1,6 +1,7 @@
 // The reply to a content packet (CFU 5.5.2), 16 bytes.
 ghost use mathlib.Core.Path.{_≡_};
 ghost use Rattle.wire_content.specs.Reply.{replyBytes, toldReply, readReplyOf};
+use wire::codes::SHORT_SIZE;
 use wire::verdict::Verdict;
 use wire::words;
 
@@ -16,7 +17,7 @@ pub struct ReadContentReply {
     pub reply: ContentReply,
 }
 
-pub fn build_content_reply(r: ContentReply) -> [u8; 16]
+pub fn build_content_reply(r: ContentReply) -> [u8; SHORT_SIZE]
     ensures { λ x. ⌜ x ≡ replyBytes r ⌝ }
 {
     let s = words::bytes16(r.sequence);
@@ -26,7 +27,7 @@ pub fn build_content_reply(r: ContentReply) -> [u8; 16]
 pub fn read_content_reply(p: &[u8]) -> ReadContentReply
     ensures { λ r. ⌜ toldReply r ≡ readReplyOf (now (p .entry)) ⌝ }
 {
-    if p.len() == 16 {
+    if p.len() == SHORT_SIZE {
         ReadContentReply {
             verdict: Verdict::Served,
             reply: ContentReply {

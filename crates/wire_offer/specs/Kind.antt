@@ -4,7 +4,7 @@ use mathlib.Core.Bool.{cond}
 use mathlib.Core.List.{List}
 use lib.Dec.{eqb}
 use lib.ListN.{length, getD}
-use Rattle.wire.specs.Codes.{KIND-INFORMATION, KIND-EXTENDED}
+use Rattle.wire.specs.Codes.{KIND-INFORMATION, KIND-EXTENDED, SHORT-SIZE}
 use Rattle.wire.specs.Rows.{served, P, Told}
 use Rattle.wire_offer.specs.Offer.{fieldsIn, blankOffer}
 use Rattle.wire_offer.specs.Signal.{signalIn}
@@ -28,7 +28,7 @@ kindIn p =
 
 -- what reading answers: P1 with all fields zero, or the packet
 unfoldable pub readOf : List ℕ → Told Kind
-readOf p = cond (eqb (length p) 16) (record { row = served; value = kindIn p }) (record { row = P 1; value = offer blankOffer })
+readOf p = cond (eqb (length p) SHORT-SIZE) (record { row = served; value = kindIn p }) (record { row = P 1; value = offer blankOffer })
 
 -- the row and the packet of a reader's answer
 abbrev pub toldRead : OfferPacket → Told Kind

@@ -7,6 +7,7 @@ use lib.ListN.{getD, replicate}
 use Rattle.wire.specs.Bytes.{number, bytesOf, bytesAt}
 use Rattle.wire.specs.Version.{FitsVersion, versionAt, versionBytes}
 use Rattle.wire.specs.Rows.{Row, served, P, rowOf, Told}
+use Rattle.wire.specs.Codes.{SHORT-SIZE}
 use Rattle.wire_offer.specs.declared.offer.OfferFields.{OfferFields}
 use Rattle.wire_offer.specs.declared.offer.BuiltOffer.{BuiltOffer}
 
@@ -42,7 +43,7 @@ offerBytes o =
 
 -- what building answers
 unfoldable pub buildOf : OfferFields → Told (List ℕ)
-buildOf o = cond (allowed o) (record { row = served; value = offerBytes o }) (record { row = P 2; value = replicate 16 0 })
+buildOf o = cond (allowed o) (record { row = served; value = offerBytes o }) (record { row = P 2; value = replicate SHORT-SIZE 0 })
 
 -- the row and the bytes of a built offer
 abbrev pub toldBuilt : BuiltOffer → Told (List ℕ)

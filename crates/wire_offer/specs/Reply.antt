@@ -5,6 +5,7 @@ use mathlib.Core.List.{List, [], _∷_}
 use lib.Dec.{eqb}
 use lib.ListN.{length, getD}
 use Rattle.wire.specs.Rows.{served, P, rowOf, Told}
+use Rattle.wire.specs.Codes.{SHORT-SIZE}
 use Rattle.wire_offer.specs.declared.reply.OfferReply.{OfferReply}
 use Rattle.wire_offer.specs.declared.reply.ReadOfferReply.{ReadOfferReply}
 
@@ -24,7 +25,7 @@ replyIn p = record { token = getD p 3 0; reason = getD p 8 0; status = getD p 12
 
 -- what reading answers: P1 with all fields zero, or the fields
 unfoldable pub readReplyOf : List ℕ → Told OfferReply
-readReplyOf p = cond (eqb (length p) 16) (record { row = served; value = replyIn p }) (record { row = P 1; value = record { token = 0; reason = 0; status = 0 } })
+readReplyOf p = cond (eqb (length p) SHORT-SIZE) (record { row = served; value = replyIn p }) (record { row = P 1; value = record { token = 0; reason = 0; status = 0 } })
 
 -- the row and the fields of a reader's answer
 abbrev pub toldReply : ReadOfferReply → Told OfferReply

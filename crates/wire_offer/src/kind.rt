@@ -1,16 +1,18 @@
-// The one reader of the offer channel: byte 2 decides the kind of a 16-byte packet.
+// The one reader of the offer channel: byte 2 decides the kind of a packet.
 ghost use mathlib.Core.Path.{_≡_};
 ghost use lib.ListN.{length};
+ghost use Rattle.wire.specs.Codes.{SHORT-SIZE};
 ghost use Rattle.wire_offer.specs.Offer.{fieldsIn};
 ghost use Rattle.wire_offer.specs.Kind.{toldRead, readOf};
 use crate::offer::OfferFields;
 use crate::signal::Signal;
 use wire::codes;
+use wire::codes::SHORT_SIZE;
 use wire::version::Version;
 use wire::words;
 
 pub enum OfferPacket {
-    // P1: not 16 bytes.
+    // P1: another length than a packet on the offer channel has.
     Refused,
     Offer(OfferFields),
     Information(Signal),
@@ -18,7 +20,7 @@ pub enum OfferPacket {
 }
 
 fn fields(p: &[u8]) -> OfferFields
-    requires { ⌜ length (now p) ≡ 16 ⌝ }
+    requires { ⌜ length (now p) ≡ SHORT-SIZE ⌝ }
     ensures { λ r. ⌜ r ≡ fieldsIn (now (p .entry)) ⌝ }
 {
     OfferFields {
@@ -38,7 +40,7 @@ fn fields(p: &[u8]) -> OfferFields
 pub fn read_offer_packet(p: &[u8]) -> OfferPacket
     ensures { λ r. ⌜ toldRead r ≡ readOf (now (p .entry)) ⌝ }
 {
-    if p.len() != 16 {
+    if p.len() != SHORT_SIZE {
         return OfferPacket::Refused;
     }
     let kind = p[2];

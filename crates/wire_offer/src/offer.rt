@@ -1,6 +1,7 @@
 // An offer (CFU 5.2), 16 bytes.
 ghost use mathlib.Core.Path.{_≡_};
 ghost use Rattle.wire_offer.specs.Offer.{allowed, flagsOf, offerBytes, toldBuilt, buildOf};
+use wire::codes::SHORT_SIZE;
 use wire::verdict::Verdict;
 use wire::version::Version;
 use wire::words;
@@ -30,7 +31,7 @@ pub struct OfferFields {
 
 pub struct BuiltOffer {
     pub verdict: Verdict,
-    pub packet: [u8; 16],
+    pub packet: [u8; SHORT_SIZE],
 }
 
 // Not P2: an id up to 0xFD, a least version of 24 bits, a protocol of four.
@@ -51,7 +52,7 @@ fn flags(force_immediate_reset: bool, force_ignore_version: bool) -> u8
     }
 }
 
-fn packet(o: OfferFields) -> [u8; 16]
+fn packet(o: OfferFields) -> [u8; SHORT_SIZE]
     ensures { λ r. ⌜ r ≡ offerBytes o ⌝ }
 {
     let f = flags(o.force_immediate_reset, o.force_ignore_version);
@@ -91,7 +92,7 @@ pub fn build_offer(o: OfferFields) -> BuiltOffer
     } else {
         BuiltOffer {
             verdict: Verdict::P2,
-            packet: [0u8; 16],
+            packet: [0u8; SHORT_SIZE],
         }
     }
 }

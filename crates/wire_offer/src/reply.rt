@@ -1,6 +1,7 @@
 // The reply to an offer, an information or an extended packet (CFU 5.2.2), 16 bytes.
 ghost use mathlib.Core.Path.{_≡_};
 ghost use Rattle.wire_offer.specs.Reply.{replyBytes, toldReply, readReplyOf};
+use wire::codes::SHORT_SIZE;
 use wire::verdict::Verdict;
 
 pub struct OfferReply {
@@ -18,7 +19,7 @@ pub struct ReadOfferReply {
 }
 
 // Any reason with any status: the device's own rule is that the reason is zero unless REJECT.
-pub fn build_offer_reply(r: OfferReply) -> [u8; 16]
+pub fn build_offer_reply(r: OfferReply) -> [u8; SHORT_SIZE]
     ensures { λ x. ⌜ x ≡ replyBytes r ⌝ }
 {
     [
@@ -44,7 +45,7 @@ pub fn build_offer_reply(r: OfferReply) -> [u8; 16]
 pub fn read_offer_reply(p: &[u8]) -> ReadOfferReply
     ensures { λ r. ⌜ toldReply r ≡ readReplyOf (now (p .entry)) ⌝ }
 {
-    if p.len() == 16 {
+    if p.len() == SHORT_SIZE {
         ReadOfferReply {
             verdict: Verdict::Served,
             reply: OfferReply {

@@ -2,6 +2,7 @@
 ghost use mathlib.Core.Path.{_≡_};
 ghost use Rattle.wire_offer.specs.Signal.{informationBytes, extendedBytes};
 use wire::codes;
+use wire::codes::SHORT_SIZE;
 
 pub struct Signal {
     // Byte 0.
@@ -11,7 +12,7 @@ pub struct Signal {
 }
 
 // Any code and any token: document 01 refuses none.
-pub fn build_information(s: Signal) -> [u8; 16]
+pub fn build_information(s: Signal) -> [u8; SHORT_SIZE]
     ensures { λ r. ⌜ r ≡ informationBytes s ⌝ }
 {
     [
@@ -34,7 +35,7 @@ pub fn build_information(s: Signal) -> [u8; 16]
     ]
 }
 
-pub fn build_extended(s: Signal) -> [u8; 16]
+pub fn build_extended(s: Signal) -> [u8; SHORT_SIZE]
     ensures { λ r. ⌜ r ≡ extendedBytes s ⌝ }
 {
     [

@@ -24,7 +24,7 @@ pub fn bundle(entries: &[Entry]) -> Vec<u8> {
 pub fn entries_in(bundle: &[u8]) -> Vec<Entry> {
     let mut out = Vec::new();
     for place in 0..bundle[0] as usize {
-        let own = &bundle[entry_start(place)..][..ENTRY_SIZE];
+        let own = &bundle[entry_start(place)..][..BUNDLE_ENTRY_SIZE];
         let (offset, length) = (four(&own[entry_at::OFFSET..]) as usize, four(&own[entry_at::LENGTH..]) as usize);
         let mut rest = &bundle[offset..offset + length];
         let mut records = Vec::new();
@@ -51,7 +51,7 @@ pub fn any_entries(r: &mut Random, most_records: usize) -> Vec<Entry> {
             let need = if r.percent(60) { [0; 4] } else { [r.byte(), r.byte(), r.byte(), r.byte()] };
             let records = (0..r.between(1, most_records))
                 .map(|_| {
-                    let length = r.pick(&[1, 2, 8, 51, 52]);
+                    let length = r.pick(&[1, 2, 8, DATA_SIZE - 1, DATA_SIZE]);
                     (r.pick(&[0, 1, 52, u32::MAX]), r.bytes(length))
                 })
                 .collect();
@@ -81,6 +81,7 @@ fn long_bundle(r: &mut Random, length: usize) -> Vec<u8> {
 
 /// One damage; several may follow one another.
 fn damage(r: &mut Random, bytes: &mut Vec<u8>) {
+    let most = OFFER_LIMIT as u8;
     let count = (bytes.first().copied().unwrap_or(0) as usize).min(OFFER_LIMIT);
     let entry = r.below(count.max(1));
     let own = entry_start(entry);
@@ -97,13 +98,13 @@ fn damage(r: &mut Random, bytes: &mut Vec<u8>) {
             let keep = r.below(bytes.len() + 1);
             bytes.truncate(keep);
         }
-        2 => bytes.truncate(r.below(BUNDLE_HEAD + 1)),
+        2 => bytes.truncate(r.below(BUNDLE_HEAD_SIZE + 1)),
         3 => {
             let more = r.pick(&[1, 2, 5, 6, 57, 58]);
             bytes.extend(r.bytes(more));
         }
-        4 if bytes.len() >= BUNDLE_HEAD => bytes[r.between(1, BUNDLE_HEAD - 1)] = r.pick(&[0, 1, 2, 255]),
-        5 if bytes.len() >= BUNDLE_HEAD => bytes[0] = r.pick(&[0, 1, 2, 6, 7, 8, 255]),
+        4 if bytes.len() >= BUNDLE_HEAD_SIZE => bytes[r.between(1, BUNDLE_HEAD_SIZE - 1)] = r.pick(&[0, 1, 2, 255]),
+        5 if bytes.len() >= BUNDLE_HEAD_SIZE => bytes[0] = r.pick(&[0, 1, 2, most - 1, most, most + 1, 255]),
         6 if has_table => {
             bytes[own + r.pick(&[offer_at::SEGMENT, offer_at::FLAGS, offer_at::TOKEN, offer_at::PROTOCOL, offer_at::RESERVED])] =
                 r.pick(&[0, 1, 2, 3, 0x12, 255])
@@ -137,7 +138,7 @@ fn damage(r: &mut Random, bytes: &mut Vec<u8>) {
             let place = at + record_at::LENGTH;
             if place < bytes.len() {
                 let was = bytes[place];
-                bytes[place] = r.pick(&[0, 53, 255, was.wrapping_add(1), was.wrapping_sub(1), 52]);
+                bytes[place] = r.pick(&[0, DATA_SIZE as u8 + 1, 255, was.wrapping_add(1), was.wrapping_sub(1), DATA_SIZE as u8]);
             }
         }
         15 if has_table => {
@@ -155,8 +156,8 @@ fn damage(r: &mut Random, bytes: &mut Vec<u8>) {
         _ => {
             let size = r.below(200);
             *bytes = r.bytes(size);
-            if size >= BUNDLE_HEAD && r.percent(80) {
-                bytes[..BUNDLE_HEAD].copy_from_slice(&[r.between(1, OFFER_LIMIT) as u8, 1, 0, 0, 0, 0, 0, 0]);
+            if size >= BUNDLE_HEAD_SIZE && r.percent(80) {
+                bytes[..BUNDLE_HEAD_SIZE].copy_from_slice(&[r.between(1, OFFER_LIMIT) as u8, 1, 0, 0, 0, 0, 0, 0]);
             }
         }
     }

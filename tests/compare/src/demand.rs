@@ -27,8 +27,8 @@ pub fn written(length: usize, records: &[(u32, Vec<u8>)]) -> Option<Vec<u8>> {
     Some(out)
 }
 
-fn part_of(device: &DeviceRecord, id: u8) -> Option<&Part> {
-    device.listed().iter().find(|part| part.id == id)
+fn component_of(device: &DeviceRecord, id: u8) -> Option<&Component> {
+    device.listed().iter().find(|component| component.id == id)
 }
 
 fn version_of(entry: &Entry) -> u32 {
@@ -36,23 +36,23 @@ fn version_of(entry: &Entry) -> u32 {
 }
 
 /// The body is good for the component: inside its region, and an image with a right CRC, that id and the offered version.
-pub fn is_good(part: &Part, entry: &Entry) -> bool {
-    let Some(image) = written(part.length as usize, &entry.records) else { return false };
+pub fn is_good(component: &Component, entry: &Entry) -> bool {
+    let Some(image) = written(component.length as usize, &entry.records) else { return false };
     let (body, held) = image.split_at(image.len() - CRC_SIZE);
-    crc(body).to_be_bytes() == held && image[image_at::ID] == part.id && four(&image[image_at::VERSION..]) == version_of(entry)
+    crc(body).to_be_bytes() == held && image[image_at::ID] == component.id && four(&image[image_at::VERSION..]) == version_of(entry)
 }
 
 /// Offer checks 2 to 7 pass against the device after code 0.
 pub fn is_eligible(device: &DeviceRecord, entry: &Entry) -> bool {
     let offer = &entry.offer;
-    match part_of(device, offer[offer_at::ID]) {
+    match component_of(device, offer[offer_at::ID]) {
         None => false,
-        Some(part) => {
+        Some(component) => {
             offer[offer_at::PROTOCOL] & 0x0F == PROTOCOL
                 && two(&offer[offer_at::PLATFORM..]) == device.platform
                 && offer[offer_at::SEGMENT] == 0
-                && part.staged.is_none()
-                && version_of(entry) > part.running
+                && component.staged.is_none()
+                && version_of(entry) > component.running
         }
     }
 }
@@ -60,7 +60,7 @@ pub fn is_eligible(device: &DeviceRecord, entry: &Entry) -> bool {
 /// The need is none, or met by an effective version.
 fn is_met(device: &DeviceRecord, entry: &Entry) -> bool {
     let (need, least) = need_of(entry);
-    need == 0 || part_of(device, need).is_some_and(|part| part.staged.unwrap_or(part.running) / 256 >= least)
+    need == 0 || component_of(device, need).is_some_and(|component| component.staged.unwrap_or(component.running) / 256 >= least)
 }
 
 fn need_of(entry: &Entry) -> (u8, u32) {
@@ -99,8 +99,8 @@ pub struct Shown<'a> {
 
 /// The premise: the body of every offer that passes checks 2 to 7 is good.
 pub fn premise(device: &DeviceRecord, entries: &[Entry]) -> bool {
-    entries.iter().all(|entry| match part_of(device, entry.offer[offer_at::ID]) {
-        Some(part) if is_eligible(device, entry) => is_good(part, entry),
+    entries.iter().all(|entry| match component_of(device, entry.offer[offer_at::ID]) {
+        Some(component) if is_eligible(device, entry) => is_good(component, entry),
         _ => true,
     })
 }
@@ -153,12 +153,12 @@ pub fn check(shown: &Shown) -> Result<usize, String> {
     let mut device = DeviceRecord { session: Session::Idle, owed: None, ..**before };
     let mut staging = shown.staging_before.to_vec();
     for (place, entry) in entries.iter().enumerate().filter(|(place, _)| staged >> place & 1 == 1) {
-        let slot = before.listed().iter().position(|part| part.id == entry.offer[offer_at::ID]);
+        let slot = before.listed().iter().position(|component| component.id == entry.offer[offer_at::ID]);
         let (Some(slot), true) = (slot, place < n) else { return wrong("an absent component was staged") };
-        let part = &mut device.parts[slot];
-        part.staged = Some(version_of(entry));
-        let Some(image) = written(part.length as usize, &entry.records) else { return wrong("a bad body was staged") };
-        staging[part.base as usize..][..image.len()].copy_from_slice(&image);
+        let component = &mut device.components[slot];
+        component.staged = Some(version_of(entry));
+        let Some(image) = written(component.length as usize, &entry.records) else { return wrong("a bad body was staged") };
+        staging[component.base as usize..][..image.len()].copy_from_slice(&image);
     }
     if device != shown.after {
         return wrong("the device's record is another");

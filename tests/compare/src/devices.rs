@@ -43,18 +43,23 @@ pub fn valid_device(r: &mut Random) -> DeviceRecord {
     r.shuffle(&mut ids);
     for (slot, id) in ids.iter().enumerate().take(count) {
         let running = version(r);
-        let part = &mut record.parts[slot];
-        part.id = *id;
-        part.running = running;
+        let component = &mut record.components[slot];
+        component.id = *id;
+        component.running = running;
         if r.percent(20) {
-            part.staged = Some(version_from(r, running));
+            component.staged = Some(version_from(r, running));
         }
     }
     // Slots past the count are never looked at.
     if r.percent(30) {
-        for part in record.parts.iter_mut().skip(count) {
-            *part =
-                Part { id: r.byte(), running: r.next() as u32, base: r.next() as u32, length: r.next() as u32, staged: r.percent(50).then_some(7) };
+        for component in record.components.iter_mut().skip(count) {
+            *component = Component {
+                id: r.byte(),
+                running: r.next() as u32,
+                base: r.next() as u32,
+                length: r.next() as u32,
+                staged: r.percent(50).then_some(7),
+            };
         }
     }
     open_session(r, &mut record);
@@ -75,8 +80,8 @@ fn place_regions(r: &mut Random, record: &mut DeviceRecord) {
             2..=6 => r.between(REGION_LEAST, DATA_SIZE),
             _ => r.between(REGION_LEAST, 140),
         } as u32;
-        record.parts[slot].base = at;
-        record.parts[slot].length = length;
+        record.components[slot].base = at;
+        record.components[slot].length = length;
         at += length + gap(r);
     }
     record.staging = if long && r.percent(50) { (STAGING_LIMIT as u32).max(at) } else { at };
@@ -92,7 +97,7 @@ fn gap(r: &mut Random) -> u32 {
 
 /// Idle, offered or receiving, with and without an owed reply.
 fn open_session(r: &mut Random, record: &mut DeviceRecord) {
-    let free: Vec<usize> = (0..record.count as usize).filter(|slot| record.parts[*slot].staged.is_none()).collect();
+    let free: Vec<usize> = (0..record.count as usize).filter(|slot| record.components[*slot].staged.is_none()).collect();
     if free.is_empty() || r.percent(40) {
         return;
     }
@@ -138,11 +143,11 @@ pub fn count_passed(tally: &mut Tally, given: &[u8], passed: &[Passed]) {
 pub const BROKEN: [&str; 19] = [
     "D1: staging over the limit",
     "D1: count 0",
-    "D1: count over 7",
+    "D1: count over the limit",
     "D1: id 0",
-    "D1: id over 0xDF",
+    "D1: id over the limit",
     "D1: id repeated",
-    "D1: region under 8",
+    "D1: region under the least",
     "D1: region past the buffer",
     "D1: region whose end wraps",
     "D1: regions overlap",
@@ -172,30 +177,30 @@ pub fn broken_device(r: &mut Random, aim: &'static str) -> Vec<u8> {
     match aim {
         "D1: staging over the limit" => record.staging = r.pick(&[STAGING_LIMIT as u32 + 1, STAGING_LIMIT as u32 + 2, 1 << 24, u32::MAX]),
         "D1: count 0" => record.count = 0,
-        "D1: count over 7" => record.count = r.pick(&[COMPONENT_LIMIT as u8 + 1, COMPONENT_LIMIT as u8 + 2, 128, 255]),
-        "D1: id 0" => record.parts[slot].id = 0,
-        "D1: id over 0xDF" => record.parts[slot].id = r.pick(&[ID_LIMIT + 1, 0xFD, 0xFE, 0xFF]),
-        "D1: id repeated" => record.parts[slot].id = record.parts[next_slot].id,
-        "D1: region under 8" => record.parts[slot].length = r.below(REGION_LEAST) as u32,
+        "D1: count over the limit" => record.count = r.pick(&[COMPONENT_LIMIT as u8 + 1, COMPONENT_LIMIT as u8 + 2, 128, 255]),
+        "D1: id 0" => record.components[slot].id = 0,
+        "D1: id over the limit" => record.components[slot].id = r.pick(&[ID_LIMIT + 1, 0xFD, 0xFE, 0xFF]),
+        "D1: id repeated" => record.components[slot].id = record.components[next_slot].id,
+        "D1: region under the least" => record.components[slot].length = r.below(REGION_LEAST) as u32,
         "D1: region past the buffer" => {
-            let part = &mut record.parts[slot];
-            part.length = record.staging - part.base + r.pick(&[1, 2, 1000]);
+            let component = &mut record.components[slot];
+            component.length = record.staging - component.base + r.pick(&[1, 2, 1000]);
         }
         "D1: region whose end wraps" => {
-            record.parts[slot].base = u32::MAX - 3;
-            record.parts[slot].length = 12;
+            record.components[slot].base = u32::MAX - 3;
+            record.components[slot].length = 12;
         }
         "D1: regions overlap" => {
-            let other = record.parts[next_slot];
-            record.parts[slot].base = other.base + other.length - 1;
-            record.parts[slot].length = REGION_LEAST as u32;
-            record.staging = record.staging.max(other.base + other.length + 8);
+            let other = record.components[next_slot];
+            record.components[slot].base = other.base + other.length - 1;
+            record.components[slot].length = REGION_LEAST as u32;
+            record.staging = record.staging.max(other.base + other.length + REGION_LEAST as u32);
         }
         "D1: opens on an unlisted component" => {
             record.session = Session::Offered { slot: r.pick(&[count as u8, COMPONENT_LIMIT as u8, COMPONENT_LIMIT as u8 + 1, 255]), token: 1 }
         }
         "D1: opens on a pending component" => {
-            record.parts[slot].staged = Some(record.parts[slot].running);
+            record.components[slot].staged = Some(record.components[slot].running);
             record.session = session;
         }
         "D1: owes while idle" => {
@@ -205,8 +210,8 @@ pub fn broken_device(r: &mut Random, aim: &'static str) -> Vec<u8> {
         "D1: staged below running" => {
             record.session = Session::Idle;
             record.owed = None;
-            record.parts[slot].running = r.pick(&[1, 0x0100_0000, u32::MAX]);
-            record.parts[slot].staged = Some(record.parts[slot].running - 1);
+            record.components[slot].running = r.pick(&[1, 0x0100_0000, u32::MAX]);
+            record.components[slot].staged = Some(record.components[slot].running - 1);
         }
         _ => {}
     }
@@ -229,10 +234,10 @@ pub fn broken_device(r: &mut Random, aim: &'static str) -> Vec<u8> {
 pub const SETUP: [&str; 9] = [
     "S1: staging over the limit",
     "S2: count 0",
-    "S2: count over 7",
+    "S2: count over the limit",
     "S3: id outside",
     "S3: id repeated",
-    "S4: region under 8",
+    "S4: region under the least",
     "S4: region past the buffer",
     "S4: region whose end wraps",
     "S4: regions overlap",
@@ -252,20 +257,20 @@ pub fn make_setup(r: &mut Random) -> Case {
     match aim {
         "S1: staging over the limit" => staging = r.pick(&[STAGING_LIMIT + 1, STAGING_LIMIT + 64]),
         "S2: count 0" => record.count = 0,
-        "S2: count over 7" => record.count = r.pick(&[COMPONENT_LIMIT as u8 + 1, COMPONENT_LIMIT as u8 + 2, 255]),
-        "S3: id outside" => record.parts[slot].id = r.pick(&[0, 0xE0, 0xFF]),
-        "S3: id repeated" => record.parts[slot].id = record.parts[next_slot].id,
-        "S4: region under 8" => record.parts[slot].length = r.below(REGION_LEAST) as u32,
+        "S2: count over the limit" => record.count = r.pick(&[COMPONENT_LIMIT as u8 + 1, COMPONENT_LIMIT as u8 + 2, 255]),
+        "S3: id outside" => record.components[slot].id = r.pick(&[0, ID_LIMIT + 1, 0xFF]),
+        "S3: id repeated" => record.components[slot].id = record.components[next_slot].id,
+        "S4: region under the least" => record.components[slot].length = r.below(REGION_LEAST) as u32,
         "S4: region past the buffer" => staging = staging.saturating_sub(r.between(10, 60)),
         "S4: region whose end wraps" => {
-            record.parts[slot].base = u32::MAX - 3;
-            record.parts[slot].length = 12;
+            record.components[slot].base = u32::MAX - 3;
+            record.components[slot].length = 12;
         }
         "S4: regions overlap" => {
-            let other = record.parts[next_slot];
-            record.parts[slot].base = other.base + other.length - 1;
-            record.parts[slot].length = REGION_LEAST as u32;
-            staging = staging.max((other.base + other.length + 8) as usize);
+            let other = record.components[next_slot];
+            record.components[slot].base = other.base + other.length - 1;
+            record.components[slot].length = REGION_LEAST as u32;
+            staging = staging.max((other.base + other.length) as usize + REGION_LEAST);
         }
         _ => {}
     }
@@ -441,7 +446,7 @@ fn signal(r: &mut Random, kind: u8, codes: &[u8]) -> Vec<u8> {
 /// An offer that mostly gets past the earlier checks.
 fn offer(r: &mut Random, record: &DeviceRecord) -> Vec<u8> {
     let listed = record.listed();
-    let chosen = if listed.is_empty() { Part::default() } else { r.pick(listed) };
+    let chosen = if listed.is_empty() { Component::default() } else { r.pick(listed) };
     let id = if r.percent(92) { chosen.id } else { r.pick(&[0, 10, ID_LIMIT, ID_LIMIT + 1, 0xFD, r.clone().byte()]) };
     let version = match r.below(20) {
         0 => chosen.running,
@@ -469,7 +474,7 @@ fn offer(r: &mut Random, record: &DeviceRecord) -> Vec<u8> {
 }
 
 /// The need of an offer: none, met, unmet by one, absent.
-fn need(r: &mut Random, listed: &[Part]) -> [u8; 4] {
+fn need(r: &mut Random, listed: &[Component]) -> [u8; 4] {
     if listed.is_empty() || r.percent(55) {
         return if r.percent(80) { [0; 4] } else { [0, r.byte(), r.byte(), r.byte()] };
     }
@@ -489,7 +494,7 @@ fn need(r: &mut Random, listed: &[Part]) -> [u8; 4] {
 /// A content packet that mostly fits the session.
 fn content(r: &mut Random, record: &DeviceRecord) -> Vec<u8> {
     let slot = record.session.slot().unwrap_or(0) as usize;
-    let part = record.parts[slot.min(COMPONENT_LIMIT - 1)];
+    let component = record.components[slot.min(COMPONENT_LIMIT - 1)];
     let (mut flags, mut sequence) = match record.session {
         Session::Receiving { next, .. } => (0, next),
         _ => (FLAG_FIRST_BLOCK, r.pick(&[0, 1, 0xFFFF, 0x1234])),
@@ -497,9 +502,9 @@ fn content(r: &mut Random, record: &DeviceRecord) -> Vec<u8> {
     if r.percent(15) {
         flags |= FLAG_LAST_BLOCK;
     }
-    let length = r.between(1, DATA_SIZE).min(part.length.max(1) as usize) as u32;
+    let length = r.between(1, DATA_SIZE).min(component.length.max(1) as usize) as u32;
     let mut length = length as u8;
-    let room = part.length.saturating_sub(length as u32);
+    let room = component.length.saturating_sub(length as u32);
     let mut address = if r.percent(30) { room } else { r.below(room as usize + 1) as u32 };
     match r.below(25) {
         0 => length = r.pick(&[0, DATA_SIZE as u8 + 1, 255]),
@@ -507,7 +512,7 @@ fn content(r: &mut Random, record: &DeviceRecord) -> Vec<u8> {
         2 => flags |= r.pick(&[1, 2, 0x20, 0x3F]),
         3 => sequence = sequence.wrapping_add(r.pick(&[1, 0xFFFF, 256])),
         4 => address = room + 1,
-        5 => address = r.pick(&[u32::MAX, u32::MAX - 51, 0x8000_0000, part.length]),
+        5 => address = r.pick(&[u32::MAX, u32::MAX - 51, 0x8000_0000, component.length]),
         6 => return r.bytes(LONG_SIZE),
         _ => {}
     }
@@ -521,24 +526,24 @@ fn content(r: &mut Random, record: &DeviceRecord) -> Vec<u8> {
 
 /// The packets of a whole image for a component that is not pending, good or with one fault.
 fn session(r: &mut Random, record: &DeviceRecord) -> Vec<Vec<u8>> {
-    let free: Vec<Part> = record.listed().iter().filter(|part| part.staged.is_none()).copied().collect();
+    let free: Vec<Component> = record.listed().iter().filter(|component| component.staged.is_none()).copied().collect();
     if free.is_empty() {
         return Vec::new();
     }
-    let part = r.pick(&free);
-    if part.length > 2000 || part.running > 0xFFFF_FE00 {
+    let component = r.pick(&free);
+    if component.length > 2000 || component.running > 0xFFFF_FE00 {
         return Vec::new();
     }
-    let version = part.running + 256;
-    let mut image = demand::image(r, part.length as usize, version, part.id);
+    let version = component.running + 256;
+    let mut image = demand::image(r, component.length as usize, version, component.id);
     match r.below(8) {
         0 => {
             let place = r.below(image.len());
             image[place] ^= 1 << r.below(8);
         }
-        1 => image = demand::image(r, part.length as usize, version, part.id ^ 1),
-        2 => image = demand::image(r, part.length as usize, part.running.wrapping_sub(1), part.id),
-        3 => image = demand::image(r, part.length as usize, part.running, part.id),
+        1 => image = demand::image(r, component.length as usize, version, component.id ^ 1),
+        2 => image = demand::image(r, component.length as usize, component.running.wrapping_sub(1), component.id),
+        3 => image = demand::image(r, component.length as usize, component.running, component.id),
         _ => {}
     }
     let token = r.byte();
@@ -547,7 +552,7 @@ fn session(r: &mut Random, record: &DeviceRecord) -> Vec<Vec<u8>> {
     if record.session != Session::Idle {
         items.push(item(OFFER, &signal_packet(INFORMATION, INFO_START_ENTIRE_TRANSACTION, token)));
     }
-    let mut offer = offer_packet(part.id, version, [0; 4], record.platform);
+    let mut offer = offer_packet(component.id, version, [0; 4], record.platform);
     offer[offer_at::TOKEN] = token;
     items.push(item(OFFER, &offer));
     if r.percent(40) {

@@ -70,7 +70,7 @@ fn broken(r: &mut Random, records: &[usize], aim: &'static str) -> Vec<u8> {
     let count = records.len() as u32;
     let mut host = fitting(r, records);
     let entry = r.below(records.len());
-    let past = r.pick(&[count, count + 1, 7, 255, 256, u32::MAX]);
+    let past = r.pick(&[count, count + 1, OFFER_LIMIT as u32, 255, 256, u32::MAX]);
     match aim {
         "N1: offering past the entries" => host.stage = Stage::Offering { entry: past, busy: 0 },
         "N1: waiting past the entries" => host.stage = Stage::Waiting { entry: past, busy: 1 },
@@ -83,7 +83,7 @@ fn broken(r: &mut Random, records: &[usize], aim: &'static str) -> Vec<u8> {
             let busy = r.pick(&[9, 10, 255, 256, u32::MAX]);
             host.stage = if r.percent(50) { Stage::Offering { entry: entry as u32, busy } } else { Stage::Waiting { entry: entry as u32, busy } };
         }
-        "N1: more passes than offers" => host.passes = r.pick(&[count + 1, 8, 255, u32::MAX]).max(count + 1),
+        "N1: more passes than offers" => host.passes = r.pick(&[count + 1, OFFER_LIMIT as u32 + 1, 255, u32::MAX]).max(count + 1),
         "N1: 2^31 packets" => host.packets = r.pick(&[1 << 31, (1 << 31) + 1, u32::MAX]),
         "N1: mask bit past the offers" => host.mask |= 1 << r.between(records.len(), 31),
         _ => {}
@@ -301,7 +301,7 @@ pub fn make_contents(r: &mut Random) -> Case {
         // One of the numbers between the count and the cursor.
         let place = contents_at::BODIES + 4 * r.below((contents_at::CURSOR - contents_at::BODIES) / 4);
         match r.below(7) {
-            0 => contents[contents_at::COUNT] = r.pick(&[0, 1, 7, 8, 31, 32, 255]),
+            0 => contents[contents_at::COUNT] = r.pick(&[0, 1, OFFER_LIMIT as u8, OFFER_LIMIT as u8 + 1, 31, 32, 255]),
             1 => contents = r.bytes(CONTENTS_SIZE),
             2 => {
                 // A cursor that is anything, for the block that the record may have in hand.
@@ -310,7 +310,7 @@ pub fn make_contents(r: &mut Random) -> Case {
                 let kept = Contents::read(&contents).unwrap_or_default();
                 contents = Contents { entry, block, cursor, ..kept }.bytes().to_vec();
             }
-            3 => contents[r.pick(&[contents_at::ROW, contents_at::PLACE])] = r.pick(&[0, 1, 7, 8, 9, 255]),
+            3 => contents[r.pick(&[contents_at::ROW, contents_at::PLACE])] = r.pick(&[0, 1, BUNDLE_ROWS - 1, BUNDLE_ROWS, BUNDLE_ROWS + 1, 255]),
             _ => {
                 let was = four(&contents[place..]);
                 let next = r.pick(&[0, 1, u32::MAX, was.wrapping_add(1), was.wrapping_sub(1), was / 2, bytes.len() as u32]);

@@ -14,8 +14,33 @@ pub const CONTENTS_SIZE: usize = 103;
 pub const REPLIES_SIZE: usize = 32;
 pub const SHORT_SIZE: usize = 16;
 pub const LONG_SIZE: usize = 60;
+pub const DATA_AT: usize = 8;
 pub const DATA_SIZE: usize = 52;
 pub const COMPONENTS_SIZE: usize = 49;
+
+pub const DEVICE_SESSION_AT: usize = 7;
+pub const DEVICE_OWED_AT: usize = 12;
+pub const DEVICE_COMPONENTS_AT: usize = 14;
+pub const COMPONENT_SIZE: usize = 18;
+pub const COMPONENT_RUNNING_AT: usize = 1;
+pub const COMPONENT_REGION_AT: usize = 5;
+pub const COMPONENT_STAGED_AT: usize = 13;
+pub const LISTED_SIZE: usize = 13;
+pub const RUNNING_SIZE: usize = 7;
+pub const RUNNING_ID_AT: usize = 4;
+pub const BUNDLE_HEAD_SIZE: usize = 8;
+pub const BUNDLE_ENTRY_SIZE: usize = 24;
+pub const CONTENTS_BODIES_AT: usize = 3;
+pub const BODY_SIZE: usize = 12;
+pub const BODY_RECORDS_AT: usize = 8;
+pub const CONTENTS_HAND_AT: usize = 87;
+pub const CONTENTS_CURSOR_AT: usize = 95;
+pub const HOST_STAGE_AT: usize = 1;
+pub const HOST_FIRST_AT: usize = 2;
+pub const HOST_SECOND_AT: usize = 6;
+pub const HOST_MASK_AT: usize = 10;
+pub const HOST_SKIPPED_AT: usize = 22;
+pub const HOST_LANDED_AT: usize = 23;
 
 pub const STAGING_LIMIT: usize = 65536;
 pub const BUNDLE_LIMIT: usize = 65536;
@@ -143,7 +168,7 @@ pub mod content_at {
     pub const LENGTH: usize = 1;
     pub const SEQUENCE: usize = 2;
     pub const ADDRESS: usize = 4;
-    pub const DATA: usize = 8;
+    pub const DATA: usize = super::DATA_AT;
 }
 
 pub mod content_reply_at {
@@ -229,9 +254,7 @@ pub fn make_image(bytes: &mut [u8], version: u32, id: u8) {
 
 // ---------------------------------------------------------------- bundle
 
-/// Byte 0 is the count of offers, byte 1 is 1, the others are zero.
-pub const BUNDLE_HEAD: usize = 8;
-pub const ENTRY_SIZE: usize = 24;
+// Of a bundle's head byte 0 is the count of offers, byte 1 is 1, the others are zero.
 
 /// An entry of the table: the offer, then its body's place and length.
 pub mod entry_at {
@@ -246,11 +269,11 @@ pub mod record_at {
     pub const DATA: usize = 5;
 }
 
-const _: () = assert!(entry_at::OFFSET == SHORT_SIZE && entry_at::LENGTH + 4 == ENTRY_SIZE);
+const _: () = assert!(entry_at::OFFSET == SHORT_SIZE && entry_at::LENGTH + 4 == BUNDLE_ENTRY_SIZE);
 
 /// Where an entry stands, counted from 0; the bodies follow the last.
 pub fn entry_start(place: usize) -> usize {
-    BUNDLE_HEAD + ENTRY_SIZE * place
+    BUNDLE_HEAD_SIZE + BUNDLE_ENTRY_SIZE * place
 }
 
 pub fn record_bytes(address: u32, data: &[u8]) -> Vec<u8> {
@@ -283,27 +306,24 @@ pub mod device_at {
     pub const PLATFORM: usize = 0;
     pub const STAGING: usize = 2;
     pub const COUNT: usize = 6;
-    pub const STAGE: usize = 7;
-    pub const SLOT: usize = 8;
-    pub const TOKEN: usize = 9;
-    pub const NEXT: usize = 10;
-    pub const OWED: usize = 12;
-    pub const OWED_TOKEN: usize = 13;
-    pub const COMPONENTS: usize = 14;
+    pub const STAGE: usize = super::DEVICE_SESSION_AT;
+    pub const SLOT: usize = STAGE + 1;
+    pub const TOKEN: usize = STAGE + 2;
+    pub const NEXT: usize = STAGE + 3;
+    pub const OWED: usize = super::DEVICE_OWED_AT;
+    pub const OWED_TOKEN: usize = OWED + 1;
+    pub const COMPONENTS: usize = super::DEVICE_COMPONENTS_AT;
 }
 
 /// A component in the record; one in set-up's list is its first LISTED_SIZE bytes.
 pub mod component_at {
     pub const ID: usize = 0;
-    pub const RUNNING: usize = 1;
-    pub const BASE: usize = 5;
-    pub const LENGTH: usize = 9;
-    pub const STAGED: usize = 13;
-    pub const STAGED_VERSION: usize = 14;
+    pub const RUNNING: usize = super::COMPONENT_RUNNING_AT;
+    pub const BASE: usize = super::COMPONENT_REGION_AT;
+    pub const LENGTH: usize = BASE + 4;
+    pub const STAGED: usize = super::COMPONENT_STAGED_AT;
+    pub const STAGED_VERSION: usize = STAGED + 1;
 }
-
-pub const LISTED_SIZE: usize = 13;
-pub const COMPONENT_SIZE: usize = 18;
 
 /// The stage with what it has, and what is owed.
 pub const SESSION_SIZE: usize = device_at::COMPONENTS - device_at::STAGE;
@@ -318,7 +338,7 @@ pub const fn component_start(slot: usize) -> usize {
 
 /// A component in a device's record.
 #[derive(Clone, Copy, Debug, Default, PartialEq, Eq)]
-pub struct Part {
+pub struct Component {
     pub id: u8,
     pub running: u32,
     pub base: u32,
@@ -360,7 +380,7 @@ pub struct DeviceRecord {
     pub count: u8,
     pub session: Session,
     pub owed: Option<u8>,
-    pub parts: [Part; COMPONENT_LIMIT],
+    pub components: [Component; COMPONENT_LIMIT],
 }
 
 impl DeviceRecord {
@@ -371,8 +391,8 @@ impl DeviceRecord {
         put(&mut out, device_at::STAGING, &self.staging.to_le_bytes());
         out[device_at::COUNT] = self.count;
         put(&mut out, device_at::STAGE, &self.session_bytes());
-        for (slot, part) in self.parts.iter().enumerate() {
-            put(&mut out, component_start(slot), &part.bytes());
+        for (slot, component) in self.components.iter().enumerate() {
+            put(&mut out, component_start(slot), &component.bytes());
         }
         out
     }
@@ -396,7 +416,7 @@ impl DeviceRecord {
     pub fn leave_received(&self, bytes: &mut [u8]) {
         let slot = if bytes[device_at::STAGE] == 0 { 0 } else { bytes[device_at::SLOT] as usize };
         put(bytes, device_at::STAGE, &self.session_bytes());
-        put(bytes, component_start(slot), &self.parts[slot].bytes());
+        put(bytes, component_start(slot), &self.components[slot].bytes());
     }
 
     /// The record in these bytes: none in bytes of another length, or with a stage, owed or staged that no record has. What these rule out is passed over.
@@ -416,9 +436,9 @@ impl DeviceRecord {
             1 => Some(bytes[device_at::OWED_TOKEN]),
             _ => return None,
         };
-        let mut parts = [Part::default(); COMPONENT_LIMIT];
-        for (slot, part) in parts.iter_mut().enumerate() {
-            *part = Part::read(&bytes[component_start(slot)..])?;
+        let mut components = [Component::default(); COMPONENT_LIMIT];
+        for (slot, component) in components.iter_mut().enumerate() {
+            *component = Component::read(&bytes[component_start(slot)..])?;
         }
         Some(DeviceRecord {
             platform: two(&bytes[device_at::PLATFORM..]),
@@ -426,7 +446,7 @@ impl DeviceRecord {
             count: bytes[device_at::COUNT],
             session,
             owed,
-            parts,
+            components,
         })
     }
 
@@ -441,8 +461,8 @@ impl DeviceRecord {
         if self.owed.is_none() {
             out.push((PASSED_OWED, device_at::OWED_TOKEN..device_at::COMPONENTS));
         }
-        for (slot, part) in self.parts.iter().enumerate() {
-            if part.staged.is_none() {
+        for (slot, component) in self.components.iter().enumerate() {
+            if component.staged.is_none() {
                 let end = component_start(slot + 1);
                 out.push((PASSED_STAGED, component_start(slot) + component_at::STAGED_VERSION..end));
             }
@@ -451,13 +471,13 @@ impl DeviceRecord {
     }
 
     /// The listed components.
-    pub fn listed(&self) -> &[Part] {
-        &self.parts[..(self.count as usize).min(COMPONENT_LIMIT)]
+    pub fn listed(&self) -> &[Component] {
+        &self.components[..(self.count as usize).min(COMPONENT_LIMIT)]
     }
 
     /// The list that set-up makes its components from.
-    pub fn list(&self) -> [ListedPart; COMPONENT_LIMIT] {
-        self.parts.each_ref().map(Part::listed)
+    pub fn list(&self) -> [ListedComponent; COMPONENT_LIMIT] {
+        self.components.each_ref().map(Component::listed)
     }
 }
 
@@ -472,17 +492,17 @@ pub const PASSED_STAGED: &str = "passed over: a staged version where nothing is 
 
 /// A component in the list that set-up takes.
 #[derive(Clone, Copy, Debug, Default, PartialEq, Eq)]
-pub struct ListedPart {
+pub struct ListedComponent {
     pub id: u8,
     pub running: u32,
     pub base: u32,
     pub length: u32,
 }
 
-impl Part {
+impl Component {
     /// As it is given to set-up.
-    pub fn listed(&self) -> ListedPart {
-        ListedPart { id: self.id, running: self.running, base: self.base, length: self.length }
+    pub fn listed(&self) -> ListedComponent {
+        ListedComponent { id: self.id, running: self.running, base: self.base, length: self.length }
     }
 
     fn bytes(&self) -> [u8; COMPONENT_SIZE] {
@@ -495,20 +515,20 @@ impl Part {
         out
     }
 
-    fn read(bytes: &[u8]) -> Option<Part> {
+    fn read(bytes: &[u8]) -> Option<Component> {
         let staged = match bytes[component_at::STAGED] {
             0 => None,
             1 => Some(four(&bytes[component_at::STAGED_VERSION..])),
             _ => return None,
         };
-        Some(Part { staged, ..ListedPart::read(bytes).part() })
+        Some(Component { staged, ..ListedComponent::read(bytes).component() })
     }
 }
 
-impl ListedPart {
+impl ListedComponent {
     /// As set-up makes it: nothing is staged.
-    pub fn part(&self) -> Part {
-        Part { id: self.id, running: self.running, base: self.base, length: self.length, staged: None }
+    pub fn component(&self) -> Component {
+        Component { id: self.id, running: self.running, base: self.base, length: self.length, staged: None }
     }
 
     fn bytes(&self) -> [u8; LISTED_SIZE] {
@@ -520,8 +540,8 @@ impl ListedPart {
         out
     }
 
-    fn read(bytes: &[u8]) -> ListedPart {
-        ListedPart {
+    fn read(bytes: &[u8]) -> ListedComponent {
+        ListedComponent {
             id: bytes[component_at::ID],
             running: four(&bytes[component_at::RUNNING..]),
             base: four(&bytes[component_at::BASE..]),
@@ -530,11 +550,11 @@ impl ListedPart {
     }
 }
 
-pub fn read_list(bytes: &[u8]) -> [ListedPart; COMPONENT_LIMIT] {
-    std::array::from_fn(|slot| ListedPart::read(&bytes[LISTED_SIZE * slot..]))
+pub fn read_list(bytes: &[u8]) -> [ListedComponent; COMPONENT_LIMIT] {
+    std::array::from_fn(|slot| ListedComponent::read(&bytes[LISTED_SIZE * slot..]))
 }
 
-pub fn list_bytes(list: &[ListedPart; COMPONENT_LIMIT]) -> [u8; LIST_SIZE] {
+pub fn list_bytes(list: &[ListedComponent; COMPONENT_LIMIT]) -> [u8; LIST_SIZE] {
     let mut out = [0; LIST_SIZE];
     for (slot, listed) in list.iter().enumerate() {
         put(&mut out, LISTED_SIZE * slot, &listed.bytes());
@@ -546,18 +566,18 @@ pub fn list_bytes(list: &[ListedPart; COMPONENT_LIMIT]) -> [u8; LIST_SIZE] {
 
 pub mod host_at {
     pub const TOKEN: usize = 0;
-    pub const STAGE: usize = 1;
+    pub const STAGE: usize = super::HOST_STAGE_AT;
     /// Two numbers (4 each) that the stage has.
-    pub const FIRST: usize = 2;
-    pub const SECOND: usize = 6;
-    pub const MASK: usize = 10;
-    pub const PACKETS: usize = 14;
-    pub const PASSES: usize = 18;
-    pub const SKIPPED: usize = 22;
-    pub const LANDED: usize = 23;
+    pub const FIRST: usize = super::HOST_FIRST_AT;
+    pub const SECOND: usize = super::HOST_SECOND_AT;
+    pub const MASK: usize = super::HOST_MASK_AT;
+    pub const PACKETS: usize = MASK + 4;
+    pub const PASSES: usize = PACKETS + 4;
+    pub const SKIPPED: usize = super::HOST_SKIPPED_AT;
+    pub const LANDED: usize = super::HOST_LANDED_AT;
 }
 
-const _: () = assert!(host_at::LANDED + 1 == HOST_SIZE);
+const _: () = assert!(host_at::PASSES + 4 == host_at::SKIPPED && host_at::LANDED + 1 == HOST_SIZE);
 
 /// What a host awaits, or how it ended: 0 done, 1 to 4 for H1 to H4.
 #[derive(Clone, Copy, Debug, Default, PartialEq, Eq)]
@@ -703,20 +723,25 @@ pub mod contents_at {
     pub const ROW: usize = 0;
     pub const PLACE: usize = 1;
     pub const COUNT: usize = 2;
-    pub const BODIES: usize = 3;
+    pub const BODIES: usize = super::CONTENTS_BODIES_AT;
     /// The block that the cursor is kept for.
-    pub const ENTRY: usize = 87;
-    pub const BLOCK: usize = 91;
-    pub const CURSOR: usize = 95;
+    pub const ENTRY: usize = super::CONTENTS_HAND_AT;
+    pub const BLOCK: usize = ENTRY + 4;
+    pub const CURSOR: usize = super::CONTENTS_CURSOR_AT;
 }
 
 /// A body: its offset, its length and how many records it has (4 each).
-pub const BODY_SIZE: usize = 12;
+pub mod body_at {
+    pub const OFFSET: usize = 0;
+    pub const LENGTH: usize = 4;
+    pub const RECORDS: usize = super::BODY_RECORDS_AT;
+}
 
 /// The last row that refuses a bundle.
 pub const BUNDLE_ROWS: u8 = (B8 - B1) as u8 + 1;
 
-const _: () = assert!(contents_at::BODIES + OFFER_LIMIT * BODY_SIZE == contents_at::ENTRY && contents_at::CURSOR + 8 == CONTENTS_SIZE);
+const _: () = assert!(contents_at::BODIES + OFFER_LIMIT * BODY_SIZE == contents_at::ENTRY && contents_at::BLOCK + 4 == contents_at::CURSOR);
+const _: () = assert!(contents_at::CURSOR + 8 == CONTENTS_SIZE && body_at::RECORDS + 4 == BODY_SIZE);
 
 /// A body in the contents.
 #[derive(Clone, Copy, Debug, Default, PartialEq, Eq)]
@@ -753,9 +778,9 @@ impl Contents {
         out[contents_at::COUNT] = self.count;
         for (entry, body) in self.bodies.iter().enumerate() {
             let own = &mut out[contents_at::BODIES + BODY_SIZE * entry..][..BODY_SIZE];
-            put(own, 0, &body.offset.to_le_bytes());
-            put(own, 4, &body.length.to_le_bytes());
-            put(own, 8, &body.records.to_le_bytes());
+            put(own, body_at::OFFSET, &body.offset.to_le_bytes());
+            put(own, body_at::LENGTH, &body.length.to_le_bytes());
+            put(own, body_at::RECORDS, &body.records.to_le_bytes());
         }
         put(&mut out, contents_at::ENTRY, &self.entry.to_le_bytes());
         put(&mut out, contents_at::BLOCK, &self.block.to_le_bytes());
@@ -774,7 +799,7 @@ impl Contents {
         }
         let bodies = std::array::from_fn(|entry| {
             let own = &bytes[contents_at::BODIES + BODY_SIZE * entry..][..BODY_SIZE];
-            Body { offset: four(own), length: four(&own[4..]), records: four(&own[8..]) }
+            Body { offset: four(&own[body_at::OFFSET..]), length: four(&own[body_at::LENGTH..]), records: four(&own[body_at::RECORDS..]) }
         });
         let (entry, block) = (four(&bytes[contents_at::ENTRY..]), four(&bytes[contents_at::BLOCK..]));
         Some(Contents { row, place: bytes[contents_at::PLACE], count, bodies, entry, block, cursor: number(&bytes[contents_at::CURSOR..]) })
@@ -784,15 +809,19 @@ impl Contents {
 // ---------------------------------------------------------------- the components of a version reply
 
 /// A component as it is lent: running version (4), id (1), platform (2).
-pub const RUNNING_SIZE: usize = 7;
+pub mod running_at {
+    pub const VERSION: usize = 0;
+    pub const ID: usize = super::RUNNING_ID_AT;
+    pub const PLATFORM: usize = ID + 1;
+}
 
-const _: () = assert!(COMPONENT_LIMIT * RUNNING_SIZE == COMPONENTS_SIZE);
+const _: () = assert!(running_at::PLATFORM + 2 == RUNNING_SIZE && COMPONENT_LIMIT * RUNNING_SIZE == COMPONENTS_SIZE);
 
 /// Running version, id, platform of each.
 pub fn read_components(bytes: &[u8]) -> [(u32, u8, u16); COMPONENT_LIMIT] {
     std::array::from_fn(|slot| {
         let own = &bytes[RUNNING_SIZE * slot..][..RUNNING_SIZE];
-        (four(own), own[4], two(&own[5..]))
+        (four(&own[running_at::VERSION..]), own[running_at::ID], two(&own[running_at::PLATFORM..]))
     })
 }
 
@@ -800,9 +829,9 @@ pub fn components_bytes(components: &[(u32, u8, u16); COMPONENT_LIMIT]) -> [u8; 
     let mut out = [0; COMPONENTS_SIZE];
     for (slot, (version, id, platform)) in components.iter().enumerate() {
         let own = &mut out[RUNNING_SIZE * slot..][..RUNNING_SIZE];
-        put(own, 0, &version.to_le_bytes());
-        own[4] = *id;
-        put(own, 5, &platform.to_le_bytes());
+        put(own, running_at::VERSION, &version.to_le_bytes());
+        own[running_at::ID] = *id;
+        put(own, running_at::PLATFORM, &platform.to_le_bytes());
     }
     out
 }

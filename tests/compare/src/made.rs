@@ -5,7 +5,7 @@ use cfu_updater::bundle_layout::{self, verdict_of, BundleVerdict, Checked};
 use cfu_updater::device::answer::{Answer, Refusal};
 use cfu_updater::device::record::Device;
 use cfu_updater::device::setup::set_up;
-use cfu_updater::device_component::record::{Component, Fixed, Listed, Staged};
+use cfu_updater::device_component::record::{Component as MadeComponent, Fixed, Listed, Staged};
 use cfu_updater::device_component::setup::SetupVerdict;
 use cfu_updater::device_session::effect::Session as DeviceSession;
 use cfu_updater::device_session::owed::Owed;
@@ -46,16 +46,16 @@ fn fixed(id: u8, base: u32, length: u32) -> Fixed {
 
 /// The crate's device of a record.
 pub fn device_of(record: &DeviceRecord) -> Device {
-    let part = |part: &Part| Component {
-        fixed: fixed(part.id, part.base, part.length),
-        running: version(part.running),
-        staged: part.staged.map_or(Staged::Nothing, |staged| Staged::Pending(version(staged))),
+    let component = |component: &Component| MadeComponent {
+        fixed: fixed(component.id, component.base, component.length),
+        running: version(component.running),
+        staged: component.staged.map_or(Staged::Nothing, |staged| Staged::Pending(version(staged))),
     };
     Device {
         platform: record.platform,
         staging_len: record.staging,
         count: record.count,
-        components: record.parts.each_ref().map(part),
+        components: record.components.each_ref().map(component),
         session: DeviceSession {
             stage: match record.session {
                 Session::Idle => DeviceStage::Idle,
@@ -69,12 +69,12 @@ pub fn device_of(record: &DeviceRecord) -> Device {
 
 /// The record of the crate's device.
 pub fn record_of(device: &Device) -> DeviceRecord {
-    let part = |part: &Component| Part {
-        id: part.fixed.id,
-        running: part.running.number(),
-        base: part.fixed.region.base.number(),
-        length: part.fixed.region.len,
-        staged: match part.staged {
+    let component = |component: &MadeComponent| Component {
+        id: component.fixed.id,
+        running: component.running.number(),
+        base: component.fixed.region.base.number(),
+        length: component.fixed.region.len,
+        staged: match component.staged {
             Staged::Nothing => None,
             Staged::Pending(staged) => Some(staged.number()),
         },
@@ -92,13 +92,13 @@ pub fn record_of(device: &Device) -> DeviceRecord {
             Owed::Nothing => None,
             Owed::Token(token) => Some(token),
         },
-        parts: device.components.each_ref().map(part),
+        components: device.components.each_ref().map(component),
     }
 }
 
 /// A component as it is given to the crate's set-up.
-fn listed_of(part: &ListedPart) -> Listed {
-    Listed { fixed: fixed(part.id, part.base, part.length), running: version(part.running) }
+fn listed_of(component: &ListedComponent) -> Listed {
+    Listed { fixed: fixed(component.id, component.base, component.length), running: version(component.running) }
 }
 
 /// The device in these bytes; bytes that are no record stand for the blank one, which every entry refuses.

@@ -4,7 +4,7 @@
 //! nothing about contents that no check of this bundle left.
 
 use second::bundle::{check, Bundle, Fault};
-use second::device::{set_up, Answer, Component, Device, Listed, Offered, Receiving, Region, Stage as DeviceStage, StagingOffset};
+use second::device::{set_up, Answer, Component as SecondComponent, Device, Listed, Offered, Receiving, Region, Stage as DeviceStage, StagingOffset};
 use second::host::{End, Host, Packet, Stage as HostStage, Stepped};
 use second::packets;
 use second::refusal::Refusal;
@@ -22,17 +22,17 @@ fn region(base: u32, length: u32) -> Region {
 
 /// The second implementation's device of a record.
 pub fn device_of(record: &DeviceRecord) -> Device {
-    let part = |part: &Part| Component {
-        id: part.id,
-        running: SecondVersion(part.running),
-        region: region(part.base, part.length),
-        staged: part.staged.map(SecondVersion),
+    let component = |component: &Component| SecondComponent {
+        id: component.id,
+        running: SecondVersion(component.running),
+        region: region(component.base, component.length),
+        staged: component.staged.map(SecondVersion),
     };
     Device {
         platform: record.platform,
         staging: record.staging,
         count: record.count,
-        components: record.parts.each_ref().map(part),
+        components: record.components.each_ref().map(component),
         stage: match record.session {
             Session::Idle => DeviceStage::Idle,
             Session::Offered { slot, token } => DeviceStage::Offered(Offered { slot, token }),
@@ -44,12 +44,12 @@ pub fn device_of(record: &DeviceRecord) -> Device {
 
 /// The record of the second implementation's device.
 pub fn record_of(device: &Device) -> DeviceRecord {
-    let part = |part: &Component| Part {
-        id: part.id,
-        running: part.running.0,
-        base: part.region.base.0,
-        length: part.region.length,
-        staged: part.staged.map(|version| version.0),
+    let component = |component: &SecondComponent| Component {
+        id: component.id,
+        running: component.running.0,
+        base: component.region.base.0,
+        length: component.region.length,
+        staged: component.staged.map(|version| version.0),
     };
     DeviceRecord {
         platform: device.platform,
@@ -61,7 +61,7 @@ pub fn record_of(device: &Device) -> DeviceRecord {
             DeviceStage::Receiving(Receiving { slot, token, next }) => Session::Receiving { slot, token, next },
         },
         owed: device.owed,
-        parts: device.components.each_ref().map(part),
+        components: device.components.each_ref().map(component),
     }
 }
 
@@ -230,7 +230,7 @@ impl Calls for Other {
             let mut record = record_of(&answer.value);
             // Document 01 leaves the slots past the count free; the library fills them from the list.
             for slot in count as usize..COMPONENT_LIMIT {
-                record.parts[slot] = list[slot].part();
+                record.components[slot] = list[slot].component();
             }
             device.copy_from_slice(&record.bytes());
         }

@@ -9,6 +9,10 @@ use crate::random::Random;
 use crate::tally::{self, Tally};
 use crate::ALL;
 
+/// The most components of a version reply and the most data of a content packet, as the bytes that count them.
+const COUNT: u8 = COMPONENT_LIMIT as u8;
+const DATA: u8 = DATA_SIZE as u8;
+
 /// The packets, by number: version reply, offer, information, extended, offer reply, content, content reply.
 const KINDS: usize = 7;
 
@@ -45,7 +49,7 @@ pub fn make_build(r: &mut Random) -> Case {
     Case::aimed("")
         .number("kind", kind)
         .number("size", size as u64)
-        .number("count", border(r, &[0, 1, 6, 7, 8, 255]))
+        .number("count", border(r, &[0, 1, COUNT - 1, COUNT, COUNT + 1, 255]))
         .number("protocol", border(r, &[2, 2, 2, 2, 0, 1, 15, 16]))
         .number("code", border(r, &[0, 1, 2, 3]))
         .number("token", r.byte() as u64)
@@ -57,7 +61,7 @@ pub fn make_build(r: &mut Random) -> Case {
         .number("least", r.pick(&[0, 1, 0x00FF_FFFF, 0x0100_0000, 0xFFFF_FFFF, r.clone().next() & 0x00FF_FFFF]))
         .number("platform", r.next() & 0xFFFF)
         .number("flags", border(r, &[0, 0x80, 0x40, 0xC0, 1, 0x20, 0xFF]))
-        .number("length", border(r, &[0, 1, 51, 52, 53, 255]))
+        .number("length", border(r, &[0, 1, DATA - 1, DATA, DATA + 1, 255]))
         .number("sequence", r.next() & 0xFFFF)
         .number("address", r.pick(&[0, 1, 0xFFFF_FFFF, r.clone().next() & 0xFFFF_FFFF]))
         .bytes("bytes", r.bytes(bytes))
@@ -122,14 +126,14 @@ pub fn make_read(r: &mut Random) -> Case {
     };
     let mut packet = r.bytes(length);
     if length == LONG_SIZE && kind == 0 && r.percent(85) {
-        packet[version_reply_at::COUNT] = r.pick(&[0, 1, 3, 6, 7, 8]);
+        packet[version_reply_at::COUNT] = r.pick(&[0, 1, 3, COUNT - 1, COUNT, COUNT + 1]);
         packet[version_reply_at::PROTOCOL] = r.pick(&[2, 2, 2, 0x12, 0xF2, 1]);
     }
     if length == SHORT_SIZE && (1..=3).contains(&kind) {
         packet[signal_at::KIND] = r.pick(&[0, 1, 0xDF, 0xFD, EXTENDED, INFORMATION, r.clone().byte()]);
     }
     if length == LONG_SIZE && kind == 5 && r.percent(70) {
-        packet[content_at::LENGTH] = r.pick(&[0, 1, 30, 51, 52, 53, 255]);
+        packet[content_at::LENGTH] = r.pick(&[0, 1, 30, DATA - 1, DATA, DATA + 1, 255]);
     }
     let room = if r.percent(3) { 1 } else { 0 };
     Case::aimed("").number("kind", kind).number("room", room).bytes("packet", packet)

@@ -53,33 +53,33 @@ fn records_for(r: &mut Random, image: &[u8]) -> Vec<(u32, Vec<u8>)> {
 }
 
 /// The records with a fault.
-fn bad_records(r: &mut Random, part: &Part, version: u32) -> Vec<(u32, Vec<u8>)> {
-    let length = part.length as usize;
+fn bad_records(r: &mut Random, component: &Component, version: u32) -> Vec<(u32, Vec<u8>)> {
+    let length = component.length as usize;
     match r.below(6) {
         0 => {
-            let mut image = demand::image(r, length, version, part.id);
+            let mut image = demand::image(r, length, version, component.id);
             let place = r.below(length);
             image[place] ^= 1 << r.below(8);
             records_for(r, &image)
         }
         1 => {
-            let image = demand::image(r, length, version, part.id ^ 1);
+            let image = demand::image(r, length, version, component.id ^ 1);
             records_for(r, &image)
         }
         2 => {
-            let image = demand::image(r, length, part.running.wrapping_sub(1), part.id);
+            let image = demand::image(r, length, component.running.wrapping_sub(1), component.id);
             records_for(r, &image)
         }
         3 => {
             // Good in itself, but not of the offered version.
-            let image = demand::image(r, length, version.wrapping_add(1), part.id);
+            let image = demand::image(r, length, version.wrapping_add(1), component.id);
             records_for(r, &image)
         }
         4 => {
-            let image = demand::image(r, length, version, part.id);
+            let image = demand::image(r, length, version, component.id);
             let mut records = records_for(r, &image);
             let place = r.below(records.len() + 1);
-            let address = r.pick(&[part.length, part.length - 1, u32::MAX, u32::MAX - 1]);
+            let address = r.pick(&[component.length, component.length - 1, u32::MAX, u32::MAX - 1]);
             records.insert(place, (address, r.bytes(2)));
             records
         }
@@ -91,7 +91,7 @@ fn bad_records(r: &mut Random, part: &Part, version: u32) -> Vec<(u32, Vec<u8>)>
 fn entries_for(r: &mut Random, device: &DeviceRecord) -> Vec<Entry> {
     let all_good = r.percent(75);
     let chain = r.percent(30);
-    let mut ids: Vec<u8> = device.listed().iter().map(|part| part.id).collect();
+    let mut ids: Vec<u8> = device.listed().iter().map(|component| component.id).collect();
     ids.extend((10..=12).filter(|_| r.percent(12)));
     r.shuffle(&mut ids);
     let count = if r.percent(50) { ids.len().min(OFFER_LIMIT) } else { r.between(1, ids.len().min(OFFER_LIMIT)) };
@@ -100,7 +100,7 @@ fn entries_for(r: &mut Random, device: &DeviceRecord) -> Vec<Entry> {
     let offered: Vec<(u8, u32)> = ids
         .iter()
         .map(|id| {
-            let running = device.listed().iter().find(|part| part.id == *id).map_or(0x0100_0000, |part| part.running);
+            let running = device.listed().iter().find(|component| component.id == *id).map_or(0x0100_0000, |component| component.running);
             let version = match r.below(20) {
                 0 => running,
                 1 => running.wrapping_sub(1),
@@ -116,13 +116,13 @@ fn entries_for(r: &mut Random, device: &DeviceRecord) -> Vec<Entry> {
         let need = need_for(r, device, &offered, place, chain);
         let platform = if r.percent(96) { device.platform } else { device.platform ^ 1 };
         let offer = offer_packet(*id, *version, need, platform);
-        let records = match device.listed().iter().find(|part| part.id == *id) {
+        let records = match device.listed().iter().find(|component| component.id == *id) {
             None => vec![(r.next() as u32, r.bytes(r.clone().between(1, DATA_SIZE))), (0, vec![1])],
-            Some(part) if all_good || r.percent(60) => {
-                let image = demand::image(r, part.length as usize, *version, part.id);
+            Some(component) if all_good || r.percent(60) => {
+                let image = demand::image(r, component.length as usize, *version, component.id);
                 records_for(r, &image)
             }
-            Some(part) => bad_records(r, part, *version),
+            Some(component) => bad_records(r, component, *version),
         };
         entries.push(Entry { offer, records });
     }
@@ -145,8 +145,8 @@ fn need_for(r: &mut Random, device: &DeviceRecord, offered: &[(u8, u32)], place:
             need_bytes(id, version / 256 + r.pick(&[0, 0, 0, 1]))
         }
         7 | 8 => {
-            let part = r.pick(device.listed());
-            need_bytes(part.id, part.staged.unwrap_or(part.running) / 256 + r.pick(&[0, 0, 1]))
+            let component = r.pick(device.listed());
+            need_bytes(component.id, component.staged.unwrap_or(component.running) / 256 + r.pick(&[0, 0, 1]))
         }
         _ => need_bytes(r.pick(&[0xFE, 0xFF, 13, 0xE0]), r.below(2) as u32),
     }

@@ -509,12 +509,12 @@ fn write(staging: &mut [u8], region: Region, block: &Content) {
 // ------------------------------------------------------ image judgement
 
 /// Bytes 0-3.
-pub fn image_version(image: &[u8]) -> Version {
+fn image_version(image: &[u8]) -> Version {
     Version::from_bytes(&image[0..4])
 }
 
 /// Wrong CRC 0x05; wrong id 0x04; version below running 0x07; else 0.
-pub fn judge_image(component: &Component, image: &[u8]) -> u8 {
+fn judge_image(component: &Component, image: &[u8]) -> u8 {
     if !crc_right(image) {
         return 0x05;
     }

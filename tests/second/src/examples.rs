@@ -334,15 +334,15 @@ fn version_reply_either_way() {
     let read = read_version_reply(&noisy);
     assert_eq!(read.refused, None);
     assert_eq!(build_version_reply(&read.value).value, built);
-    for (at, byte) in [(0, 8), (3, 1), (3, 3)] {
+    for (at, byte) in [(0, MOST as u8 + 1), (3, 1), (3, 3)] {
         let mut bad = built;
         bad[at] = byte;
         let read = read_version_reply(&bad);
         assert_eq!((read.refused, read.value), (Some(Refusal::P2), VersionReply::default()));
     }
-    let bad = VersionReply { count: 8, protocol: 2, ..Default::default() };
+    let bad = VersionReply { count: MOST as u8 + 1, protocol: 2, ..Default::default() };
     assert_eq!(build_version_reply(&bad).refused, Some(Refusal::P2));
-    let bad = VersionReply { count: 7, protocol: 0x12, ..Default::default() };
+    let bad = VersionReply { count: MOST as u8, protocol: 0x12, ..Default::default() };
     assert_eq!(build_version_reply(&bad).refused, Some(Refusal::P2));
 }
 
@@ -371,7 +371,7 @@ fn bundle_rows() {
         assert_eq!(with(&[(at, 2)]), (Refusal::B2, 0));
     }
     assert_eq!(with(&[(0, 0)]), (Refusal::B3, 0));
-    assert_eq!(with(&[(0, 8)]), (Refusal::B3, 0));
+    assert_eq!(with(&[(0, MOST as u8 + 1)]), (Refusal::B3, 0));
     assert_eq!(refused(&good[..55]), (Refusal::B4, 0));
     assert_eq!(refused(&good[..56]), (Refusal::B7, 2));
     for (at, byte) in [(0, 1), (1, 1), (3, 1), (13, 1), (12, 3), (12, 0x12), (2, 0), (2, 0xE0)] {
@@ -539,7 +539,7 @@ impl Dice {
 /// A device of up to seven components with small versions, some pending,
 /// perhaps an open session.
 fn some_device(dice: &mut Dice) -> Device {
-    let count = 1 + dice.below(7) as u8;
+    let count = 1 + dice.below(MOST as u32) as u8;
     let mut device = Device { platform: 0x0042, staging: 8 * 16, count, ..Default::default() };
     for slot in 0..count as usize {
         let running = Version(256 * dice.below(4));
@@ -573,8 +573,9 @@ fn some_device(dice: &mut Dice) -> Device {
 /// so that many passes are run.
 fn some_offers(dice: &mut Dice, device: &Device) -> Vec<(Offer, Vec<u8>)> {
     let chained = dice.below(2) == 0;
-    let mut ids: Vec<u8> = if chained { (1..=7).collect() } else { (1..=9).collect() };
-    let count = if chained { 7 } else { 1 + dice.below(7) };
+    let most = MOST as u8;
+    let mut ids: Vec<u8> = if chained { (1..=most).collect() } else { (1..=most + 2).collect() };
+    let count = if chained { MOST as u32 } else { 1 + dice.below(MOST as u32) };
     let mut offers = Vec::new();
     for _ in 0..count {
         let id = ids.remove(dice.below(ids.len() as u32) as usize);
@@ -688,22 +689,25 @@ fn demand_3_searched() {
 
 #[test]
 fn demand_3_longest_run() {
-    let mut device = Device { platform: 0x0042, staging: 128, count: 7, ..Default::default() };
+    let most = MOST as u8;
+    let mut device = Device { platform: 0x0042, staging: 128, count: most, ..Default::default() };
     let mut offers = Vec::new();
-    for slot in 0..7u8 {
+    for slot in 0..most {
         let region = Region { base: StagingOffset(16 * slot as u32), length: 16 };
         device.components[slot as usize] =
             Component { id: 1 + slot, running: Version(256), region, staged: None };
-        let need = if slot == 6 { (0, 0) } else { (2 + slot, 2) };
+        let need = if slot + 1 == most { (0, 0) } else { (2 + slot, 2) };
         let body = body(&image(1 + slot, Version(512), 16), 7);
         offers.push((plain_offer(1 + slot, Version(512), need), body));
     }
     let left = run(0, &bundle_of(&offers), device, &mut [0; 128]);
     let report = left.report();
-    assert_eq!((report.end, report.completed), (Some(End::Done), 7));
-    assert_eq!((report.passes, report.packets), (7, 1 + 7 * 9 + 7 * 3));
+    // A pass is code 1, the offers and code 2; an image of 16 bytes is three blocks of 7.
+    let (count, pass) = (most as u32, most as u32 + 2);
+    assert_eq!((report.end, report.completed), (Some(End::Done), count));
+    assert_eq!((report.passes, report.packets), (count, 1 + count * pass + count * 3));
     offers.reverse();
     let other = run(0, &bundle_of(&offers), device, &mut [0; 128]);
-    assert_eq!((other.report().passes, other.report().packets), (1, 1 + 9 + 7 * 3));
+    assert_eq!((other.report().passes, other.report().packets), (1, 1 + pass + count * 3));
     assert_eq!(left.device, other.device);
 }

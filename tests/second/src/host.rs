@@ -154,11 +154,15 @@ impl Host {
     /// One step. It judges: bundle rows, N1, ended, fresh, H2, then H1 or
     /// the table.
     pub fn step(self, bundle: &[u8], reply: &[u8]) -> Stepped {
-        let read = match check(bundle) {
-            Err(fault) => return self.refuse(fault),
-            Ok(read) => read,
-        };
-        if self.breaks_n1(&read) {
+        match check(bundle) {
+            Err(fault) => self.refuse(fault),
+            Ok(read) => self.step_over(&read, reply),
+        }
+    }
+
+    /// The step over a bundle that passed the check: N1 and what follows.
+    pub fn step_over(self, bundle: &Bundle, reply: &[u8]) -> Stepped {
+        if self.breaks_n1(bundle) {
             return self.refuse(Fault { row: Refusal::N1, entry: 0 });
         }
         match self.stage {
@@ -167,8 +171,8 @@ impl Host {
             // The first step awaits no reply: code 0.
             Stage::Fresh => self.send_information(START_TRANSACTION, Stage::Opening),
             _ if self.breaks_h2(reply) => self.ending(End::H2),
-            Stage::Sending { entry, record } => self.after_content(&read, entry, record, reply),
-            _ => self.after_offer(&read, reply),
+            Stage::Sending { entry, record } => self.after_content(bundle, entry, record, reply),
+            _ => self.after_offer(bundle, reply),
         }
     }
 

@@ -1,10 +1,18 @@
-//! Numbers and records in the payload of a frame, and what is printed of a
-//! record (tests/device/README.md).
+//! The frames of a script, numbers and records in the payload of a frame, and
+//! what is printed of a record (tests/device/README.md).
 
 use crate::device::{
     Component, Device, Listed, Offered, Receiving, Region, Stage, StagingOffset,
 };
+use crate::packets::MOST;
 use crate::version::Version;
+
+/// Kind, payload and the rest; nothing at the end or at a cut frame.
+pub fn next_frame(rest: &[u8]) -> Option<(u8, &[u8], &[u8])> {
+    let length = *rest.get(1)? as usize + 256 * *rest.get(2)? as usize;
+    let end = 3 + length;
+    Some((rest[0], rest.get(3..end)?, &rest[end..]))
+}
 
 /// A reader of little-endian numbers.
 pub struct Numbers<'a> {
@@ -39,9 +47,8 @@ pub fn read_listed(numbers: &mut Numbers) -> Listed {
     }
 }
 
-/// The payload of K, as it stands.
-pub fn read_record(payload: &[u8]) -> Device {
-    let mut numbers = Numbers { rest: payload };
+/// A record, as it stands; what follows it is the rest.
+pub fn read_record(numbers: &mut Numbers) -> Device {
     let platform = numbers.two();
     let staging = numbers.four();
     let count = numbers.one();
@@ -54,9 +61,9 @@ pub fn read_record(payload: &[u8]) -> Device {
     };
     let (owes, owed_token) = (numbers.one(), numbers.one());
     let owed = if owes == 1 { Some(owed_token) } else { None };
-    let mut components = [Component::default(); 7];
+    let mut components = [Component::default(); MOST];
     for component in components.iter_mut() {
-        let listed = read_listed(&mut numbers);
+        let listed = read_listed(numbers);
         let (pending, version) = (numbers.one(), Version(numbers.four()));
         *component = Component {
             id: listed.id,

@@ -1,7 +1,5 @@
-//! The time of each call and of whole sessions: the static library, the made crate and the second implementation, in one table. Not a test of times: it ends
-//! with status 1 only where the three leave different bytes.
-
-mod plain;
+//! The time of each call and of whole sessions: the static library, the made crate and the second implementation, in one table; and of the firmware's entry, in
+//! a second one. Not a test of times: it ends with status 1 only where the three leave different bytes.
 
 use std::hint::black_box;
 
@@ -115,7 +113,7 @@ fn device(count: usize, staging: usize) -> DeviceRecord {
     let mut record = DeviceRecord { platform: 0x0042, staging: staging as u32, count: count as u8, ..Default::default() };
     let length = (staging / count) as u32;
     for slot in 0..count {
-        record.parts[slot] = Part { id: slot as u8 + 1, running: OLD, base: slot as u32 * length, length, staged: None };
+        record.components[slot] = Component { id: slot as u8 + 1, running: OLD, base: slot as u32 * length, length, staged: None };
     }
     record
 }
@@ -150,9 +148,9 @@ fn bundle_for(record: &DeviceRecord, size: usize) -> Vec<u8> {
     let entries: Vec<Entry> = record
         .listed()
         .iter()
-        .map(|part| {
-            let image = image(part.length as usize, used, part.id);
-            Entry { offer: offer_packet(part.id, NEW, [0; 4], record.platform), records: records(&image, size) }
+        .map(|component| {
+            let image = image(component.length as usize, used, component.id);
+            Entry { offer: offer_packet(component.id, NEW, [0; 4], record.platform), records: records(&image, size) }
         })
         .collect();
     bundle(&entries)
@@ -160,7 +158,7 @@ fn bundle_for(record: &DeviceRecord, size: usize) -> Vec<u8> {
 
 /// An offer for the last component.
 fn offer_for(record: &DeviceRecord) -> [u8; SHORT_SIZE] {
-    let id = record.listed().last().map_or(1, |part| part.id);
+    let id = record.listed().last().map_or(1, |component| component.id);
     let mut packet = offer_packet(id, NEW, [0; 4], record.platform);
     packet[offer_at::TOKEN] = TOKEN;
     packet
@@ -278,56 +276,42 @@ fn library_session(bundle: &[u8], device: &mut [u8; DEVICE_SIZE], staging: &mut 
     }
 }
 
-/// The same steps with the second implementation's check, packets and device, and the plain host.
+/// The same steps by the second implementation: one check, then a step over the checked bundle and a packet in turn.
 fn second_session(bundle: &[u8], device: second::device::Device, staging: &mut [u8]) -> (SecondHost, second::device::Device) {
     let mut host = SecondHost::fresh(TOKEN);
     let mut device = device;
     let Ok(read) = second::bundle::check(bundle) else { return (host, device) };
     let mut reply = [0; SHORT_SIZE];
     loop {
-        let (next, answer) = match plain::step(&read, &mut host, &reply) {
-            plain::Next::Packet(Packet::ForOffer(packet)) => device.offer(staging, &packet),
-            plain::Next::Packet(Packet::ForContent(packet)) => device.content(staging, &packet),
-            _ => return (host, device),
+        let stepped = host.step_over(&read, &reply);
+        host = stepped.host;
+        let (next, answer) = match stepped.packet {
+            Some(Packet::ForOffer(packet)) => device.offer(staging, &packet),
+            Some(Packet::ForContent(packet)) => device.content(staging, &packet),
+            None => return (host, device),
         };
         device = next;
         reply = reply_of(answer);
     }
 }
 
-/// The same session with the device changed in place and no row D1.
-fn plain_session(bundle: &[u8], device: second::device::Device, staging: &mut [u8]) -> (SecondHost, second::device::Device) {
-    let mut host = SecondHost::fresh(TOKEN);
-    let mut device = device;
-    let Ok(read) = second::bundle::check(bundle) else { return (host, device) };
-    let mut reply = [0; SHORT_SIZE];
-    loop {
-        reply = match plain::step(&read, &mut host, &reply) {
-            plain::Next::Packet(Packet::ForOffer(packet)) => plain::offer_in_place(&mut device, &packet),
-            plain::Next::Packet(Packet::ForContent(packet)) => plain::content_in_place(&mut device, staging, &packet),
-            _ => return (host, device),
-        };
-    }
-}
-
-/// A whole session of all, and last the one in place.
+/// A whole session of all.
 fn session_row(what: &str, record: &DeviceRecord, bytes: &[u8]) -> Row {
     let staging = vec![0; record.staging as usize];
-    let mut stagings = [staging.clone(), staging.clone(), staging.clone(), staging];
-    let [own, made_own, other_own, plain_own] = &mut stagings;
+    let mut stagings = [staging.clone(), staging.clone(), staging];
+    let [own, made_own, other_own] = &mut stagings;
     let before = record.bytes();
     let (made_device, other_device) = (made::device_of(record), other::device_of(record));
     let mut kept = before;
     let report = library_session(bytes, &mut kept, own);
     let made_left = made_run(bytes, TOKEN, made_device, made_own);
     let (host, left) = second_session(bytes, other_device, other_own);
-    let (plain_host, plain_left) = plain_session(bytes, other_device, plain_own);
     expect(what, report.ending == DONE && report.completed == record.count as u32);
-    expect(what, made_left.report.packets == report.packets && host.packets == report.packets && plain_host == host);
+    expect(what, made_left.report.packets == report.packets && host.packets == report.packets);
     expect(what, made_left.report.mask == report.mask && host.mask == report.mask);
     expect(what, made::record_of(&made_left.device).bytes() == kept);
-    expect(what, other::record_of(&left).bytes() == kept && plain_left == left);
-    expect(what, own == made_own && made_own == other_own && other_own == plain_own);
+    expect(what, other::record_of(&left).bytes() == kept);
+    expect(what, own == made_own && made_own == other_own);
     measure(
         format!("session, {what}, {} packets", report.packets),
         &mut [
@@ -340,9 +324,6 @@ fn session_row(what: &str, record: &DeviceRecord, bytes: &[u8]) -> Row {
             },
             &mut || {
                 black_box(second_session(black_box(bytes), other_device, other_own));
-            },
-            &mut || {
-                black_box(plain_session(black_box(bytes), other_device, plain_own));
             },
         ],
     )
@@ -374,28 +355,29 @@ fn main() {
     let mut rows = Vec::new();
     let two = device(2, 128);
     let small = bundle_for(&two, DATA_SIZE);
-    let seven = device(COMPONENT_LIMIT, STAGING_LIMIT);
+    let most = device(COMPONENT_LIMIT, STAGING_LIMIT);
     let one = device(1, STAGING_LIMIT);
     rows.push(check_row(&format!("{} bytes", small.len()), &small));
-    for (record, size) in [(device(1, 4096), DATA_SIZE), (one, DATA_SIZE), (seven, DATA_SIZE), (one, 1)] {
+    for (record, size) in [(device(1, 4096), DATA_SIZE), (one, DATA_SIZE), (most, DATA_SIZE), (one, 1)] {
         let bytes = bundle_for(&record, size);
         let (length, count) = (bytes.len(), record.count);
         rows.push(check_row(&format!("{length} bytes, {count} offer{}, records of {size}", if count == 1 { "" } else { "s" }), &bytes));
     }
     let packets = packet_rows();
     let mut sessions = vec![session_row("2 images of 64 bytes", &two, &small)];
-    for (record, size) in [(device(1, 4096), DATA_SIZE), (device(1, 16_384), DATA_SIZE), (one, DATA_SIZE), (seven, DATA_SIZE), (one, 1)] {
+    for (record, size) in [(device(1, 4096), DATA_SIZE), (device(1, 16_384), DATA_SIZE), (one, DATA_SIZE), (most, DATA_SIZE), (one, 1)] {
         let bytes = bundle_for(&record, size);
-        let (count, length) = (record.count, record.parts[0].length);
+        let (count, length) = (record.count, record.components[0].length);
         let plural = if count == 1 { "" } else { "s" };
         sessions.push(session_row(&format!("{count} image{plural} of {length} bytes, records of {size}"), &record, &bytes));
     }
     println!("nanoseconds of the processor, least of {REPETITIONS}; a session is one bundle check and then the host's steps and the device's calls in turn:");
     println!("  library: cfu_bundle_check, cfu_host_step_checked, cfu_device_offer and cfu_device_content");
     println!("  crate:   bundle::check, Device::offer and Device::content; update::run for a session");
-    println!("  second:  the second implementation's check, packets and device (row D1 at each packet), a plain host with row N1 at each step");
+    println!(
+        "  second:  the second implementation's check, device (row D1 at each packet) and host's step over the checked bundle (row N1 at each step)"
+    );
     println!("  firmware: firmware::serve_lent of the crate, the firmware's entry by value");
-    println!("  in place: the same plain host, a plain device that is changed by reference and does not judge row D1");
     println!();
     println!("| | library | crate | second | library/second | crate/second |");
     println!("|---|---:|---:|---:|---:|---:|");
@@ -409,12 +391,5 @@ fn main() {
     for row in &packets {
         let t = &row.times;
         println!("| {} | {:.0} | {:.2} | {:.2} | {:.2} |", row.what, t[3], t[3] / t[0], t[3] / t[1], t[3] / t[2]);
-    }
-    println!();
-    println!("| | in place | library/in place | crate/in place | second/in place |");
-    println!("|---|---:|---:|---:|---:|");
-    for row in &sessions {
-        let t = &row.times;
-        println!("| {} | {:.0} | {:.2} | {:.2} | {:.2} |", row.what, t[3], t[0] / t[3], t[1] / t[3], t[2] / t[3]);
     }
 }

@@ -7,7 +7,7 @@ enum-told : tie.Need-enum-told
 enum-told c = search needs
 
 returns : tie.Need-returns
-returns c = rw (c .before .before .enum-told .given .1, c .before .no-offer .ensures, c .no-signal .ensures)
+returns c = rw (c .before .before .before .enum-told .given .1, c .before .before .packet-number .ensures, c .before .no-offer .ensures, c .no-signal .ensures)
 
 returns-2 : tie.Need-returns-2
 returns-2 c = rw (c .before .before .before .read .given .1, c .before .offer-fields .ensures, c .no-signal2 .ensures)
@@ -23,7 +23,7 @@ packet-fields-spec =
     tie.close
     (tie.spec
     enum-told
-    (λ c. search needs)
+    (λ c κs. search needs)
     (λ c κs. search needs)
     (λ c κs. search needs)
     (λ c. search needs)

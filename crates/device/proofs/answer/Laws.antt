@@ -5,8 +5,7 @@ use mathlib.Core.Bool.{Bool, true, false, not, cond, true≢false}
 use mathlib.Core.List.{List}
 use lib.Dec.{eqb}
 use Rattle.device.specs.declared.record.Device.{Device}
-use Rattle.device.specs.Refusals.{Row, served, D, rowAt, isRefused, Outcome, refusedBy, unlessRefused}
-use Rattle.device.specs.Content.{stagingUnless}
+use Rattle.device.specs.Refusals.{Row, served, D, rowAt, isRefused, keptBy, Outcome, refusedBy, unlessRefused}
 
 -- by the number of the row
 pub refuses-at : (n : ℕ) → not (eqb n 0) ≡ isRefused (rowAt n)
@@ -24,6 +23,6 @@ pub one-refuses : (row : Row) (d : Device) (answer : Outcome) → isRefused row 
 one-refuses served d answer h = absurd (true≢false (sym h))
 one-refuses (D k) d answer h = refl
 
-pub one-keeps : (row : Row) (s after : List ℕ) → isRefused row ≡ true → stagingUnless row s after ≡ s
+pub one-keeps : (row : Row) (s after : List ℕ) → isRefused row ≡ true → keptBy row s after ≡ s
 one-keeps served s after h = absurd (true≢false (sym h))
 one-keeps (D k) s after h = refl

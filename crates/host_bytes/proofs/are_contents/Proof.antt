@@ -4,7 +4,7 @@ use Rattle.host_bytes.proofs.are_contents.Statement.{statement}
 use Rattle.host_bytes.proofs.are_contents.Tie as tie
 
 returns : tie.Need-returns
-returns c = rw (c .byte-at2 .ensures, c .before .byte-at .ensures)
+returns c = rw (c .count-in .ensures, c .before .row-in .ensures)
 
 pub are-contents-spec : {M : Type 1} → statement M
 are-contents-spec = tie.close (tie.spec (λ c κs. search needs) (λ c κs. search needs) (λ c. search needs) returns)

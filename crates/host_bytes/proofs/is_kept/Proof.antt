@@ -6,17 +6,16 @@ use Rattle.host_bytes.proofs.is_kept.Tie as tie
 
 returns : tie.Need-returns
 returns c =
-    let s = c .before .before .before .before .before in
+    let w = c .before .before .before in
+    let s = w .before .before in
     let a = s .before .before .args in
-    rw (c .before .word32-at2 .ensures, c .before .before .before .word32-at .ensures, s .stage-words .ensures) (kept-test (a .q .now) (a .stage))
+    rw (w .word32-at2 .ensures, w .before .word32-at .ensures, s .stage-words .ensures) (kept-test (a .q .now) (a .stage))
 
 pub is-kept-spec : {M : Type 1} → statement M
 is-kept-spec =
     tie.close
     (tie.spec
     (λ c κs. search needs)
-    (λ c. search needs)
     (λ c κs. search needs)
-    (λ c. search needs)
     (λ c κs. search needs)
     returns)

@@ -13,6 +13,14 @@ cast-body-from : tie.Need-cast-body-from
 cast-body-from c =
     let a = c .before .before .args in omega (arith, entry-listed (eqb (length (a .q .now)) CONTENTS-SIZE) (a .i) (c .if1 .taken))
 
+mul-body-from : tie.Need-mul-body-from
+mul-body-from c =
+    let a = c .before .before .args in omega (arith, entry-listed (eqb (length (a .q .now)) CONTENTS-SIZE) (a .i) (c .if1 .taken))
+
+add-body-from : tie.Need-add-body-from
+add-body-from c =
+    let a = c .before .before .args in omega (arith, entry-listed (eqb (length (a .q .now)) CONTENTS-SIZE) (a .i) (c .if1 .taken))
+
 body-from-requires : tie.Need-body-from-requires
 body-from-requires c κs =
     let a = c .before .before .args in omega (arith, entry-listed (eqb (length (a .q .now)) CONTENTS-SIZE) (a .i) (c .if1 .taken))
@@ -31,4 +39,10 @@ returns-2 c = rw (c .if1 .left)
 pub read-body-spec : {M : Type 1} → statement M
 read-body-spec =
     tie.close
-    (tie.spec (λ c. search needs) (λ c. search needs) cast-body-from body-from-requires returns returns-2)
+    (tie.spec
+    cast-body-from
+    mul-body-from
+    add-body-from
+    body-from-requires
+    returns
+    returns-2)

@@ -1,6 +1,6 @@
 -- `read_host` meets its contract: the fields, each from its bytes, where the length and the flags are a record's. Assumes nothing.
 use mathlib.Core.Bool.{true, false}
-use Rattle.host_bytes.proofs.Record.{flags-read, fields-read, read-fits, read-lost}
+use Rattle.host_bytes.proofs.Record.{flags-read, fields-read, read-fits, read-refused}
 use borrow.Author.Needs.{needs}
 use Rattle.host_bytes.proofs.read_host.Statement.{statement}
 use Rattle.host_bytes.proofs.read_host.Tie as tie
@@ -34,30 +34,25 @@ returns-2 c =
     let e = x .before in
     let n = e .before in
     let b = n .before .before .args .b .now in
-    read-lost b _
+    read-refused b _
     (flags-read b (n .byte-at .result) (e .word32-at .result) (x .byte-at2 .result) (y .byte-at3 .result) false (f .are-flags .result) (n .byte-at .ensures) (e .word32-at .ensures) (x .byte-at2 .ensures) (y .byte-at3 .ensures) (f .are-flags .ensures)
     (t .if1 .left))
-    (c .lost-host .ensures)
+    (c .refused-host .ensures)
 
 pub read-host-spec : {M : Type 1} → statement M
 read-host-spec =
     tie.close
     (tie.spec
     (λ c κs. search needs)
-    (λ c. search needs)
     (λ c κs. search needs)
     (λ c κs. search needs)
     (λ c κs. search needs)
     (λ c κs. search needs)
-    (λ c. search needs)
     (λ c κs. search needs)
     (λ c κs. search needs)
     (λ c κs. search needs)
-    (λ c. search needs)
     (λ c κs. search needs)
-    (λ c. search needs)
     (λ c κs. search needs)
-    (λ c. search needs)
     (λ c κs. search needs)
     (λ c κs. search needs)
     returns

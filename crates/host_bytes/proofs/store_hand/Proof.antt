@@ -10,12 +10,10 @@ returns : tie.Need-returns
 returns c =
     let x = c .before .before in
     let b = x .before .before .before in
-    let v = b .before .before .before in
-    let u = v .before .before .before .before in
-    let t = u .before .before in
+    let p = b .before .before .before in
+    let t = p .before .before .before in
     let a = t .before .before .args in
-    rw (eq-eqb _ _ (t .if1 .taken)) (hand-stored (a .q .now) (u .put32 .last .0) (v .put322 .last .0) (b .bytes64 .result) (x .copy .last .0) (a .entry) (a .block) (a .cursor) 8 refl (t .if1 .taken) (u .put32 .ensures) (v .put322 .ensures)
-    (b .bytes64 .ensures) (x .copy .ensures))
+    rw (eq-eqb _ _ (t .if1 .taken)) (hand-stored (a .q .now) (p .put-words .last .0) (b .bytes64 .result) (x .copy .last .0) (a .entry) (a .block) (a .cursor) _ refl (t .if1 .taken) (p .put-words .ensures) (b .bytes64 .ensures) (x .copy .ensures))
 
 returns-2 : tie.Need-returns-2
 returns-2 c = rw (ne-eqb _ _ (c .if1 .left))
@@ -24,10 +22,10 @@ pub store-hand-spec : {M : Type 1} → statement M
 store-hand-spec =
     tie.close
     (tie.spec
-    (λ c κs. search needs)
     (λ c. search needs)
     (λ c κs. search needs)
     (λ c κs. search needs)
+    (λ c. search needs)
     (λ c. search needs)
     (λ c. search needs)
     (λ c. search needs)

@@ -23,12 +23,11 @@ loop-holds c = (search needs, search needs, search needs, sym (append-nil _))
 
 loop-again : tie.Need-loop-again Inv-loop μ-loop
 loop-again c =
-    let z = c .before in
-    let y = z .before .before .before in
-    let x = y .before .before .before in
-    let l = x .before .before .before .before .loop in
-    let a = x .before .before .before .before .before .args in
-    let w = body-written (l .out) (take BODIES-START (a .t1)) (x .put32 .last .0) (y .put322 .last .0) (z .put323 .last .0) (a .t2) (l .i) (omega arith) (l .inv .1) (l .inv .2) (x .put32 .ensures) (y .put322 .ensures) (z .put323 .ensures) (l .inv .3) in
+    let x = c .before in
+    let t = x .before .before .before .before .before in
+    let l = t .loop in
+    let a = t .before .args in
+    let w = body-written (l .out) (take BODIES-START (a .t1)) (x .put-words .last .0) (a .t2) (l .i) (omega arith) (l .inv .1) (l .inv .2) (x .put-words .ensures) (l .inv .3) in
     (omega arith, l .inv .1, w .0, w .1)
 
 returns : tie.Need-returns Inv-loop μ-loop
@@ -48,10 +47,7 @@ with-bodies-spec =
     (λ c. search needs)
     (λ c. search needs)
     (λ c. search needs)
-    (λ c κs. search needs)
     (λ c. search needs)
-    (λ c. search needs)
-    (λ c κs. search needs)
     (λ c. search needs)
     (λ c. search needs)
     (λ c κs. search needs)

@@ -7,7 +7,7 @@ use borrow.Author.Tests.{ltb-false, leb-false}
 use lib.Dec.{leb, ltb}
 use Rattle.wire.proofs.Tests.{neither}
 use Rattle.bundle_layout.specs.Layout.{OFFER-LIMIT}
-use Rattle.host_record.specs.Room.{Spare, RoomIn, Room}
+use Rattle.host_record.specs.Spare.{Spare, SpareIn, SpareCounts}
 use Rattle.host_record.specs.Fits.{BUSY-LIMIT, PACKET-LIMIT, turnBreaks, placeBreaks, stageBreaks, recordBreaks}
 use Rattle.host_record.specs.declared.record.Host.{Host}
 use Rattle.host_record.specs.declared.record.Turn.{Turn}
@@ -26,21 +26,21 @@ module _ (n k : ℕ) (few : n < 256) (fits : k < 2 ^ 32) where
       let q = neither (leb OFFER-LIMIT (p .entry)) (leb k (p .block)) (neither (leb n (p .entry)) _ h .1) in
       (omega (arith, leb-false OFFER-LIMIT (p .entry) (q .0)), omega (arith, leb-false k (p .block) (q .1)))
 
-  stage-room : (s : HostStage) → stageBreaks n k s ≡ false → RoomIn s
-  stage-room Fresh h = tt
-  stage-room Opening h = tt
-  stage-room Listing h = tt
-  stage-room (Offering t) h = turn-room t h
-  stage-room (Waiting t) h = turn-room t h
-  stage-room (Sending p) h = place-room p h
-  stage-room Closing h = tt
-  stage-room (Ended e) h = tt
+  stage-spare : (s : HostStage) → stageBreaks n k s ≡ false → SpareIn s
+  stage-spare Fresh h = tt
+  stage-spare Opening h = tt
+  stage-spare Listing h = tt
+  stage-spare (Offering t) h = turn-room t h
+  stage-spare (Waiting t) h = turn-room t h
+  stage-spare (Sending p) h = place-room p h
+  stage-spare Closing h = tt
+  stage-spare (Ended e) h = tt
 
   -- a record, over a bundle of fewer than 256 offers where the body in hand has fewer than 2^32 records
-  pub room : (h : Host) → recordBreaks n k h ≡ false → Room h × RoomIn (h .stage)
+  pub room : (h : Host) → recordBreaks n k h ≡ false → SpareCounts h × SpareIn (h .stage)
   room h e =
       let p = neither (stageBreaks n k (h .stage)) _ e in
       let q = neither (ltb n (h .passes)) _ (p .1) in
       let r = neither (leb PACKET-LIMIT (h .packets)) (leb (2 ^ n) (h .mask)) (q .1) in
       let a = ltb-false n (h .passes) (q .0) in
-      let b = leb-false PACKET-LIMIT (h .packets) (r .0) in ((omega arith, omega arith), stage-room (h .stage) (p .0))
+      let b = leb-false PACKET-LIMIT (h .packets) (r .0) in ((omega arith, omega arith), stage-spare (h .stage) (p .0))

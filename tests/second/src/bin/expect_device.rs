@@ -1,11 +1,12 @@
 //! Runs a script of frames (tests/device/README.md) from standard input against the
-//! device and prints one line for each frame.
+//! device and prints what each frame gives.
 #![forbid(unsafe_code)]
 
 use std::io::{Read, Write};
 
 use second::device::{set_up, Answer, Device, Listed};
-use second::script::{hex, read_listed, read_record, record_line, Numbers};
+use second::packets::MOST;
+use second::script::{hex, next_frame, read_listed, read_record, record_line, Numbers};
 
 const BUFFER: usize = 65_600;
 
@@ -13,62 +14,61 @@ const BUFFER: usize = 65_600;
 struct Bench {
     device: Device,
     buffer: Vec<u8>,
-    lent: usize,
 }
 
 fn main() -> std::io::Result<()> {
     let mut script = Vec::new();
     std::io::stdin().read_to_end(&mut script)?;
-    let mut bench = Bench { device: Device::default(), buffer: vec![0; BUFFER], lent: 0 };
+    let mut bench = Bench { device: Device::default(), buffer: vec![0; BUFFER] };
     let mut out = Vec::new();
     let mut rest = &script[..];
     while let Some((kind, payload, after)) = next_frame(rest) {
         out.extend(bench.frame(kind, payload));
-        out.push(b'\n');
         rest = after;
     }
     std::io::stdout().write_all(&out)
 }
 
-/// Kind, payload and the rest; nothing at the end or at a cut frame.
-fn next_frame(rest: &[u8]) -> Option<(u8, &[u8], &[u8])> {
-    if rest.len() < 2 || rest.len() < 2 + rest[1] as usize {
-        return None;
-    }
-    let end = 2 + rest[1] as usize;
-    Some((rest[0], &rest[2..end], &rest[end..]))
+/// How many bytes are lent, and what is asked.
+fn lent(payload: &[u8]) -> (usize, Numbers<'_>) {
+    let mut numbers = Numbers { rest: payload };
+    (numbers.four() as usize, numbers)
 }
 
 impl Bench {
-    /// One frame: what is done, and the line.
+    /// One frame: what is done, and what is printed.
     fn frame(&mut self, kind: u8, payload: &[u8]) -> Vec<u8> {
-        let line = match (kind, payload.len()) {
-            (b'#', _) => return payload.to_vec(),
-            (b'S', 98) => self.set_up(payload),
-            (b'V', 0) => self.version_reply(),
-            (b'O', _) => self.offer(payload),
-            (b'C', _) => self.content(payload),
-            (b'R', 0) => self.reset(),
-            (b'L', 4) => self.lend(payload),
-            (b'K', 140) => self.set_record(payload),
-            (b'D', 0) => record_line(&self.device),
-            (b'B', 5) => self.staging_line(payload),
-            (b'F', 1) => self.fill(payload[0]),
-            _ => "bad frame".to_string(),
+        let line = match kind {
+            b'#' => return payload.to_vec(),
+            b'S' => self.set_up(payload),
+            b'V' => self.version_reply(),
+            b'O' => self.offer(payload),
+            b'C' => self.content(payload),
+            b'R' => self.reset(),
+            b'D' => record_line(&self.device),
+            b'B' => self.staging_line(payload),
+            b'K' => {
+                self.device = read_record(&mut Numbers { rest: payload });
+                return Vec::new();
+            }
+            b'F' => {
+                self.buffer.fill(payload[0]);
+                return Vec::new();
+            }
+            _ => panic!("a frame of no kind"),
         };
-        line.into_bytes()
+        (line + "\n").into_bytes()
     }
 
     fn set_up(&mut self, payload: &[u8]) -> String {
-        let mut numbers = Numbers { rest: payload };
+        let (lent, mut numbers) = lent(payload);
         let platform = numbers.two();
-        self.lent = (numbers.four() as usize).min(BUFFER);
         let count = numbers.one();
-        let mut list = [Listed::default(); 7];
+        let mut list = [Listed::default(); MOST];
         for listed in list.iter_mut() {
             *listed = read_listed(&mut numbers);
         }
-        let made = set_up(platform, &list, count, &self.buffer[..self.lent]);
+        let made = set_up(platform, &list, count, &self.buffer[..lent]);
         self.device = made.value;
         match made.refused {
             None => "set-up: served".to_string(),
@@ -84,14 +84,16 @@ impl Bench {
         }
     }
 
-    fn offer(&mut self, report: &[u8]) -> String {
-        let (next, answer) = self.device.offer(&self.buffer[..self.lent], report);
+    fn offer(&mut self, payload: &[u8]) -> String {
+        let (lent, Numbers { rest: report }) = lent(payload);
+        let (next, answer) = self.device.offer(&self.buffer[..lent], report);
         self.device = next;
         format!("offer {}: {}", hex(report), answer_text(&answer))
     }
 
-    fn content(&mut self, report: &[u8]) -> String {
-        let (next, answer) = self.device.content(&mut self.buffer[..self.lent], report);
+    fn content(&mut self, payload: &[u8]) -> String {
+        let (lent, Numbers { rest: report }) = lent(payload);
+        let (next, answer) = self.device.content(&mut self.buffer[..lent], report);
         self.device = next;
         format!("content {}: {}", hex(report), answer_text(&answer))
     }
@@ -105,29 +107,11 @@ impl Bench {
         }
     }
 
-    fn lend(&mut self, payload: &[u8]) -> String {
-        let number = Numbers { rest: payload }.four();
-        self.lent = (number as usize).min(BUFFER);
-        format!("lent {number}")
-    }
-
-    fn set_record(&mut self, payload: &[u8]) -> String {
-        self.device = read_record(payload);
-        "record set".to_string()
-    }
-
     fn staging_line(&self, payload: &[u8]) -> String {
         let mut numbers = Numbers { rest: payload };
-        let offset = numbers.four();
+        let start = numbers.four() as usize;
         let count = numbers.one() as usize;
-        let start = (offset as usize).min(BUFFER);
-        let end = (start + count).min(BUFFER);
-        format!("staging from {offset}: {}", hex(&self.buffer[start..end]))
-    }
-
-    fn fill(&mut self, value: u8) -> String {
-        self.buffer.fill(value);
-        format!("filled {value:02x}")
+        hex(&self.buffer[start..start + count])
     }
 }
 

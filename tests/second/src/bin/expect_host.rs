@@ -6,7 +6,7 @@ use std::io::{Read, Write};
 
 use second::host::{End, Host, Packet, Stage, Stepped};
 use second::refusal::Refusal;
-use second::script::{hex, Numbers};
+use second::script::{hex, next_frame, Numbers};
 
 fn main() -> std::io::Result<()> {
     let mut script = Vec::new();
@@ -20,7 +20,6 @@ fn main() -> std::io::Result<()> {
         match kind {
             b'#' => {
                 out.extend(payload);
-                out.push(b'\n');
                 continue;
             }
             b'B' => {
@@ -38,13 +37,6 @@ fn main() -> std::io::Result<()> {
         out.extend(format!("{}\n", record_text(&host)).as_bytes());
     }
     std::io::stdout().write_all(&out)
-}
-
-/// Kind, payload and the rest; nothing at the end or at a cut frame.
-fn next_frame(rest: &[u8]) -> Option<(u8, &[u8], &[u8])> {
-    let length = *rest.get(1)? as usize + 256 * *rest.get(2)? as usize;
-    let end = 3 + length;
-    Some((rest[0], rest.get(3..end)?, &rest[end..]))
 }
 
 /// The payload of K, as it stands.

@@ -1,5 +1,6 @@
 //! Runs a script of whole runs (tests/update/README.md) from standard input
-//! and prints what each comes to.
+//! and prints, with the word `turns`, what passes between both ends, and
+//! otherwise what each run answers.
 #![forbid(unsafe_code)]
 
 use std::fmt::Write as _;
@@ -10,9 +11,10 @@ use second::device::{Answer, Device};
 use second::host::{End, Host, Packet};
 use second::refusal::Refusal;
 use second::run::run;
-use second::script::{hex, read_record, record_line};
+use second::script::{hex, next_frame, read_record, record_line, Numbers};
 
 fn main() -> std::io::Result<()> {
+    let turns = std::env::args().nth(1).as_deref() == Some("turns");
     let mut script = Vec::new();
     std::io::stdin().read_to_end(&mut script)?;
     let mut out = Vec::new();
@@ -20,44 +22,38 @@ fn main() -> std::io::Result<()> {
     while let Some((kind, payload, after)) = next_frame(rest) {
         if kind == b'#' {
             out.extend(payload);
-            out.push(b'\n');
         } else {
-            out.extend(case(payload).as_bytes());
+            out.extend(case(payload, turns).as_bytes());
         }
         rest = after;
     }
     std::io::stdout().write_all(&out)
 }
 
-/// Kind, payload and the rest; nothing at the end or at a cut frame.
-fn next_frame(rest: &[u8]) -> Option<(u8, &[u8], &[u8])> {
-    let length = *rest.get(1)? as usize + 256 * *rest.get(2)? as usize;
-    let end = 3 + length;
-    Some((rest[0], rest.get(3..end)?, &rest[end..]))
-}
-
 /// A run: token, fill byte, the record, the bundle.
-fn case(payload: &[u8]) -> String {
-    let device = read_record(&payload[2..142]);
-    let bundle = &payload[142..];
-    let mut staging = vec![payload[1]; device.staging as usize];
-    let mut text = format!("{}\n", record_line(&device));
-    match refused(&device, bundle) {
-        Some(row) => {
-            let _ = writeln!(text, "{row}; {}", report(&Host::fresh(payload[0])));
-            let _ = writeln!(text, "{}", record_line(&device));
+fn case(payload: &[u8], turns: bool) -> String {
+    let mut numbers = Numbers { rest: payload };
+    let (token, fill) = (numbers.one(), numbers.one());
+    let device = read_record(&mut numbers);
+    let bundle = numbers.rest;
+    let mut staging = vec![fill; device.staging as usize];
+    let mut text = String::new();
+    let mut last = device;
+    if turns {
+        let left = run(token, bundle, device, &mut staging);
+        last = left.device;
+        let _ = writeln!(text, "{}", record_line(&device));
+        for exchange in &left.trace {
+            let _ = writeln!(text, "{}: {}", packet_text(&exchange.packet), answer_text(&exchange.packet, &exchange.answer));
         }
-        None => {
-            let left = run(payload[0], bundle, device, &mut staging);
-            for exchange in &left.trace {
-                let _ = writeln!(text, "{}: {}", packet_text(&exchange.packet), answer_text(&exchange.packet, &exchange.answer));
-            }
-            let _ = writeln!(text, "{}", report(&left.host));
-            let _ = writeln!(text, "{}", record_line(&left.device));
-        }
+    } else if let Some(row) = refused(&device, bundle) {
+        let _ = writeln!(text, "{row}; {}", report(&Host::fresh(token)));
+    } else {
+        let left = run(token, bundle, device, &mut staging);
+        last = left.device;
+        let _ = writeln!(text, "{}", report(&left.host));
     }
-    let _ = writeln!(text, "staging {}", hex(&staging));
-    text.push_str("run: the same report, record and bytes\n");
+    let _ = writeln!(text, "{}\nstaging {}", record_line(&last), hex(&staging));
     text
 }
 

@@ -12,7 +12,7 @@ use Rattle.device.specs.Content.{sessionComponent, received, contentEntry, cont
 use Rattle.device.proofs.answer.Laws.{none-refuses, one-keeps}
 use Rattle.device_bytes.specs.Layout.{deviceIn, isRecord, readDevice, withSessionBytes}
 use Rattle.device_bytes.proofs.Flags.{record-sized}
-use Rattle.device_in_place.specs.InPlace.{contentBy}
+use Rattle.device_in_place.specs.Inside.{contentBy}
 use Rattle.device_in_place.proofs.Stands.{stands, refused-answers, refused-leaves}
 use Rattle.device_bytes.proofs.Fields.{full-in, same-slot}
 use Rattle.device_in_place.proofs.sound.Rows.{read-in}

@@ -13,7 +13,8 @@ use Rattle.device_receiving.specs.Receive.{onContent, stagingAfter}
 use Rattle.device_receiving.specs.declared.content.Taken.{Taken}
 use Rattle.device.specs.Content.{sessionComponent}
 use Rattle.device_bytes.specs.Layout.{deviceIn, sessionIn, withSessionBytes, withComponentBytes}
-use Rattle.device_in_place.specs.InPlace.{outcomeOf, servedReply, contentBy, contentStored}
+use Rattle.device_in_place.specs.InPlace.{outcomeOf, servedReply}
+use Rattle.device_in_place.specs.Inside.{contentBy, contentStored}
 use Rattle.device_in_place.specs.declared.Reply.{Reply}
 use Rattle.device_bytes.proofs.Fields.{session-read}
 use borrow.Author.Needs.{needs}
@@ -26,7 +27,7 @@ stored : (b p s s′ : List ℕ) (session : Session) (slot : ℕ) (c : Component
     → (t ≡ onContent c session (headIn p) (drop 8 p) s) × (s′ ≡ stagingAfter (c .fixed .region) (session .stage) (headIn p) (drop 8 p) s)
     → b₁ ≡ withSessionBytes (t .effect .session) b → b₂ ≡ withComponentBytes slot (t .component) b₁ → r ≡ servedReply (t .effect)
     → (outcomeOf r (contentBy b s p .device) ≡ contentBy b s p) × (b₂ ≡ contentStored b s p)
-        × (s′ ≡ stagingAfter (sessionComponent d .fixed .region) (d .session .stage) (headIn p) (drop 8 p) s)
+    × (s′ ≡ stagingAfter (sessionComponent d .fixed .region) (d .session .stage) (headIn p) (drop 8 p) s)
 stored b p s s′ session slot c t b₁ b₂ r e x y z u v w =
     let i = e ∙ session-read b in
     let k = rw i at x in

@@ -1,4 +1,5 @@
 -- `stage::stage_words` meets its contract: by the stage. Assumes nothing.
+use Rattle.host_bytes.proofs.Record.{end-words}
 use borrow.Author.Needs.{needs}
 use Rattle.host_bytes.proofs.stage.stage_words.Statement.{statement}
 use Rattle.host_bytes.proofs.stage.stage_words.Tie as tie
@@ -25,7 +26,7 @@ returns-7 : tie.Need-returns-7
 returns-7 c = rw (c .enum-told4 .given .1)
 
 returns-8 : tie.Need-returns-8
-returns-8 c = rw (c .before .before .stage4 .given .1) (c .end-words .ensures)
+returns-8 c = rw (c .before .before .before .stage4 .given .1, c .before .number .ensures, c .status .ensures) (end-words (c .before .before .before .stage4 .given .0 .0))
 
 pub stage-words-spec : {M : Type 1} → statement M
 stage-words-spec =
@@ -40,6 +41,9 @@ stage-words-spec =
     (λ c. search needs)
     (λ c. search needs)
     (λ c κs. search needs)
+    (λ c. search needs)
+    (λ c κs. search needs)
+    (λ c. search needs)
     returns
     returns-2
     returns-3

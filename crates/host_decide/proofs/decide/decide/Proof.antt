@@ -1,6 +1,6 @@
 -- `decide::decide`: by the stage. Assumes nothing.
 use mathlib.Core.Path.{_∙_, subst}
-use Rattle.host_record.specs.Room.{RoomIn}
+use Rattle.host_record.specs.Spare.{SpareIn}
 use Rattle.host_decide.specs.Decide.{decideIn}
 use Rattle.host_decide.proofs.decide.Laws.{by-stage}
 use borrow.Author.Needs.{needs}
@@ -11,13 +11,13 @@ enum-told : tie.Need-enum-told
 enum-told c = search needs
 
 hears-requires-3 : tie.Need-hears-requires-3
-hears-requires-3 c κs = let p = c .before .before .before .before .pre in (p .0, subst RoomIn (c .before .stage .given .1) (p .1))
+hears-requires-3 c κs = let p = c .before .before .before .before .pre in (p .0, subst SpareIn (c .before .stage .given .1) (p .1))
 
 hears-requires-4 : tie.Need-hears-requires-4
-hears-requires-4 c κs = let p = c .before .before .before .before .pre in (p .0, subst RoomIn (c .before .stage2 .given .1) (p .1))
+hears-requires-4 c κs = let p = c .before .before .before .before .pre in (p .0, subst SpareIn (c .before .stage2 .given .1) (p .1))
 
 hears-block-requires : tie.Need-hears-block-requires
-hears-block-requires c κs = let p = c .before .before .before .before .pre in let q = subst RoomIn (c .before .stage3 .given .1) (p .1) in (p .0, q .0, q .1)
+hears-block-requires c κs = let p = c .before .before .before .before .pre in let q = subst SpareIn (c .before .stage3 .given .1) (p .1) in (p .0, q .0, q .1)
 
 returns : tie.Need-returns
 unfolding decideIn

@@ -22,7 +22,7 @@ stored : (d : Device) (p s s′ : List ℕ) (slot : ℕ) (c : Component) (t : Ta
     → (t ≡ onContent c (d .session) (headIn p) (drop 8 p) s) × (s′ ≡ stagingAfter (c .fixed .region) (d .session .stage) (headIn p) (drop 8 p) s)
     → cs ≡ set (d .components) slot (t .component) → a ≡ servedWith d cs (t .effect)
     → (a ≡ received d (onContent (sessionComponent d) (d .session) (headIn p) (drop 8 p) s))
-        × (s′ ≡ stagingAfter (sessionComponent d .fixed .region) (d .session .stage) (headIn p) (drop 8 p) s)
+    × (s′ ≡ stagingAfter (sessionComponent d .fixed .region) (d .session .stage) (headIn p) (drop 8 p) s)
 stored d p s s′ slot c t cs a x y z v w = let h = rw (y, x) at z in (rw (w, v, h .0, x), h .1)
 
 returns : tie.Need-returns

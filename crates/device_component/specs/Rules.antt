@@ -12,7 +12,7 @@ use Rattle.device_component.specs.declared.rule.Rule.the-variants.{BadId
 use Rattle.device_component.specs.declared.rule.Pair.{Pair}
 use Rattle.device_component.specs.declared.rule.Pair.the-variants as pair
 
--- D1, of one component and a staging buffer of n bytes: S3, S4, or a staged version below running
+-- D1, of one component and a staging buffer of n bytes: S3, S4, or a staged version that does not fit the running one
 abbrev pub flawed : (n : ℕ) → Component → Bool
 flawed n c = badId (c .fixed .id) || (badRegion n (c .fixed .region) || not (keepsStaged c (c .staged)))
 

@@ -1,25 +1,36 @@
--- The three rules on a component's versions: of an offer, of an image, of what is staged. Each is given the whole record, and none looks at its `staged`.
-use Prim.Native.Nat.{ℕ}
-use mathlib.Core.Bool.{Bool, true, cond}
-use lib.Dec.{leb}
+-- The rules on a component's versions: of an offer, of an image, of what is staged (document 01, "The device", as document 02, A1, amends it: the variant is
+-- the kind of build, and the release, which is the version divided by 256, is compared). Each is given the whole record, and none looks at its `staged`.
+use mathlib.Core.Bool.{Bool, true, not, _&&_}
+use lib.Dec.{leb, eqb}
+use Rattle.wire.specs.Version.{variantOf, releaseOf}
 use Rattle.wire.specs.declared.version.Version.{Version}
 use Rattle.device_component.specs.declared.record.Component.{Component}
 use Rattle.device_component.specs.declared.record.Staged.{Staged}
 use Rattle.device_component.specs.declared.record.Staged.the-variants.{Nothing, Pending}
-use Rattle.device_component.specs.declared.rule.VersionVerdict.{VersionVerdict}
-use Rattle.device_component.specs.declared.rule.VersionVerdict.the-variants.{Fits, Old}
 
--- offer check 7: a version that is not greater than running, as 32-bit numbers, is old
-abbrev pub offerVersion : Component → Version → VersionVerdict
-offerVersion c v = cond (leb (v .0) (c .running .0)) Old Fits
+-- the check of an offer between 6 and 7: the variant differs from the running one
+abbrev pub wrongVariant : Component → Version → Bool
+wrongVariant c v = not (eqb (variantOf v) (variantOf (c .running)))
 
--- image judgement: not below running
+-- offer check 7: the release is not greater than the running one
+abbrev pub isOld : Component → Version → Bool
+isOld c v = leb (releaseOf v) (releaseOf (c .running))
+
+-- an offered version fits: neither of the two applies
+abbrev pub offerVersionFits : Component → Version → Bool
+offerVersionFits c v = not (wrongVariant c v) && not (isOld c v)
+
+-- the variant is the running one, and the release is not lower
+abbrev pub mayFollow : Component → Version → Bool
+mayFollow c v = not (wrongVariant c v) && leb (releaseOf (c .running)) (releaseOf v)
+
+-- image judgement
 abbrev pub imageVersionFits : Component → Version → Bool
-imageVersionFits c v = leb (c .running .0) (v .0)
+imageVersionFits c v = mayFollow c v
 
--- D1: a staged version is not below running
+-- D1, of a staged version
 abbrev pub stagedVersionFits : Component → Version → Bool
-stagedVersionFits c v = leb (c .running .0) (v .0)
+stagedVersionFits c v = mayFollow c v
 
 -- what is staged keeps that rule
 abbrev pub keepsStaged : Component → Staged → Bool

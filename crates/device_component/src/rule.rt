@@ -1,4 +1,4 @@
-// The rules on a component: the three on its versions, and those over the list. The tests of S3, S4 and `find` are values, so that one loop serves them; D1 has
+// The rules on a component: those on its versions, and those over the list. The tests of S3, S4 and `find` are values, so that one loop serves them; D1 has
 // loops of its own.
 use crate::record::Component;
 use crate::record::Staged;
@@ -7,43 +7,47 @@ use image::region::Region;
 use wire::codes::ID_LIMIT;
 use wire::version::Version;
 ghost use mathlib.Core.Path.{_≡_};
-ghost use Rattle.device_component.specs.Versions.{offerVersion, imageVersionFits, stagedVersionFits, keepsStaged};
+ghost use Rattle.device_component.specs.Versions.{wrongVariant, isOld, mayFollow, imageVersionFits, stagedVersionFits, keepsStaged};
 ghost use Rattle.device_component.specs.Rules.{flawed as isFlawed, clash as clashes, ruleHolds, ruleOf};
 ghost use Rattle.device_component.specs.Setup.{badId, badRegion, overlap};
 
-// The verdict of the rule on an offered version.
-pub enum VersionVerdict {
-    Fits,
-    Old,
-}
-
 impl Component {
-    // Offer check 7: a version that is not greater than running is old.
-    pub fn offer_version(self, v: Version) -> VersionVerdict
-        ensures { λ r. ⌜ r ≡ offerVersion self v ⌝ }
+    // The check of an offer between 6 and 7 (document 02, A1): another variant than the running one.
+    pub fn is_wrong_variant(self, v: Version) -> bool
+        ensures { λ r. ⌜ r ≡ wrongVariant self v ⌝ }
     {
         let running = self.running;
-        if v.number() <= running.number() {
-            VersionVerdict::Old
-        } else {
-            VersionVerdict::Fits
-        }
+        v.variant() != running.variant()
     }
 
-    // Image judgement: not below running.
+    // Offer check 7: a release that is not greater than the running one.
+    pub fn is_old(self, v: Version) -> bool
+        ensures { λ r. ⌜ r ≡ isOld self v ⌝ }
+    {
+        let running = self.running;
+        v.release() <= running.release()
+    }
+
+    // Of the running variant, and of a release that is not lower.
+    fn may_follow(self, v: Version) -> bool
+        ensures { λ r. ⌜ r ≡ mayFollow self v ⌝ }
+    {
+        let running = self.running;
+        !self.is_wrong_variant(v) & (running.release() <= v.release())
+    }
+
+    // Image judgement.
     pub fn image_version_fits(self, v: Version) -> bool
         ensures { λ r. ⌜ r ≡ imageVersionFits self v ⌝ }
     {
-        let running = self.running;
-        running.number() <= v.number()
+        self.may_follow(v)
     }
 
-    // D1: not below running.
+    // D1.
     fn staged_version_fits(self, staged: Version) -> bool
         ensures { λ r. ⌜ r ≡ stagedVersionFits self staged ⌝ }
     {
-        let running = self.running;
-        running.number() <= staged.number()
+        self.may_follow(staged)
     }
 
     // What is staged keeps that rule.
@@ -96,7 +100,7 @@ fn overlaps(r: Region, other: Region) -> bool
     (base < next + (other.len as u64)) & (next < base + (r.len as u64))
 }
 
-// D1, of one component: S3, S4 for a buffer of so many bytes, or its staged version is below running.
+// D1, of one component: S3, S4 for a buffer of so many bytes, or its staged version does not fit the running one.
 pub fn flawed(n: usize, c: Component) -> bool
     ensures { λ r. ⌜ r ≡ isFlawed n c ⌝ }
 {

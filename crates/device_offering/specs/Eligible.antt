@@ -1,14 +1,13 @@
--- What an eligible offer is (document 01, "The device"): what holds of an offer that none of checks 2 to 7 rejects, each fact under a name.
+-- What an eligible offer is (document 01, "The device"; document 02, A1): what holds of an offer that none of checks 2 to 7 rejects, each fact under a name.
 use Prim.Native.Nat.{ℕ}
 use mathlib.Core.Path.{_≡_}
 use mathlib.Core.Logic.{_↔_}
-use mathlib.Core.Bool.{false}
+use mathlib.Core.Bool.{true, false}
 use Rattle.wire.specs.Checks.{applies}
 use Rattle.wire.specs.Codes.{PROTOCOL}
 use Rattle.wire_offer.specs.declared.offer.OfferFields.{OfferFields}
-use Rattle.device_component.specs.Versions.{offerVersion}
+use Rattle.device_component.specs.Versions.{offerVersionFits}
 use Rattle.device_component.specs.declared.record.Staged.the-variants as staged
-use Rattle.device_component.specs.declared.rule.VersionVerdict.the-variants.{Fits}
 use Rattle.device_component.specs.declared.list.Found.the-variants.{At}
 use Rattle.device_slots.specs.declared.standing.Standing.{Standing}
 use Rattle.device_offering.specs.Offer.{rejectionsAt}
@@ -25,8 +24,8 @@ pub record Eligible (platform : ℕ) (target : Standing) (o : OfferFields) : Typ
   pub segment : o .segment ≡ 0
   -- check 6: the component has nothing staged
   pub free : target .component .staged ≡ staged.Nothing
-  -- check 7: its version is greater than the running one
-  pub newer : offerVersion (target .component) (o .version) ≡ Fits
+  -- the check between 6 and 7, and check 7: its variant is the running one, and its release is greater
+  pub version : offerVersionFits (target .component) (o .version) ≡ true
 
 -- an offer is eligible exactly where none of checks 2 to 7 rejects it
 abbrev pub EligibleIs : Type 0

@@ -1,19 +1,17 @@
--- An offer: checks 1 to 9, its reply and the session afterwards (document 01, "The device"), for a device of this platform whose components in use are
+-- An offer: checks 1 to 9, its reply and the session afterwards (document 01, "The device"; document 02, A1), for a device of this platform whose components in use are
 -- the first `count`.
 use Prim.Native.Nat.{ℕ}
-use mathlib.Core.Bool.{Bool, true, false, not, _||_, _&&_}
+use mathlib.Core.Bool.{Bool, not, _||_, _&&_}
 use mathlib.Core.List.{List, [], _∷_, _++_}
 use lib.Dec.{ltb, eqb}
 use Rattle.wire.specs.Checks.{firstOf}
-use Rattle.wire.specs.Codes.{PROTOCOL, OFFER-SKIP, OFFER-ACCEPT, OFFER-REJECT, OFFER-BUSY, REJECT-OLD-FW, REJECT-INV-COMPONENT, REJECT-SWAP-PENDING, REJECT-WRONG-PROTOCOL, REJECT-WRONG-SEGMENT}
+use Rattle.wire.specs.Codes.{PROTOCOL, OFFER-SKIP, OFFER-ACCEPT, OFFER-REJECT, OFFER-BUSY, REJECT-OLD-FW, REJECT-INV-COMPONENT, REJECT-SWAP-PENDING, REJECT-WRONG-PROTOCOL, REJECT-WRONG-SEGMENT, REJECT-WRONG-VARIANT}
 use Rattle.wire.specs.Version.{releaseOf}
 use Rattle.wire_offer.specs.Reply.{replyBytes}
 use Rattle.wire_offer.specs.declared.offer.OfferFields.{OfferFields}
 use Rattle.device_component.specs.Record.{isPending, effective}
-use Rattle.device_component.specs.Versions.{offerVersion}
+use Rattle.device_component.specs.Versions.{wrongVariant, isOld}
 use Rattle.device_component.specs.declared.record.Component.{Component}
-use Rattle.device_component.specs.declared.rule.VersionVerdict.{VersionVerdict}
-use Rattle.device_component.specs.declared.rule.VersionVerdict.the-variants.{Fits, Old}
 use Rattle.device_slots.specs.Slots.{slotOf, isAbsent}
 use Rattle.device_slots.specs.Standing.{standingOf}
 use Rattle.device_slots.specs.declared.standing.Standing.{Standing}
@@ -27,15 +25,11 @@ use Rattle.device_session.specs.declared.effect.Effect.{Effect}
 use Rattle.device_offering.specs.declared.verdict.OfferVerdict.{OfferVerdict}
 use Rattle.device_offering.specs.declared.verdict.OfferVerdict.the-variants.{Busy, Reject, Skip, Accept}
 
-abbrev pub isOld : VersionVerdict → Bool
-isOld Fits = false
-isOld Old = true
-
 -- the effective version of a component, divided by 256, is below the 24-bit number
 abbrev pub below : Component → ℕ → Bool
 below c least = ltb (releaseOf (effective (c .running) (c .staged))) least
 
--- checks 2 to 7, each with its answer, for the component that the offer is for
+-- checks 2 to 7, each with its answer, for the component that the offer is for; that of the variant, between 6 and 7, is one of them (document 02, A1)
 abbrev pub rejectionsAt : (platform : ℕ) → (target : Standing) → OfferFields → List (Bool × OfferVerdict)
 rejectionsAt platform target o =
     (not (eqb (o .protocol) PROTOCOL), Reject REJECT-WRONG-PROTOCOL)
@@ -43,7 +37,8 @@ rejectionsAt platform target o =
     ∷ (not (eqb (o .platform) platform), Reject REJECT-INV-COMPONENT)
     ∷ (not (eqb (o .segment) 0), Reject REJECT-WRONG-SEGMENT)
     ∷ (isPending (target .component .staged), Reject REJECT-SWAP-PENDING)
-    ∷ (isOld (offerVersion (target .component) (o .version)), Reject REJECT-OLD-FW)
+    ∷ (wrongVariant (target .component) (o .version), Reject REJECT-WRONG-VARIANT)
+    ∷ (isOld (target .component) (o .version), Reject REJECT-OLD-FW)
     ∷ []
 
 -- check 8: byte 8 is not 0, and the needed component is absent or its effective version is below

@@ -1,6 +1,6 @@
-// Checks 1 to 9 of an offer (document 01, "The device"), over a device's platform and stage, the component that it is for and the one that it needs.
+// Checks 1 to 9 of an offer (document 01, "The device"; document 02, A1), over a device's platform and stage, the component that it is for and the one that it
+// needs.
 use crate::verdict::OfferVerdict;
-use device_component::rule::VersionVerdict;
 use device_session::stage::Stage;
 use device_slots::slot::is_absent;
 use device_slots::slot::slot_of;
@@ -9,16 +9,7 @@ use wire::codes;
 use wire_offer::offer::OfferFields;
 ghost use mathlib.Core.Path.{_≡_};
 ghost use Rattle.wire.specs.Checks.{firstOf};
-ghost use Rattle.device_offering.specs.Offer.{isOld, rejectionsAt, needUnmetAt, verdictAt};
-
-fn is_old(v: VersionVerdict) -> bool
-    ensures { λ r. ⌜ r ≡ isOld v ⌝ }
-{
-    match v {
-        VersionVerdict::Fits => false,
-        VersionVerdict::Old => true,
-    }
-}
+ghost use Rattle.device_offering.specs.Offer.{rejectionsAt, needUnmetAt, verdictAt};
 
 // Check 8: byte 8 is not 0, and that component is absent or its effective version is below.
 fn need_unmet(needed: Standing, o: OfferFields) -> bool
@@ -30,7 +21,7 @@ fn need_unmet(needed: Standing, o: OfferFields) -> bool
     (o.need != 0) & (is_absent(f) | (version.release() < o.least))
 }
 
-// Checks 2 to 7, from the last to the first; where none rejects the offer, the verdict of the checks after them.
+// Checks 2 to 7, that of the variant between 6 and 7, from the last to the first; where none rejects the offer, the verdict of the checks after them.
 fn unless_rejected(
     platform: u16,
     target: Standing,
@@ -42,11 +33,11 @@ fn unless_rejected(
     let version = o.version;
     let f = target.at;
     let component = target.component;
-    let seven = passed.unless(
-        is_old(component.offer_version(version)),
-        OfferVerdict::Reject(codes::REJECT_OLD_FW),
-    );
-    let six = seven.unless(
+    let old = component.is_old(version);
+    let seven = passed.unless(old, OfferVerdict::Reject(codes::REJECT_OLD_FW));
+    let wrong = component.is_wrong_variant(version);
+    let variant = seven.unless(wrong, OfferVerdict::Reject(codes::REJECT_WRONG_VARIANT));
+    let six = variant.unless(
         component.is_pending(),
         OfferVerdict::Reject(codes::REJECT_SWAP_PENDING),
     );

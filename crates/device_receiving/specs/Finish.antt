@@ -1,4 +1,4 @@
--- The end of a last block: image judgement, and the component afterwards (document 01, "The device").
+-- The end of a last block: image judgement, and the component afterwards (document 01, "The device"; document 02, A1).
 use Prim.Native.Nat.{ℕ}
 use mathlib.Core.Bool.{cond}
 use mathlib.Core.List.{List}
@@ -19,6 +19,6 @@ judge c Foreign = record { status = ERROR-VERIFY; component = c }
 judge c (Bears v) =
     cond (imageVersionFits c v) (record { status = SUCCESS; component = withStaged c v }) (record { status = ERROR-VERSION; component = c })
 
--- the only place that judges and stages
+-- of the image in the component's region
 unfoldable pub finish : Component → (s : List ℕ) → Finished
 finish c s = judge c (imageIn (regionBytes (c .fixed .region) s) (c .fixed .id))

@@ -1,4 +1,4 @@
--- Row D1, clause by clause (document 01, "Numbered refusals").
+-- Row D1, clause by clause (document 01, "Numbered refusals"; its last clause as document 02, A1, reads it).
 use Prim.Native.Nat.{ℕ}
 use mathlib.Core.Bool.{Bool, false, not, _||_}
 use mathlib.Core.List.{List}
@@ -38,11 +38,11 @@ owesOn (found.At k) o = false
 abbrev pub owesIdle : Session → Bool
 owesIdle session = owesOn (openSlot (session .stage)) (session .owed)
 
--- has a staged version below running
-abbrev pub stagedBelow : (count : ℕ) → List Component → Bool
-stagedBelow count components = any (λ c. not (keepsStaged c (c .staged))) (take count components)
+-- has a staged version that does not fit: of another variant than the running one, or of a lower release
+abbrev pub stagedUnfit : (count : ℕ) → List Component → Bool
+stagedUnfit count components = any (λ c. not (keepsStaged c (c .staged))) (take count components)
 
 -- D1, for a staging buffer of n bytes; slots at or past the count are never looked at
 unfoldable pub breaksD1 : (n count : ℕ) → List Component → Session → Bool
 breaksD1 n count components session =
-    breaksSetup n count components || (opensWrong count components session || (owesIdle session || stagedBelow count components))
+    breaksSetup n count components || (opensWrong count components session || (owesIdle session || stagedUnfit count components))

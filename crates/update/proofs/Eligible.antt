@@ -11,10 +11,9 @@ use Rattle.wire_offer.specs.Offer.{fieldsIn}
 use Rattle.wire_offer.specs.declared.offer.OfferFields.{OfferFields}
 use Rattle.device_component.specs.Lists.{componentAt}
 use Rattle.device_component.specs.Record.{isPending}
-use Rattle.device_component.specs.Versions.{offerVersion}
+use Rattle.device_component.specs.Versions.{offerVersionFits}
 use Rattle.device_component.specs.declared.record.Component.{Component}
 use Rattle.device_component.specs.declared.record.Staged.the-variants as staged
-use Rattle.device_component.specs.declared.rule.VersionVerdict.the-variants.{Fits}
 use Rattle.device_component.specs.declared.list.Found.{Found}
 use Rattle.device_component.specs.declared.list.Found.the-variants as found
 use Rattle.update_passes.proofs.Tests.{is-false}
@@ -77,7 +76,7 @@ pub record Fresher (d : Device) (o : OfferFields) : Type 0 where
   pub slot : ℕ
   pub here : find d (o .id) ≡ found.At slot
   pub free : component d slot .staged ≡ staged.Nothing
-  pub newer : offerVersion (component d slot) (o .version) ≡ Fits
+  pub newer : offerVersionFits (component d slot) (o .version) ≡ true
 
 -- the component in the slot that was found
 in-slot : (d : Device) (o : OfferFields) → Eligible (d .platform) (standingOf (o .id) (d .count) (d .components)) o → Fresher d o
@@ -85,7 +84,7 @@ in-slot d o e = record {
   slot = e .slot;
   here = e .listed;
   free = subst (λ (f : Found). component d (slotOf f) .staged ≡ staged.Nothing) (e .listed) (e .free);
-  newer = subst (λ (f : Found). offerVersion (component d (slotOf f)) (o .version) ≡ Fits) (e .listed) (e .newer);
+  newer = subst (λ (f : Found). offerVersionFits (component d (slotOf f)) (o .version) ≡ true) (e .listed) (e .version);
 }
 
 -- what eligibility says

@@ -254,8 +254,8 @@ module _ (b : List ℕ) (α : Accepted b) (d : Device) where
                 free : component d k .staged ≡ staged.Nothing
                 free = subst (λ (n : ℕ). component d n .staged ≡ staged.Nothing) here (w .free)
 
-                older : releaseOf (component d k .running) ≤ releaseOf (offerAt b (x .j) .version)
-                older = subst (λ (n : ℕ). releaseOf (component d n .running) ≤ releaseOf (offerAt b (x .j) .version)) here (offer-release (component d (w .slot)) (offerAt b (x .j) .version) (w .newer))
+                older : releaseOf (component d k .running) < releaseOf (offerAt b (x .j) .version)
+                older = subst (λ (n : ℕ). releaseOf (component d n .running) < releaseOf (offerAt b (x .j) .version)) here (offer-release (component d (w .slot)) (offerAt b (x .j) .version) (w .newer))
 
                 other : eqb (x .j) e ≡ false
                 other = fails (eqb (x .j) e) (λ t. true≢false (sym (is-true (S (x .j)) (x .member)) ∙ ap S (eqb→eq (x .j) e t) ∙ out))

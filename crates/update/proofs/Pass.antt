@@ -12,9 +12,8 @@ use Rattle.image.specs.Region.{within}
 use Rattle.device_component.specs.Lists.{componentAt}
 use Rattle.device_component.specs.Record.{isPending, withStaged}
 use Rattle.device_component.specs.Setup.{setupVerdict}
-use Rattle.device_component.specs.Versions.{offerVersion}
+use Rattle.device_component.specs.Versions.{offerVersionFits}
 use Rattle.device_component.specs.declared.record.Component.{Component}
-use Rattle.device_component.specs.declared.rule.VersionVerdict.the-variants.{Fits}
 use Rattle.device_component.specs.declared.setup.SetupVerdict.the-variants.{Fine}
 use Rattle.device_component.specs.declared.list.Found.the-variants as found
 use Rattle.device_component.proofs.rule.Laws.{offer-image}
@@ -109,8 +108,8 @@ module _ (b : List ℕ) (t : ℕ) (d : Device) (s : List ℕ) (G : Given b t d s
       here = same-slot (find d (offerAt b e .id)) (w .slot) k (w .here) f
 
       -- the offered version fits
-      newer : offerVersion (component d k) (offerAt b e .version) ≡ Fits
-      newer = subst (λ (n : ℕ). offerVersion (component d n) (offerAt b e .version) ≡ Fits) here (w .newer)
+      newer : offerVersionFits (component d k) (offerAt b e .version) ≡ true
+      newer = subst (λ (n : ℕ). offerVersionFits (component d n) (offerAt b e .version) ≡ true) here (w .newer)
 
       -- nothing is staged there
       free : isPending (componentAt ps k .staged) ≡ false

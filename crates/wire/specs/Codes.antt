@@ -1,5 +1,5 @@
--- Every code, status and reject reason (document 01, "Packets" and "The device"), by the names that document 01 gives them, and the sizes and limits of packets.
--- The reasons 0xE0 and 0xE1 are the house's.
+-- Every code, status and reject reason (document 01, "Packets" and "The device"), by CFU's names where it has one, and the sizes and limits of packets. The
+-- reasons 0xE0 to 0xE2 are of the range that CFU leaves to the vendor: 0xE0 and 0xE1 by document 01, 0xE2 by document 02 (A1).
 use Prim.Native.Nat.{ℕ, _+_}
 
 -- The protocol's number; no other is supported.
@@ -83,6 +83,9 @@ REJECT-WRONG-PROTOCOL = 0xE0
 
 abbrev pub REJECT-WRONG-SEGMENT : ℕ
 REJECT-WRONG-SEGMENT = 0xE1
+
+abbrev pub REJECT-WRONG-VARIANT : ℕ
+REJECT-WRONG-VARIANT = 0xE2
 
 -- Content, flags.
 abbrev pub FLAG-FIRST-BLOCK : ℕ

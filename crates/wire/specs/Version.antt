@@ -33,6 +33,6 @@ variantOf v = v .0 % 256
 abbrev pub versionBytes : Version → List ℕ
 versionBytes v = variantOf v ∷ minorOf v % 256 ∷ minorOf v / 256 ∷ majorOf v ∷ []
 
--- the number divided by 256, rounded down: major and minor
+-- the number divided by 256, rounded down: major and minor (document 02, A1: major-minor)
 abbrev pub releaseOf : Version → ℕ
 releaseOf v = v .0 / 256

@@ -1,4 +1,4 @@
-// Every code, status and reject reason that this updater uses, by the names that document 01 gives them, and the sizes and limits of packets.
+// Every code, status and reject reason that this updater uses, by CFU's names where it has one, and the sizes and limits of packets.
 
 // The protocol's number; no other is supported.
 pub const PROTOCOL: u8 = 2;
@@ -57,6 +57,8 @@ pub const REJECT_SWAP_PENDING: u8 = 2;
 pub const REJECT_WRONG_PROTOCOL: u8 = 0xE0;
 
 pub const REJECT_WRONG_SEGMENT: u8 = 0xE1;
+
+pub const REJECT_WRONG_VARIANT: u8 = 0xE2;
 
 // Content, flags.
 pub const FLAG_FIRST_BLOCK: u8 = 0x80;

@@ -44,7 +44,7 @@ module _ (platform : ℕ) (target needed : Standing) (o : OfferFields) where
       go : (b : Bool) → applies (rejectionsAt platform target o) ≡ b → Ruling b (needUnmetAt needed o) (target .at) (verdictAt platform Idle target needed o)
       go true h =
           first-applies (Ruling true (needUnmetAt needed o) (target .at)) (rejectionsAt platform target o) ((needUnmetAt needed o, Skip) ∷ []) _
-          (refl, (refl, (refl, (refl, (refl, (refl, tt)))))) h
+          (refl, (refl, (refl, (refl, (refl, (refl, (refl, tt))))))) h
       go false h =
           subst (Ruling false (needUnmetAt needed o) (target .at)) (sym (first-passes (rejectionsAt platform target o) ((needUnmetAt needed o, Skip) ∷ []) _ h))
           (rest (needUnmetAt needed o) (eligible-is platform target o .0 h))

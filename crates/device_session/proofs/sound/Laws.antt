@@ -21,14 +21,14 @@ use Rattle.device_component.specs.declared.setup.SetupVerdict.the-variants.{Fin
 use Rattle.device_component.proofs.setup.Laws.{fine-staging, fine-count, fine-region}
 use Rattle.device_session.specs.declared.effect.Session.{Session}
 use Rattle.device_session.specs.Stage.{openSlot}
-use Rattle.device_session.specs.Sound.{breaksSetup, wrongSlot, opensWrong, owesIdle, stagedBelow, breaksD1}
+use Rattle.device_session.specs.Sound.{breaksSetup, wrongSlot, opensWrong, owesIdle, stagedUnfit, breaksD1}
 
 -- no clause of D1 applies
 pub record Passes (n count : ℕ) (components : List Component) (session : Session) : Type 0 where
   pub setup : breaksSetup n count components ≡ false
   pub slot : opensWrong count components session ≡ false
   pub owed : owesIdle session ≡ false
-  pub staged : stagedBelow count components ≡ false
+  pub staged : stagedUnfit count components ≡ false
 
 -- what no row of set-up refuses is fine
 pub fine : (v : SetupVerdict) → isRefused v ≡ false → v ≡ Fine
@@ -44,7 +44,7 @@ module _ {n count : ℕ} {components : List Component} {session : Session} where
   passes h =
       let a = neither (breaksSetup n count components) _ h in
       let b = neither (opensWrong count components session) _ (a .1) in
-      let c = neither (owesIdle session) (stagedBelow count components) (b .1) in record { setup = a .0; slot = b .0; owed = c .0; staged = c .1 }
+      let c = neither (owesIdle session) (stagedUnfit count components) (b .1) in record { setup = a .0; slot = b .0; owed = c .0; staged = c .1 }
 
   pub keeps : Passes n count components session → breaksD1 n count components session ≡ false
   unfolding breaksD1

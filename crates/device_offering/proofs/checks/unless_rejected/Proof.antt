@@ -8,22 +8,24 @@ returns : tie.Need-returns
 unfolding firstOf
 returns c =
     rw (
-      c .unless6 .ensures,
-      c .before .before .unless5 .ensures,
+      c .unless7 .ensures,
+      c .before .before .unless6 .ensures,
       c .before .before .before .is-absent .ensures,
-      c .before .before .before .before .unless4 .ensures,
-      c .before .before .before .before .before .before .unless3 .ensures,
-      c .before .before .before .before .before .before .before .before .unless2 .ensures,
+      c .before .before .before .before .unless5 .ensures,
+      c .before .before .before .before .before .before .unless4 .ensures,
+      c .before .before .before .before .before .before .before .before .unless3 .ensures,
       c .before .before .before .before .before .before .before .before .before .is-pending .ensures,
-      c .before .before .before .before .before .before .before .before .before .before .unless .ensures,
-      c .before .before .before .before .before .before .before .before .before .before .before .is-old .ensures,
-      c .before .before .before .before .before .before .before .before .before .before .before .before .offer-version .ensures,
+      c .before .before .before .before .before .before .before .before .before .before .unless2 .ensures,
+      c .before .before .before .before .before .before .before .before .before .before .before .is-wrong-variant .ensures,
+      c .before .before .before .before .before .before .before .before .before .before .before .before .unless .ensures,
+      c .before .before .before .before .before .before .before .before .before .before .before .before .before .is-old .ensures,
     )
 
 pub unless-rejected-spec : {M : Type 1} → statement M
 unless-rejected-spec =
     tie.close
     (tie.spec
+    (λ c κs. search needs)
     (λ c κs. search needs)
     (λ c κs. search needs)
     (λ c κs. search needs)

@@ -1,0 +1,10 @@
+-- `Component::is_wrong_variant` meets its contract: two variants are compared. Assumes nothing.
+use borrow.Author.Needs.{needs}
+use Rattle.device_component.proofs.record.Component.is_wrong_variant.Statement.{statement}
+use Rattle.device_component.proofs.record.Component.is_wrong_variant.Tie as tie
+
+returns : tie.Need-returns
+returns c = rw (c .before .variant .ensures, c .variant2 .ensures)
+
+pub is-wrong-variant-spec : {M : Type 1} → statement M
+is-wrong-variant-spec = tie.close (tie.spec (λ c κs. search needs) (λ c κs. search needs) returns)

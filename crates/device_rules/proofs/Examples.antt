@@ -1,0 +1,17 @@
+-- The customer's case computes, by both sets of rules. Assumes nothing.
+use mathlib.Core.Path.{refl}
+use Rattle.wire.specs.Checks.{firstOf, any, pairs}
+use Rattle.wire_offer.specs.Offer.{fieldsIn}
+use Rattle.wire_offer.specs.Kind.{kindIn}
+use Rattle.crc16.specs.Crc.{bitStep, bitSteps, byteStep, crcFrom, crcOf}
+use Rattle.image.specs.Region.{within, blank, put, eraseOf, writeOf, regionBytes}
+use Rattle.image.specs.Judge.{imageIn}
+use Rattle.device_component.specs.Lists.{firstFrom, find}
+use Rattle.device_component.specs.Setup.{badIds, badRegions, setupVerdict}
+use Rattle.device_offering.specs.Offer.{needUnmet}
+use Rattle.device_receiving.specs.Content.{contentVerdict, takeBlock}
+use Rattle.device_rules.specs.Examples.{A1Differs}
+
+pub a1-differs : A1Differs
+unfolding firstOf any pairs fieldsIn kindIn bitStep bitSteps byteStep crcFrom crcOf within blank put eraseOf writeOf regionBytes imageIn firstFrom find badIds badRegions setupVerdict needUnmet contentVerdict takeBlock
+a1-differs = record { offered01 = refl; offered = refl; image01 = refl; image = refl; staged01 = refl; staged = refl }

@@ -1,0 +1,149 @@
+-- Two sets of rules on versions that agree on the versions that a call compares answer it alike. Assumes nothing.
+use mathlib.Core.Path.{_≡_, refl, sym, ap, ap₂}
+use mathlib.Core.Bool.{Bool, true, false, not, cond, _||_}
+use mathlib.Core.List.{List, [], _∷_}
+use Prim.Native.Nat.{ℕ, zero, suc, _<_}
+use native.Mathlib.Omega.{arith}
+use lib.Dec.{eqb}
+use lib.ListN.{length, take, drop}
+use Rattle.wire.specs.Checks.{firstOf, any}
+use Rattle.wire.specs.Codes.{SHORT-SIZE, LONG-SIZE, DATA-AT, SUCCESS, ERROR-VERSION}
+use Rattle.wire.specs.declared.version.Version.{Version}
+use Rattle.wire_offer.specs.Kind.{Kind, offer, information, extended, kindIn}
+use Rattle.wire_offer.specs.declared.offer.OfferFields.{OfferFields}
+use Rattle.wire_content.specs.Head.{headIn}
+use Rattle.wire_content.specs.declared.head.ContentHead.{ContentHead}
+use Rattle.image.specs.Region.{regionBytes}
+use Rattle.image.specs.Judge.{imageIn}
+use Rattle.image.specs.declared.judge.Image.{Image}
+use Rattle.image.specs.declared.judge.Image.the-variants.{Damaged, Foreign, Bears}
+use Rattle.image.specs.declared.region.Region.{Region}
+use Rattle.device_component.specs.Lists.{componentAt}
+use Rattle.device_component.specs.Record.{withStaged}
+use Rattle.device_component.specs.declared.record.Component.{Component}
+use Rattle.device_component.specs.declared.record.Staged.{Staged}
+use Rattle.device_component.specs.declared.record.Staged.the-variants.{Nothing, Pending}
+use Rattle.device_component.specs.declared.list.Found.{Found}
+use Rattle.device_component.specs.declared.list.Found.the-variants as found
+use Rattle.device_session.specs.Stage.{openSlot, atSlot}
+use Rattle.device_session.specs.declared.stage.Stage.{Stage}
+use Rattle.device_session.specs.declared.stage.Stage.the-variants.{Idle, Offered, Receiving}
+use Rattle.device_offering.specs.Offer as onOffer
+use Rattle.device_offering.specs.declared.verdict.OfferVerdict.{OfferVerdict}
+use Rattle.device_receiving.specs.Content.{isLast, contentVerdict, takeBlock}
+use Rattle.device_receiving.specs.declared.checks.ContentVerdict.{ContentVerdict}
+use Rattle.device_receiving.specs.declared.checks.ContentVerdict.the-variants.{Refuse, Take}
+use Rattle.device_receiving.specs.declared.finish.Finished.{Finished}
+use Rattle.device.specs.declared.record.Device.{Device}
+use Rattle.device.specs.declared.answer.Channel.the-variants.{Offer, Content}
+use Rattle.device.specs.Record.{find, component}
+use Rattle.device.specs.Refusals.{Row, served, D, Outcome, unlessRefused, servedWith}
+use Rattle.device.specs.Content.{sessionComponent, received}
+use Rattle.device_rules.specs.Rules.{VersionRules}
+use Rattle.device_rules.specs.Entries.{keepsStaged, breaksD1, refusalOf, offerVerdict, onKind, judge, onBlock, onContentVerdict, onContent, serveBy, serveStagingBy}
+
+-- a test that gives one answer for each of the first n
+pub any-same : (p q : Component → Bool) (n : ℕ) (cs : List Component) → ((k : ℕ) → k < n → p (componentAt cs k) ≡ q (componentAt cs k)) → any p (take n cs) ≡ any q (take n cs)
+unfolding any
+any-same p q zero cs h = refl
+any-same p q (suc n) [] h = refl
+any-same p q (suc n) (c ∷ cs) h = ap₂ (λ (a b : Bool). a || b) (h zero (omega arith)) (any-same p q n cs (λ k l. h (suc k) (omega (arith, l))))
+
+module _ (r r′ : VersionRules) (d : Device) where
+  -- they agree on what is staged
+  abbrev pub StagedSame : Type 0
+  StagedSame = (k : ℕ) (v : Version) → k < d .count → component d k .staged ≡ Pending v → r .stagedFits (component d k) v ≡ r′ .stagedFits (component d k) v
+
+  -- D1 then has one answer
+  pub d1-same : StagedSame → breaksD1 r d ≡ breaksD1 r′ d
+  d1-same h = rw (any-same (λ (c : Component). not (keepsStaged r c (c .staged))) (λ (c : Component). not (keepsStaged r′ c (c .staged))) (d .count) (d .components) (λ k l. each k l (component d k .staged) refl)) refl
+    where
+      each : (k : ℕ) → k < d .count → (s : Staged) → component d k .staged ≡ s
+          → not (keepsStaged r (component d k) (component d k .staged)) ≡ not (keepsStaged r′ (component d k) (component d k .staged))
+      each k l Nothing e = rw e
+      each k l (Pending v) e = rw e (ap not (h k v l e))
+
+  -- so have D1 to D3
+  refusal-same : StagedSame → (size n m : ℕ) → refusalOf r size d n m ≡ refusalOf r′ size d n m
+  refusal-same h size n m = ap (λ (b : Bool). firstOf ((b, D 1) ∷ (not (eqb n (d .«staging_len»)), D 2) ∷ (not (eqb m size), D 3) ∷ []) served) (d1-same h)
+
+  -- they agree on the version of an offer for a listed component
+  abbrev pub OfferedSame : OfferFields → Type 0
+  OfferedSame o = (k : ℕ) → find d (o .id) ≡ found.At k
+      → (r .wrongVariant (component d k) (o .version) ≡ r′ .wrongVariant (component d k) (o .version)) × (r .isOld (component d k) (o .version) ≡ r′ .isOld (component d k) (o .version))
+
+  -- its verdict is then one; an absent component is rejected before its version is looked at
+  verdict-same : (o : OfferFields) → OfferedSame o → offerVerdict r d o ≡ offerVerdict r′ d o
+  unfolding firstOf
+  verdict-same o h = go (find d (o .id)) refl
+    where
+      go : (f : Found) → find d (o .id) ≡ f → offerVerdict r d o ≡ offerVerdict r′ d o
+      go found.Nothing e = rw e refl
+      go (found.At k) e = rw e (rw (h k e .0, h k e .1) refl)
+
+  -- an offer packet is answered alike
+  kind-same : (x : Kind) → ((o : OfferFields) → x ≡ offer o → OfferedSame o) → onKind r d x ≡ onKind r′ d x
+  kind-same (offer o) h = ap (λ (v : OfferVerdict). servedWith d (d .components) (onOffer.onVerdict (d .session) (o .token) v)) (verdict-same o (h o refl))
+  kind-same (information s) h = refl
+  kind-same (extended s) h = refl
+
+  pub offer-same : StagedSame → (staging report : List ℕ) → ((o : OfferFields) → kindIn report ≡ offer o → OfferedSame o)
+      → serveBy r d Offer staging report ≡ serveBy r′ d Offer staging report
+  offer-same h staging report g =
+      ap₂ (λ (row : Row) (answer : Outcome). unlessRefused row d answer) (refusal-same h SHORT-SIZE (length staging) (length report)) (kind-same (kindIn report) g)
+
+  -- they agree on the version of a judged image
+  abbrev pub JudgedSame : Component → Image → Type 0
+  JudgedSame c m = (v : Version) → m ≡ Bears v → r .imageFits c v ≡ r′ .imageFits c v
+
+  judge-same : (c : Component) (m : Image) → JudgedSame c m → judge r c m ≡ judge r′ c m
+  judge-same c Damaged h = refl
+  judge-same c Foreign h = refl
+  judge-same c (Bears v) h =
+      ap (λ (b : Bool). cond {A = Finished} b (record { status = SUCCESS; component = withStaged c v }) (record { status = ERROR-VERSION; component = c })) (h v refl)
+
+  module _ (staging report : List ℕ) where
+    abbrev after : List ℕ
+    after = takeBlock (sessionComponent d .fixed .region) (headIn report) (drop DATA-AT report) staging
+
+    abbrev row : VersionRules → Row
+    row x = refusalOf x LONG-SIZE d (length staging) (length report)
+
+    -- .. which a last block leaves in the region of the session's component, where it is taken
+    abbrev pub ImageSame : Type 0
+    ImageSame = (slot : ℕ) → row r ≡ served → contentVerdict (sessionComponent d .fixed .region) (d .session .stage) (headIn report) ≡ Take slot
+        → isLast (headIn report) ≡ true → JudgedSame (sessionComponent d) (imageIn (regionBytes (sessionComponent d .fixed .region) after) (sessionComponent d .fixed .id))
+
+  module _ (staging report : List ℕ) (h : StagedSame) (g : ImageSame staging report) where
+    rows : row staging report r ≡ row staging report r′
+    rows = refusal-same h LONG-SIZE (length staging) (length report)
+
+    -- a taken block, where no row refuses the packet
+    block-same : (slot : ℕ) → row staging report r ≡ served → contentVerdict (sessionComponent d .fixed .region) (d .session .stage) (headIn report) ≡ Take slot
+        → onBlock r (sessionComponent d) (d .session) slot (headIn report) (after staging report) ≡ onBlock r′ (sessionComponent d) (d .session) slot (headIn report) (after staging report)
+    block-same slot z e = go (isLast (headIn report)) refl
+      where
+        go : (b : Bool) → isLast (headIn report) ≡ b
+            → onBlock r (sessionComponent d) (d .session) slot (headIn report) (after staging report) ≡ onBlock r′ (sessionComponent d) (d .session) slot (headIn report) (after staging report)
+        go true l = rw l (rw (judge-same (sessionComponent d) _ (g slot z e l)) refl)
+        go false l = rw l refl
+
+    taken-same : row staging report r ≡ served
+        → onContent r (sessionComponent d) (d .session) (headIn report) (drop DATA-AT report) staging ≡ onContent r′ (sessionComponent d) (d .session) (headIn report) (drop DATA-AT report) staging
+    taken-same z = go (contentVerdict (sessionComponent d .fixed .region) (d .session .stage) (headIn report)) refl
+      where
+        go : (w : ContentVerdict) → contentVerdict (sessionComponent d .fixed .region) (d .session .stage) (headIn report) ≡ w
+            → onContentVerdict r (sessionComponent d) (d .session) (headIn report) (drop DATA-AT report) staging w ≡ onContentVerdict r′ (sessionComponent d) (d .session) (headIn report) (drop DATA-AT report) staging w
+        go (Refuse status) e = refl
+        go (Take slot) e = block-same slot z e
+
+    -- a content packet is answered alike, and leaves the same bytes
+    pub content-same : serveBy r d Content staging report ≡ serveBy r′ d Content staging report
+    content-same = go (row staging report r) refl
+      where
+        go : (x : Row) → row staging report r ≡ x → serveBy r d Content staging report ≡ serveBy r′ d Content staging report
+        go served z = rw (sym rows, z) (ap (received d) (taken-same z))
+        go (D j) z = rw (sym rows, z) refl
+
+    pub staging-same : serveStagingBy r d Content staging report ≡ serveStagingBy r′ d Content staging report
+    staging-same = rw rows refl

@@ -1,0 +1,147 @@
+-- The device's entries over any rules on versions: each definition that asks such a rule, with the rules for a parameter; what asks none is taken as it stands.
+-- With the rules in force the answers are the entries' own (`RulesInForceAnswer`), and the two sets of rules differ (`A1Differs`).
+use Prim.Native.Nat.{ℕ}
+use mathlib.Core.Bool.{Bool, true, not, cond, _||_}
+use mathlib.Core.List.{List, [], _∷_, _++_, map}
+use lib.Dec.{eqb}
+use lib.ListN.{length, take, drop, replicate}
+use Rattle.wire.specs.Checks.{firstOf, any}
+use Rattle.wire.specs.Codes.{PROTOCOL, SHORT-SIZE, LONG-SIZE, DATA-AT, REJECT-OLD-FW, REJECT-INV-COMPONENT, REJECT-SWAP-PENDING, REJECT-WRONG-PROTOCOL, REJECT-WRONG-SEGMENT, REJECT-WRONG-VARIANT, SUCCESS, ERROR-VERSION}
+use Rattle.wire_version.specs.Reply.{REPLY-SIZE, replyBytes}
+use Rattle.wire_offer.specs.Kind.{Kind, offer, information, extended, kindIn}
+use Rattle.wire_offer.specs.declared.offer.OfferFields.{OfferFields}
+use Rattle.wire_content.specs.Head.{headIn}
+use Rattle.wire_content.specs.declared.head.ContentHead.{ContentHead}
+use Rattle.image.specs.Region.{regionBytes}
+use Rattle.image.specs.Judge.{imageIn}
+use Rattle.image.specs.declared.judge.Image.{Image}
+use Rattle.image.specs.declared.judge.Image.the-variants.{Damaged, Foreign, Bears}
+use Rattle.device_component.specs.Record.{isPending, withStaged}
+use Rattle.device_component.specs.declared.record.Component.{Component}
+use Rattle.device_component.specs.declared.record.Staged.{Staged}
+use Rattle.device_component.specs.declared.record.Staged.the-variants.{Nothing, Pending}
+use Rattle.device_slots.specs.Slots.{slotOf, isAbsent, resetComponents, runningOf}
+use Rattle.device_slots.specs.Standing.{standingOf}
+use Rattle.device_slots.specs.declared.standing.Standing.{Standing}
+use Rattle.device_session.specs.Stage.{isOpen}
+use Rattle.device_session.specs.Effect.{idle}
+use Rattle.device_session.specs.Sound.{breaksSetup, opensWrong, owesIdle}
+use Rattle.device_session.specs.declared.owed.Owed.the-variants as owed
+use Rattle.device_session.specs.declared.effect.Session.{Session}
+use Rattle.device_offering.specs.Offer as offering
+use Rattle.device_offering.specs.declared.verdict.OfferVerdict.{OfferVerdict}
+use Rattle.device_offering.specs.declared.verdict.OfferVerdict.the-variants.{Busy, Reject, Skip, Accept}
+use Rattle.device_receiving.specs.Content.{isLast, contentVerdict, takeBlock}
+use Rattle.device_receiving.specs.Finish as finishing
+use Rattle.device_receiving.specs.Receive as receiving
+use Rattle.device_receiving.specs.Receive.{blockReply, goesOn, stagingAfter}
+use Rattle.device_receiving.specs.declared.checks.ContentVerdict.{ContentVerdict}
+use Rattle.device_receiving.specs.declared.checks.ContentVerdict.the-variants.{Refuse, Take}
+use Rattle.device_receiving.specs.declared.finish.Finished.{Finished}
+use Rattle.device_receiving.specs.declared.content.Taken.{Taken}
+use Rattle.device.specs.declared.record.Device.{Device}
+use Rattle.device.specs.declared.answer.Channel.{Channel}
+use Rattle.device.specs.declared.answer.Channel.the-variants.{Offer, Content}
+use Rattle.device.specs.Record.{find, idleWith}
+use Rattle.device.specs.Refusals.{Row, served, D, Outcome, keptBy, unlessRefused, servedWith}
+use Rattle.device.specs.Offer as offers
+use Rattle.device.specs.Offer.{needUnmet}
+use Rattle.device.specs.Content.{sessionComponent, received}
+use Rattle.device.specs.Entries.{Versions, Reset}
+use Rattle.device_rules.specs.Calls.{Call, packet, versions, reset, Answered, ofPacket, ofVersions, ofReset}
+use Rattle.device_rules.specs.Rules.{VersionRules}
+
+module _ (rules : VersionRules) where
+  -- D1
+  abbrev pub keepsStaged : Component → Staged → Bool
+  keepsStaged c Nothing = true
+  keepsStaged c (Pending v) = rules .stagedFits c v
+
+  abbrev pub breaksD1 : Device → Bool
+  breaksD1 d =
+      breaksSetup (d .«staging_len») (d .count) (d .components)
+      || (opensWrong (d .count) (d .components) (d .session)
+      || (owesIdle (d .session) || any (λ c. not (keepsStaged c (c .staged))) (take (d .count) (d .components))))
+
+  -- D1 to D3
+  abbrev pub refusalOf : (size : ℕ) → Device → (n m : ℕ) → Row
+  refusalOf size d n m = firstOf ((breaksD1 d, D 1) ∷ (not (eqb n (d .«staging_len»)), D 2) ∷ (not (eqb m size), D 3) ∷ []) served
+
+  -- checks 2 to 7 of an offer, and checks 1 to 9
+  abbrev pub rejections : (platform : ℕ) → (target : Standing) → OfferFields → List (Bool × OfferVerdict)
+  rejections platform target o =
+      (not (eqb (o .protocol) PROTOCOL), Reject REJECT-WRONG-PROTOCOL)
+      ∷ (isAbsent (target .at), Reject REJECT-INV-COMPONENT)
+      ∷ (not (eqb (o .platform) platform), Reject REJECT-INV-COMPONENT)
+      ∷ (not (eqb (o .segment) 0), Reject REJECT-WRONG-SEGMENT)
+      ∷ (isPending (target .component .staged), Reject REJECT-SWAP-PENDING)
+      ∷ (rules .wrongVariant (target .component) (o .version), Reject REJECT-WRONG-VARIANT)
+      ∷ (rules .isOld (target .component) (o .version), Reject REJECT-OLD-FW)
+      ∷ []
+
+  abbrev pub offerVerdict : Device → OfferFields → OfferVerdict
+  offerVerdict d o =
+      firstOf (
+      (isOpen (d .session .stage), Busy)
+      ∷ rejections (d .platform) (standingOf (o .id) (d .count) (d .components)) o
+      ++ (needUnmet d o, Skip) ∷ [])
+      (Accept (slotOf (find d (o .id))))
+
+  -- a packet of the offer channel by its kind
+  abbrev pub onKind : Device → Kind → Outcome
+  onKind d (offer o) = servedWith d (d .components) (offering.onVerdict (d .session) (o .token) (offerVerdict d o))
+  onKind d (information s) = offers.onKind d (information s)
+  onKind d (extended s) = offers.onKind d (extended s)
+
+  -- image judgement
+  abbrev pub judge : Component → Image → Finished
+  judge c Damaged = finishing.judge c Damaged
+  judge c Foreign = finishing.judge c Foreign
+  judge c (Bears v) =
+      cond (rules .imageFits c v) (record { status = SUCCESS; component = withStaged c v }) (record { status = ERROR-VERSION; component = c })
+
+  abbrev pub finish : Component → (s : List ℕ) → Finished
+  finish c s = judge c (imageIn (regionBytes (c .fixed .region) s) (c .fixed .id))
+
+  -- a content packet: only a last block is judged
+  abbrev pub onBlock : Component → Session → (slot : ℕ) → ContentHead → (s : List ℕ) → Taken
+  onBlock c session slot h s =
+      cond (isLast h)
+      (record { effect = blockReply (h .sequence) (finish c s .status) (session .owed) idle; component = finish c s .component })
+      (record { effect = blockReply (h .sequence) SUCCESS owed.Nothing (goesOn session slot h); component = c })
+
+  abbrev pub onContentVerdict : Component → Session → ContentHead → (bytes s : List ℕ) → ContentVerdict → Taken
+  onContentVerdict c session h bytes s (Refuse status) = receiving.onVerdict c session h bytes s (Refuse status)
+  onContentVerdict c session h bytes s (Take slot) = onBlock c session slot h (takeBlock (c .fixed .region) h bytes s)
+
+  abbrev pub onContent : Component → Session → ContentHead → (bytes s : List ℕ) → Taken
+  onContent c session h bytes s = onContentVerdict c session h bytes s (contentVerdict (c .fixed .region) (session .stage) h)
+
+  -- the entries for packets, and every byte of the staging buffer afterwards
+  abbrev pub serveBy : Device → Channel → (staging report : List ℕ) → Outcome
+  serveBy d Offer staging report = unlessRefused (refusalOf SHORT-SIZE d (length staging) (length report)) d (onKind d (kindIn report))
+  serveBy d Content staging report =
+      unlessRefused (refusalOf LONG-SIZE d (length staging) (length report)) d
+      (received d (onContent (sessionComponent d) (d .session) (headIn report) (drop DATA-AT report) staging))
+
+  abbrev pub serveStagingBy : Device → Channel → (staging report : List ℕ) → List ℕ
+  serveStagingBy d Offer staging report = staging
+  serveStagingBy d Content staging report =
+      keptBy (refusalOf LONG-SIZE d (length staging) (length report)) staging
+      (stagingAfter (sessionComponent d .fixed .region) (d .session .stage) (headIn report) (drop DATA-AT report) staging)
+
+  -- the version reply, and the reset
+  abbrev pub versionBy : Device → Versions
+  versionBy d =
+      cond (breaksD1 d) (record { row = D 1; packet = replicate REPLY-SIZE 0 })
+      (record { row = served; packet = replyBytes (d .count) PROTOCOL (map (runningOf (d .platform)) (d .components)) })
+
+  abbrev pub resetBy : Device → Reset
+  resetBy d =
+      cond (breaksD1 d) (record { row = D 1; device = d })
+      (record { row = served; device = idleWith d (resetComponents (d .count) (d .components)) })
+
+  abbrev pub answerBy : Device → (staging : List ℕ) → Call → Answered
+  answerBy d staging (packet channel report) = ofPacket (serveBy d channel staging report) (serveStagingBy d channel staging report)
+  answerBy d staging versions = ofVersions (versionBy d)
+  answerBy d staging reset = ofReset (resetBy d)

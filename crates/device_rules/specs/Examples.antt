@@ -1,0 +1,66 @@
+-- The customer's case (document 02, A1), a debug build of the number that runs as a production build: what document 01's rules answer, and what those in force
+-- answer. An offer, an image and a staged version.
+use Prim.Native.Nat.{ℕ, _-_}
+use mathlib.Core.Path.{_≡_}
+use mathlib.Core.List.{List, [], _∷_, _++_}
+use lib.ListN.{replicate}
+use Rattle.wire.specs.Codes.{COMPONENT-LIMIT, OFFER-ACCEPT, OFFER-REJECT, REJECT-WRONG-VARIANT, SUCCESS, ERROR-VERSION}
+use Rattle.wire.specs.Version.{versionOf}
+use Rattle.wire.specs.declared.version.Version.{Version}
+use Rattle.device_component.specs.Record.{plain, withStaged, blankComponent}
+use Rattle.device_component.specs.declared.record.Component.{Component}
+use Rattle.device_session.specs.Effect.{idle, inStage}
+use Rattle.device_session.specs.declared.effect.Session.{Session}
+use Rattle.device.specs.declared.record.Device.{Device}
+use Rattle.device.specs.declared.answer.Channel.the-variants.{Offer, Content}
+use Rattle.device.specs.Bench.{forOne, noNeed, answer}
+use Rattle.device.specs.Refusals.{Row, served, D}
+use Rattle.device.specs.Entries.{Reset}
+use Rattle.device_rules.specs.Rules.{VersionRules, inForce, document01}
+use Rattle.device_rules.specs.Entries.{serveBy, versionBy, resetBy}
+
+-- component 1 as the production build 1.2.0, with a region of 8 bytes
+abbrev pub production : Component
+production = plain 1 0x01000200 0 8
+
+-- the debug build of that number
+abbrev pub debug : Version
+debug = versionOf 1 2 1
+
+-- a device with that component alone
+abbrev pub deviceOf : Component → Session → Device
+deviceOf c session = record {
+  platform = 0x0042;
+  «staging_len» = 8;
+  count = 1;
+  components = c ∷ replicate (COMPONENT-LIMIT - 1) blankComponent;
+  session = session;
+}
+
+-- the reply to an offer of the debug build, with token 0xA5
+abbrev pub offerReply : VersionRules → List (List ℕ)
+offerReply rules =
+    serveBy rules (deviceOf production idle) Offer (replicate 8 0)
+    (0x00 ∷ 0x00 ∷ 0x01 ∷ 0xA5 ∷ 0x01 ∷ 0x02 ∷ 0x00 ∷ 0x01 ∷ noNeed ++ 0x02 ∷ 0x00 ∷ 0x42 ∷ 0x00 ∷ []) .sent
+
+-- the reply to its whole image in one block, with sequence 0
+abbrev pub imageReply : VersionRules → List (List ℕ)
+imageReply rules =
+    serveBy rules (deviceOf production (inStage idle forOne)) Content (replicate 8 0)
+    (0xC0 ∷ 8 ∷ replicate 6 0x00 ++ (0x01 ∷ 0x02 ∷ 0x00 ∷ 0x01 ∷ 0x01 ∷ 0x00 ∷ 0x05 ∷ 0x22 ∷ replicate 44 0x00)) .sent
+
+abbrev pub status : ℕ → List (List ℕ)
+status s = (replicate 4 0x00 ++ s ∷ replicate 11 0x00) ∷ []
+
+-- a reset where it is staged
+abbrev pub resetAnswer : VersionRules → Reset
+resetAnswer rules = resetBy rules (deviceOf (withStaged production debug) idle)
+
+-- document 01's rules accept, stage and start it; those in force reject it with 0xE2, answer 0x07, and refuse the record by D1 and leave it as it is
+pub record A1Differs : Type 0 where
+  pub offered01 : offerReply document01 ≡ answer 0 OFFER-ACCEPT
+  pub offered : offerReply inForce ≡ answer REJECT-WRONG-VARIANT OFFER-REJECT
+  pub image01 : imageReply document01 ≡ status SUCCESS
+  pub image : imageReply inForce ≡ status ERROR-VERSION
+  pub staged01 : resetAnswer document01 ≡ record { row = served; device = deviceOf (plain 1 0x01000201 0 8) idle }
+  pub staged : resetAnswer inForce ≡ record { row = D 1; device = deviceOf (withStaged production debug) idle }

@@ -1,0 +1,5 @@
+pub mod Calls
+pub mod Rules
+pub mod Entries
+pub mod Promises
+pub mod Examples

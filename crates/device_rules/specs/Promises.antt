@@ -1,0 +1,58 @@
+-- Where versions have one variant, every call answers as by document 01's rules: what document 02's A1 leaves as it is.
+use Prim.Native.Nat.{ℕ, _<_}
+use mathlib.Core.Path.{_≡_}
+use mathlib.Core.Bool.{true, false}
+use mathlib.Core.List.{List}
+use Rattle.wire.specs.Version.{variantOf}
+use Rattle.wire.specs.declared.version.Version.{Version}
+use Rattle.wire_offer.specs.Kind.{offer, kindIn}
+use Rattle.wire_offer.specs.declared.offer.OfferFields.{OfferFields}
+use Rattle.wire_content.specs.Head.{headIn}
+use Rattle.image.specs.Region.{regionBytes}
+use Rattle.image.specs.Judge.{imageIn}
+use Rattle.image.specs.declared.judge.Image.the-variants.{Bears}
+use Rattle.device_component.specs.declared.record.Component.{Component}
+use Rattle.device_component.specs.declared.record.Staged.the-variants.{Pending}
+use Rattle.device_component.specs.declared.list.Found.the-variants.{At}
+use Rattle.device_receiving.specs.Content.{isLast}
+use Rattle.device_receiving.specs.declared.checks.ContentVerdict.the-variants.{Take}
+use Rattle.device.specs.declared.record.Device.{Device}
+use Rattle.device.specs.declared.answer.Channel.the-variants.{Offer, Content}
+use Rattle.device.specs.Record.{find, component}
+use Rattle.device.specs.Refusals.{served, breaksD1}
+use Rattle.device.specs.Content.{contentVerdict, contentEntry, contentStaging}
+use Rattle.device_rules.specs.Calls.{Call, packet, versions, reset, answerOf}
+use Rattle.device_rules.specs.Rules.{inForce, document01}
+use Rattle.device_rules.specs.Entries.{answerBy}
+
+-- with the rules in force, a call answers what its entry answers
+abbrev pub RulesInForceAnswer : Type 0
+RulesInForceAnswer = (d : Device) (staging : List ℕ) (call : Call) → answerOf d staging call ≡ answerBy inForce d staging call
+
+-- a version has the variant of the component's running one
+abbrev pub OneVariant : Component → Version → Type 0
+OneVariant c v = variantOf v ≡ variantOf (c .running)
+
+-- what is staged of each listed component has the variant of its running version
+abbrev pub StagedOne : Device → Type 0
+StagedOne d = (k : ℕ) (v : Version) → k < d .count → component d k .staged ≡ Pending v → OneVariant (component d k) v
+
+-- what a call brings to a component has the variant of its running version: the version of an offer for a listed component, and that of the image which a last
+-- block, where it is taken, leaves in the region of the session's component
+abbrev pub BroughtOne : Device → (staging : List ℕ) → Call → Type 0
+BroughtOne d staging (packet Offer report) = (o : OfferFields) (k : ℕ) → kindIn report ≡ offer o → find d (o .id) ≡ At k → OneVariant (component d k) (o .version)
+BroughtOne d staging (packet Content report) = (k : ℕ) (v : Version) → contentEntry d staging report .row ≡ served → contentVerdict d (headIn report) ≡ Take k
+    → isLast (headIn report) ≡ true
+    → imageIn (regionBytes (component d k .fixed .region) (contentStaging d staging report)) (component d k .fixed .id) ≡ Bears v → OneVariant (component d k) v
+BroughtOne d staging versions = Unit {0}
+BroughtOne d staging reset = Unit {0}
+
+-- A1 changes nothing where what is staged and what a call brings have the running variant, each of its own component: the same row, the same replies, the same
+-- record and the same bytes, of served and of refused calls
+abbrev pub OneVariantAsDocument01 : Type 0
+OneVariantAsDocument01 = (d : Device) (staging : List ℕ) (call : Call) → StagedOne d → BroughtOne d staging call
+    → answerOf d staging call ≡ answerBy document01 d staging call
+
+-- what a device that passes D1 has staged is so
+abbrev pub SoundStagedOne : Type 0
+SoundStagedOne = (d : Device) → breaksD1 d ≡ false → StagedOne d

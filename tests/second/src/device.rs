@@ -71,6 +71,13 @@ impl Component {
     pub fn effective(&self) -> Version {
         self.staged.unwrap_or(self.running)
     }
+
+    /// A1, of an image and of a staged version: the variant matches the
+    /// running one's and major-minor is not lower.
+    fn may_stage(&self, version: Version) -> bool {
+        version.variant() == self.running.variant()
+            && version.major_minor() >= self.running.major_minor()
+    }
 }
 
 /// What an offered session carries.
@@ -219,12 +226,13 @@ impl Device {
     }
 
     /// D1: state breaks S1-S4, opens on an unlisted or pending component,
-    /// owes while idle, or has a staged version below running.
+    /// owes while idle, or has a staged version below running by major-minor
+    /// or of another variant (A1).
     fn breaks_d1(&self) -> bool {
         setup_refusal(self.staging as u64, self.count, &self.components).is_some()
             || self.opens_wrongly()
             || (self.stage == Stage::Idle && self.owed.is_some())
-            || self.listed().iter().any(|c| c.effective() < c.running)
+            || self.listed().iter().any(|c| c.staged.is_some_and(|staged| !c.may_stage(staged)))
     }
 
     /// D1: opens on an unlisted or pending component.
@@ -346,7 +354,8 @@ impl Device {
         (next, reply_to_offer(offer.token, status, reason))
     }
 
-    /// Checks 1 to 9: status, reason, and the slot where it is accepted.
+    /// Checks 1 to 9, with A1's between 6 and 7: status, reason, and the
+    /// slot where it is accepted.
     fn offer_status(&self, offer: &Offer) -> (u8, u8, Option<u8>) {
         // 1. session not idle: BUSY.
         if self.stage != Stage::Idle {
@@ -354,29 +363,33 @@ impl Device {
         }
         // 2. protocol not 2: REJECT 0xE0.
         if offer.protocol != PROTOCOL {
-            return (REJECT, 0xE0, None);
+            return (REJECT, REASON_PROTOCOL, None);
         }
         // 3. id not on the device: REJECT 1.
         let slot = match self.slot_of(offer.id) {
-            None => return (REJECT, 1, None),
+            None => return (REJECT, REASON_COMPONENT, None),
             Some(slot) => slot,
         };
         let component = self.components[slot];
         // 4. platform differs: REJECT 1.
         if offer.platform != self.platform {
-            return (REJECT, 1, None);
+            return (REJECT, REASON_COMPONENT, None);
         }
         // 5. segment not 0: REJECT 0xE1.
         if offer.segment != 0 {
-            return (REJECT, 0xE1, None);
+            return (REJECT, REASON_SEGMENT, None);
         }
         // 6. component pending: REJECT 2.
         if component.pending() {
-            return (REJECT, 2, None);
+            return (REJECT, REASON_PENDING, None);
         }
-        // 7. version not greater than running: REJECT 0.
-        if offer.version <= component.running {
-            return (REJECT, 0, None);
+        // A1. variant differs from the running one: REJECT 0xE2.
+        if offer.version.variant() != component.running.variant() {
+            return (REJECT, REASON_VARIANT, None);
+        }
+        // 7. version divided by 256 (A1) not greater than running: REJECT 0.
+        if offer.version.major_minor() <= component.running.major_minor() {
+            return (REJECT, REASON_OLD, None);
         }
         // 8. need not met: SKIP.
         if !self.meets(offer.need_id, offer.need_least) {
@@ -399,7 +412,7 @@ impl Device {
         }
         match self.slot_of(need_id) {
             None => false,
-            Some(slot) => self.components[slot].effective().without_variant() >= need_least,
+            Some(slot) => self.components[slot].effective().major_minor() >= need_least,
         }
     }
 
@@ -513,7 +526,8 @@ fn image_version(image: &[u8]) -> Version {
     Version::from_bytes(&image[0..4])
 }
 
-/// Wrong CRC 0x05; wrong id 0x04; version below running 0x07; else 0.
+/// Wrong CRC 0x05; wrong id 0x04; another variant or a lower major-minor
+/// (A1) 0x07; else 0.
 fn judge_image(component: &Component, image: &[u8]) -> u8 {
     if !crc_right(image) {
         return 0x05;
@@ -521,7 +535,7 @@ fn judge_image(component: &Component, image: &[u8]) -> u8 {
     if image[4] != component.id {
         return 0x04;
     }
-    if image_version(image) < component.running {
+    if !component.may_stage(image_version(image)) {
         return 0x07;
     }
     0

@@ -1,4 +1,4 @@
-//! Bench examples of document 01, and a few searches around them.
+//! Bench examples of document 01, cases of A1, and a few searches around them.
 
 use crate::bundle::{check, lines, Fault};
 use crate::device::*;
@@ -116,7 +116,7 @@ fn e12() -> [(Offer, Vec<u8>); 2] {
     let one = Version::from_parts(1, 3, 0);
     let two = Version::from_parts(1, 2, 0);
     [
-        (plain_offer(1, one, (2, two.without_variant())), body(&image(1, one, 64), 52)),
+        (plain_offer(1, one, (2, two.major_minor())), body(&image(1, one, 64), 52)),
         (plain_offer(2, two, (0, 0)), body(&image(2, two, 64), 52)),
     ]
 }
@@ -255,6 +255,375 @@ fn e14_lines() {
     assert_eq!(lines(&bundle), "offers 2\n1 1.3.0 records 2\n2 1.2.0 records 2\n");
     bundle[8 + 16] += 1;
     assert_eq!(lines(&bundle), "refused B7 1\n");
+}
+
+// -------------------------------------------------------------------- A1
+
+/// The bench where component 1 runs this version.
+fn bench_at(running: u32) -> Device {
+    let mut device = bench();
+    device.components[0].running = Version(running);
+    device
+}
+
+/// A session open on component 1.
+fn open(device: Device) -> Device {
+    Device { stage: Stage::Offered(Offered { slot: 0, token: 0xA5 }), ..device }
+}
+
+/// REJECT with this reason.
+fn rejected(reason: u8) -> Answer {
+    bytes(&[(3, 0xA5), (8, reason), (12, 2)])
+}
+
+/// E2's offer at this version, perhaps with other bytes.
+fn offer_of(version: u32, changes: &[(usize, &[u8])]) -> [u8; SHORT] {
+    let mut packet = offer_with(changes);
+    packet[4..8].copy_from_slice(&version.to_le_bytes());
+    packet
+}
+
+/// Running, offered, and the reason; nothing for ACCEPT.
+const A1_OFFERS: [(u32, u32, Option<u8>); 31] = [
+    // The customer's case: from 1.2.0 to a debug build of one number, and back.
+    (0x0100_0200, 0x0100_0201, Some(0xE2)),
+    (0x0100_0201, 0x0100_0200, Some(0xE2)),
+    // Same variant: release one less, the same, one greater.
+    (0x0100_0200, 0x0100_0100, Some(0)),
+    (0x0100_0200, 0x0100_0200, Some(0)),
+    (0x0100_0200, 0x0100_0300, None),
+    (0x0100_0207, 0x0100_0107, Some(0)),
+    (0x0100_0207, 0x0100_0207, Some(0)),
+    (0x0100_0207, 0x0100_0307, None),
+    // Other variant, older release.
+    (0x0100_0200, 0x0100_0101, Some(0xE2)),
+    (0x0100_0200, 0x0100_01FF, Some(0xE2)),
+    (0x0100_0207, 0x0100_0106, Some(0xE2)),
+    // Other variant, same release.
+    (0x0100_0207, 0x0100_0206, Some(0xE2)),
+    (0x0100_0207, 0x0100_0208, Some(0xE2)),
+    (0x0100_0207, 0x0100_0287, Some(0xE2)),
+    // Other variant, newer release.
+    (0x0100_0200, 0x0100_0301, Some(0xE2)),
+    (0x0100_0207, 0x0100_0300, Some(0xE2)),
+    (0x0100_0200, 0x0200_0001, Some(0xE2)),
+    // From minor to major: 0.65535 and 1.0, 127.65535 and 128.0.
+    (0x00FF_FF00, 0x0100_0000, None),
+    (0x0100_0000, 0x00FF_FF00, Some(0)),
+    (0x0100_0000, 0x00FF_FFFF, Some(0xE2)),
+    (0x7FFF_FF03, 0x8000_0003, None),
+    (0x8000_0003, 0x7FFF_FF03, Some(0)),
+    // The least and the greatest.
+    (0, 0, Some(0)),
+    (0, 1, Some(0xE2)),
+    (0, 0xFF, Some(0xE2)),
+    (0, 0x100, None),
+    (0, 0x1FF, Some(0xE2)),
+    (0xFFFF_FFFF, 0xFFFF_FFFF, Some(0)),
+    (0xFFFF_FFFE, 0xFFFF_FFFF, Some(0xE2)),
+    (0xFFFF_FEFF, 0xFFFF_FFFF, None),
+    (0xFFFF_FFFF, 0xFFFF_FEFF, Some(0)),
+];
+
+/// I and V are ignored, so each case stands for all four of their values.
+#[test]
+fn a1_offers() {
+    for (running, offered, reason) in A1_OFFERS {
+        for flags in [0, 0x40, 0x80, 0xC0] {
+            let device = bench_at(running);
+            let (next, answer) =
+                device.offer(&[0; 128], &offer_of(offered, &[(1, &[flags])]));
+            let expected = match reason {
+                Some(reason) => (device, rejected(reason)),
+                None => (open(device), bytes(&[(3, 0xA5), (12, 1)])),
+            };
+            assert_eq!((next, answer), expected, "{running:08x} {offered:08x}");
+        }
+    }
+}
+
+/// Offers of another variant: checks 1 to 6 come before, 7 and 8 after.
+#[test]
+fn a1_order_of_the_checks() {
+    let cases: [(&[(usize, &[u8])], u8); 9] = [
+        (&[], 0xE2),
+        (&[(12, &[1])], 0xE0),
+        (&[(2, &[3])], 1),
+        (&[(2, &[0])], 1),
+        (&[(14, &[0x43])], 1),
+        (&[(0, &[1])], 0xE1),
+        // The need of E5, which alone is SKIP; one of an absent component; a met one.
+        (&[(8, &[2, 2, 0, 1])], 0xE2),
+        (&[(8, &[9, 0, 0, 0])], 0xE2),
+        (&[(8, &[2, 1, 0, 1])], 0xE2),
+    ];
+    for offered in [0x0100_0101, 0x0100_0201, 0x0100_0301] {
+        for (changes, reason) in cases {
+            let (next, answer) = bench().offer(&[0; 128], &offer_of(offered, changes));
+            assert_eq!((next, answer), (bench(), rejected(reason)));
+        }
+        // 1. session not idle.
+        let (next, answer) = open(bench()).offer(&[0; 128], &offer_of(offered, &[]));
+        assert_eq!((next, answer), (open(bench()), bytes(&[(3, 0xA5), (12, 3)])));
+        // 6. component pending.
+        let mut pending = bench();
+        pending.components[0].staged = Some(Version(0x0100_0300));
+        let (next, answer) = pending.offer(&[0; 128], &offer_of(offered, &[]));
+        assert_eq!((next, answer), (pending, rejected(2)));
+    }
+    // Check 7 still comes before 8.
+    let old = offer_of(0x0100_0200, &[(8, &[2, 2, 0, 1])]);
+    assert_eq!(bench().offer(&[0; 128], &old).1, rejected(0));
+}
+
+/// The variant is that of the offer's own component; a need has none.
+#[test]
+fn a1_variant_of_its_own_component() {
+    let mut device = bench();
+    device.components[1].running = Version(0x0100_01FF);
+    let answers: [(&[(usize, &[u8])], Answer); 7] = [
+        (&[], bytes(&[(3, 0xA5), (12, 1)])),
+        (&[(4, &[0xFF, 3, 0, 1])], rejected(0xE2)),
+        (&[(2, &[2])], rejected(0xE2)),
+        (&[(2, &[2]), (4, &[0xFF, 2, 0, 1])], bytes(&[(3, 0xA5), (12, 1)])),
+        (&[(2, &[2]), (4, &[0xFF, 1, 0, 1])], rejected(0)),
+        // 1.1.255 meets 1.1 and not 1.2.
+        (&[(8, &[2, 1, 0, 1])], bytes(&[(3, 0xA5), (12, 1)])),
+        (&[(8, &[2, 2, 0, 1])], bytes(&[(3, 0xA5)])),
+    ];
+    for (changes, expected) in answers {
+        assert_eq!(device.offer(&[0; 128], &offer_with(changes)).1, expected);
+    }
+}
+
+/// Running, another version, and whether an image of it may be taken and a
+/// staged one may stand.
+const A1_STAGED: [(u32, u32, bool); 25] = [
+    // Same variant: release one less, the same, one greater.
+    (0x0100_0200, 0x0100_0100, false),
+    (0x0100_0200, 0x0100_0200, true),
+    (0x0100_0200, 0x0100_0300, true),
+    (0x0100_0207, 0x0100_0107, false),
+    (0x0100_0207, 0x0100_0207, true),
+    (0x0100_0207, 0x0100_0307, true),
+    // Other variant: older, same and newer release.
+    (0x0100_0200, 0x0100_0101, false),
+    (0x0100_0200, 0x0100_0201, false),
+    (0x0100_0200, 0x0100_0301, false),
+    (0x0100_0207, 0x0100_0106, false),
+    (0x0100_0207, 0x0100_0206, false),
+    (0x0100_0207, 0x0100_0208, false),
+    (0x0100_0207, 0x0100_0300, false),
+    (0x0100_0207, 0x0200_0008, false),
+    // From minor to major.
+    (0x0100_0000, 0x00FF_FF00, false),
+    (0x00FF_FF00, 0x0100_0000, true),
+    (0x8000_0003, 0x7FFF_FF03, false),
+    (0x7FFF_FF03, 0x8000_0003, true),
+    // The least and the greatest.
+    (0, 0, true),
+    (0, 0xFF, false),
+    (0, 0x100, true),
+    (0, 0xFFFF_FFFF, false),
+    (0xFFFF_FFFF, 0xFFFF_FFFF, true),
+    (0xFFFF_FFFF, 0xFFFF_FEFF, false),
+    (0xFFFF_FFFE, 0xFFFF_FFFF, false),
+];
+
+/// 64 bytes in blocks of 52 and 12 into an open session of component 1.
+fn send(device: Device, staging: &mut [u8; 128], image: &[u8]) -> (Device, Answer) {
+    let mut first = block(FIRST, 52, 0, 0);
+    first[8..60].copy_from_slice(&image[..52]);
+    let mut last = block(LAST, 12, 1, 52);
+    last[8..20].copy_from_slice(&image[52..]);
+    let (device, answer) = device.content(staging, &first);
+    assert_eq!(answer, bytes(&[]));
+    device.content(staging, &last)
+}
+
+/// Success: pending with the image's version. Failure: not pending. Either
+/// way idle, and the region holds what was sent.
+#[test]
+fn a1_image_judgement() {
+    for (running, version, taken) in A1_STAGED {
+        let own = image(1, Version(version), 64);
+        let mut torn = own.clone();
+        torn[63] ^= 1;
+        let other = image(2, Version(version), 64);
+        let mut torn_other = other.clone();
+        torn_other[63] ^= 1;
+        let sent = [
+            (own, if taken { 0 } else { 0x07 }),
+            (torn, 0x05),
+            (other, 0x04),
+            (torn_other, 0x05),
+        ];
+        for (image, status) in sent {
+            let mut staging = [0xA5; 128];
+            let (next, answer) = send(open(bench_at(running)), &mut staging, &image);
+            let mut expected = bench_at(running);
+            if status == 0 {
+                expected.components[0].staged = Some(Version(version));
+            }
+            assert_eq!(answer, bytes(&[(0, 1), (4, status)]), "{running:08x} {version:08x}");
+            assert_eq!(next, expected);
+            assert_eq!(staging[..64], image[..]);
+            assert_eq!(staging[64..], [0xA5; 64]);
+        }
+    }
+}
+
+/// What every entry that can meet D1 answers to a state that breaks it.
+fn meets_d1(device: Device) {
+    let refused = (device, Answer::Refused(Refusal::D1, [0; SHORT]));
+    let mut staging = [0xA5; 128];
+    let notify = [1, 0, 0xFE, 0xA5, 0, 0, 0, 0, 0, 0, 0, 0, 0, 0, 0, 0];
+    let code_0 = [0, 0, 0xFF, 0xA5, 0, 0, 0, 0, 0, 0, 0, 0, 0, 0, 0, 0];
+    for report in [offer_with(&[]), offer_with(&[(2, &[2])]), code_0, notify] {
+        assert_eq!(device.offer(&staging, &report), refused);
+    }
+    for flags in [FIRST, FIRST | LAST, LAST] {
+        assert_eq!(device.content(&mut staging, &block(flags, 4, 0, 0)), refused);
+    }
+    // D1 comes before D2 and D3.
+    assert_eq!(device.offer(&staging[..127], &[0; 15]), refused);
+    assert_eq!(device.content(&mut staging[..127], &[0; 59]), refused);
+    assert_eq!(staging, [0xA5; 128]);
+    let reply = device.version_reply();
+    assert_eq!((reply.refused, reply.value), (Some(Refusal::D1), [0; LONG]));
+    let reset = device.reset();
+    assert_eq!((reset.refused, reset.value), (Some(Refusal::D1), device));
+}
+
+/// What the entries answer to an idle device where component 1 is pending.
+fn passes_d1(device: Device, staged: Version) {
+    let mut staging = [0xA5; 128];
+    assert_eq!(device.offer(&staging, &offer_with(&[])), (device, rejected(2)));
+    let (next, answer) = device.content(&mut staging, &block(FIRST, 4, 0, 0));
+    assert_eq!((next, answer), (device, bytes(&[(4, 0x0A)])));
+    let reply = device.version_reply();
+    assert_eq!(reply.refused, None);
+    assert_eq!(reply.value[4..8], device.components[0].running.to_bytes());
+    let reset = device.reset();
+    assert_eq!((reset.refused, reset.value), (None, bench_at(staged.0)));
+}
+
+#[test]
+fn a1_d1_staged_and_running() {
+    for (running, version, stands) in A1_STAGED {
+        let staged = Some(Version(version));
+        let mut device = bench_at(running);
+        device.components[0].staged = staged;
+        if stands {
+            passes_d1(device, Version(version));
+            continue;
+        }
+        meets_d1(device);
+        // Also while another component is open and a READY is owed.
+        let stage = Stage::Offered(Offered { slot: 1, token: 9 });
+        meets_d1(Device { stage, owed: Some(3), ..device });
+        let stage = Stage::Receiving(Receiving { slot: 1, token: 9, next: 0 });
+        meets_d1(Device { stage, ..device });
+        // Also at the last listed component, and not past it.
+        let mut last = bench();
+        last.components[1].running = Version(running);
+        last.components[1].staged = staged;
+        meets_d1(last);
+        let mut past = bench();
+        past.components[2].running = Version(running);
+        past.components[2].staged = staged;
+        assert_eq!(past.version_reply(), bench().version_reply());
+    }
+}
+
+/// The customer's case in a run: the debug build is rejected and leaves
+/// nothing, the next offer lands, and no pass is repeated.
+#[test]
+fn a1_customers_run() {
+    let debug = Version(0x0100_0201);
+    let two = Version(0x0100_0200);
+    let bundle = bundle_of(&[
+        (plain_offer(1, debug, (0, 0)), body(&image(1, debug, 64), 52)),
+        (plain_offer(2, two, (0, 0)), body(&image(2, two, 64), 52)),
+    ]);
+    let mut staging = [0x33; 128];
+    let left = run(0x17, &bundle, bench(), &mut staging);
+    assert_eq!(
+        told(&left),
+        [
+            "code 0 1",
+            "code 1 1",
+            "offer 1 2 226",
+            "offer 2 1 0",
+            "content 80 0",
+            "content 40 0",
+            "code 2 1",
+        ]
+    );
+    let report = left.report();
+    assert_eq!((report.packets, report.passes, report.end), (7, 1, Some(End::Done)));
+    assert_eq!(left.host.mask, 2);
+    let mut expected = bench();
+    expected.components[1].staged = Some(two);
+    assert_eq!(left.device, expected);
+    assert_eq!(staging[..64], [0x33; 64]);
+    assert_eq!(staging[64..], image(2, two, 64));
+}
+
+/// An offer of another variant is in no smallest set, so its version meets
+/// no need, however new.
+#[test]
+fn a1_other_variant_meets_no_need() {
+    let debug = Version(0x0100_0301);
+    let two = Version(0x0100_0200);
+    let bundle = bundle_of(&[
+        (plain_offer(1, debug, (0, 0)), body(&image(1, debug, 64), 52)),
+        (plain_offer(2, two, (1, 0x01_0003)), body(&image(2, two, 64), 52)),
+    ]);
+    let mut staging = [0x33; 128];
+    let left = run(0x17, &bundle, bench(), &mut staging);
+    assert_eq!(
+        told(&left),
+        ["code 0 1", "code 1 1", "offer 1 2 226", "offer 2 0 0", "code 2 1"]
+    );
+    let report = left.report();
+    assert_eq!((report.packets, report.passes, report.end), (5, 1, Some(End::Done)));
+    assert_eq!((left.host.mask, left.device, staging), (0, bench(), [0x33; 128]));
+}
+
+/// Every pair of these versions, told by their three parts.
+#[test]
+fn a1_searched() {
+    let mut parts = Vec::new();
+    for major in [0, 1, 0x80, 0xFF] {
+        for minor in [0, 1, 0xFF, 0x100, 0xFFFF] {
+            for variant in [0, 1, 0x80, 0xFF] {
+                parts.push((major, minor, variant));
+            }
+        }
+    }
+    let version = |(major, minor, variant)| Version::from_parts(major, minor, variant);
+    for before in &parts {
+        for after in &parts {
+            let same = before.2 == after.2;
+            let newer = (after.0, after.1) > (before.0, before.1);
+            let lower = (after.0, after.1) < (before.0, before.1);
+            let mut device = bench_at(version(*before).0);
+            let after = version(*after);
+            let expected = match (same, newer) {
+                (false, _) => rejected(0xE2),
+                (true, false) => rejected(0),
+                (true, true) => bytes(&[(3, 0xA5), (12, 1)]),
+            };
+            assert_eq!(device.offer(&[0; 128], &offer_of(after.0, &[])).1, expected);
+            let status = if same && !lower { 0 } else { 0x07 };
+            let sent = send(open(device), &mut [0; 128], &image(1, after, 64)).1;
+            assert_eq!(sent, bytes(&[(0, 1), (4, status)]));
+            device.components[0].staged = Some(after);
+            let broken = device.version_reply().refused == Some(Refusal::D1);
+            assert_eq!(broken, !same || lower);
+        }
+    }
 }
 
 // --------------------------------------------------------------- packets
@@ -536,13 +905,13 @@ impl Dice {
     }
 }
 
-/// A device of up to seven components with small versions, some pending,
-/// perhaps an open session.
+/// A device of up to seven components with small versions of two variants,
+/// some pending, perhaps an open session.
 fn some_device(dice: &mut Dice) -> Device {
     let count = 1 + dice.below(MOST as u32) as u8;
     let mut device = Device { platform: 0x0042, staging: 8 * 16, count, ..Default::default() };
     for slot in 0..count as usize {
-        let running = Version(256 * dice.below(4));
+        let running = Version(256 * dice.below(4) + dice.below(2));
         let staged = match dice.below(4) {
             0 => Some(Version(running.0 + 256 * dice.below(3))),
             _ => None,
@@ -568,9 +937,9 @@ fn some_device(dice: &mut Dice) -> Device {
     device
 }
 
-/// Offers with good bodies for the components that the device has. Every
-/// second time all are newer than what can run and most need one another,
-/// so that many passes are run.
+/// Offers with good bodies for the components that the device has, most of
+/// the running variant. Every second time all are newer than what can run and
+/// most need one another, so that many passes are run.
 fn some_offers(dice: &mut Dice, device: &Device) -> Vec<(Offer, Vec<u8>)> {
     let chained = dice.below(2) == 0;
     let most = MOST as u8;
@@ -579,9 +948,14 @@ fn some_offers(dice: &mut Dice, device: &Device) -> Vec<(Offer, Vec<u8>)> {
     let mut offers = Vec::new();
     for _ in 0..count {
         let id = ids.remove(dice.below(ids.len() as u32) as usize);
+        let component = device.listed().iter().find(|c| c.id == id);
+        let variant = match (component, dice.below(8)) {
+            (Some(component), 1..) => component.running.0 % 256,
+            _ => dice.below(3),
+        };
         let version = match chained {
-            true => Version(256 * (6 + dice.below(2))),
-            false => Version(256 * dice.below(6) + dice.below(2)),
+            true => Version(256 * (6 + dice.below(2)) + variant),
+            false => Version(256 * dice.below(6) + variant),
         };
         let need = match (chained, dice.below(3)) {
             (true, _) => (dice.below(8) as u8, 6),
@@ -592,7 +966,7 @@ fn some_offers(dice: &mut Dice, device: &Device) -> Vec<(Offer, Vec<u8>)> {
         if dice.below(12) == 0 {
             offer.platform = 0x0043;
         }
-        let length = match device.listed().iter().find(|c| c.id == id) {
+        let length = match component {
             Some(component) => component.region.length as usize,
             None => 10,
         };
@@ -601,12 +975,15 @@ fn some_offers(dice: &mut Dice, device: &Device) -> Vec<(Offer, Vec<u8>)> {
     offers
 }
 
-/// Passes checks 2 to 7 against the device after code 0.
+/// Passes checks 2 to 7, A1's among them, against the device after code 0.
 fn passes_2_to_7(device: &Device, offer: &Offer) -> bool {
     match device.listed().iter().find(|c| c.id == offer.id) {
         None => false,
         Some(c) => {
-            offer.platform == device.platform && c.staged.is_none() && offer.version > c.running
+            offer.platform == device.platform
+                && c.staged.is_none()
+                && offer.version.0 % 256 == c.running.0 % 256
+                && offer.version.0 / 256 > c.running.0 / 256
         }
     }
 }
@@ -661,6 +1038,7 @@ fn left_by(set: u32, device: &Device, staging: &[u8], offers: &[(Offer, Vec<u8>)
 fn demand_3_searched() {
     let mut dice = Dice(20_260_321);
     let mut most_passes = 0;
+    let mut other_variants = 0;
     for _ in 0..20_000 {
         let device = some_device(&mut dice);
         let mut offers = some_offers(&mut dice, &device);
@@ -680,11 +1058,14 @@ fn demand_3_searched() {
             assert!(report.passes as usize <= n);
             assert_eq!(left.host.mask, set);
             assert_eq!((left.device, staging), left_by(set, &device, &before, &offers));
+            assert_eq!(left.device.version_reply().refused, None);
             most_passes = most_passes.max(report.passes);
+            other_variants += told(&left).iter().filter(|line| line.ends_with(" 2 226")).count();
             offers.reverse();
         }
     }
     assert!(most_passes >= 5, "{most_passes}");
+    assert!(other_variants >= 1000, "{other_variants}");
 }
 
 #[test]

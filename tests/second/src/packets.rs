@@ -29,6 +29,13 @@ pub const BUSY: u8 = 3;
 pub const READY: u8 = 4;
 pub const UNSUPPORTED: u8 = 0xFF;
 
+pub const REASON_OLD: u8 = 0;
+pub const REASON_COMPONENT: u8 = 1;
+pub const REASON_PENDING: u8 = 2;
+pub const REASON_PROTOCOL: u8 = 0xE0;
+pub const REASON_SEGMENT: u8 = 0xE1;
+pub const REASON_VARIANT: u8 = 0xE2;
+
 pub const FIRST: u8 = 0x80;
 pub const LAST: u8 = 0x40;
 

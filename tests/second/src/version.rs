@@ -1,8 +1,9 @@
 //! "A version is variant in bits 0-7, minor in 8-23, major in 24-31, and is
 //! put together from its three parts in one place only."
 
-/// A version as one 32-bit number. They compare as 32-bit numbers.
-#[derive(Clone, Copy, Debug, Default, PartialEq, Eq, PartialOrd, Ord)]
+/// A version as one 32-bit number. By A1 variant is not age: versions have
+/// no order as they stand, and the rules compare major-minor and variant.
+#[derive(Clone, Copy, Debug, Default, PartialEq, Eq)]
 pub struct Version(pub u32);
 
 impl Version {
@@ -34,8 +35,8 @@ impl Version {
         self.0.to_le_bytes()[0]
     }
 
-    /// "divided by 256 (rounded down)": what a 24-bit need is compared with.
-    pub fn without_variant(self) -> u32 {
+    /// "divided by 256 (rounded down)": major-minor as a 24-bit number.
+    pub fn major_minor(self) -> u32 {
         self.0 / 256
     }
 

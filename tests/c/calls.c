@@ -182,6 +182,13 @@ static void device_bytes(void)
     no_device(CFU_DEVICE_OWED_AT, 2);
     no_device(STAGED(0), 2);
     no_device(STAGED(CFU_COMPONENT_LIMIT - 1), 2);
+    /* and so is a staged version of another variant than the running 1.1.0, or of a lower release; its own is served */
+    const uint8_t pending[] = {1, 0, 2, 0, 1};
+    memcpy(device + EDGE + STAGED(1), pending, sizeof pending);
+    CHECK(cfu_device_version_reply(AT(device), AT(longer)) == CFU_SERVED);
+    no_device(STAGED(1) + 1, 1);
+    no_device(STAGED(1) + 2, 0);
+    memset(device + EDGE + STAGED(1), 0, sizeof pending);
     /* a reset writes the whole record */
     CHECK(cfu_device_reset(AT(device)) == CFU_SERVED);
     CHECK(memcmp(device, new_device, sizeof device) == 0);
@@ -213,6 +220,11 @@ static void device_calls(void)
     CHECK(SAME(replies, 0, 0, 0, 0xA5, 0, 0, 0, 0, 0, 0, 0, 0, CFU_OFFER_SKIP));
     offered(14, 0x43, CFU_REJECT_INV_COMPONENT, CFU_OFFER_REJECT);
     offered(0, 1, CFU_REJECT_WRONG_SEGMENT, CFU_OFFER_REJECT);
+    /* another variant than the running one: of a newer release, and of the running one, the customer's case */
+    offered(4, 1, CFU_REJECT_WRONG_VARIANT, CFU_OFFER_REJECT);
+    const uint8_t debug[CFU_SHORT_SIZE] = {0, 0, 1, 0xA5, 1, 2, 0, 1, 0, 0, 0, 0, 2, 0, 0x42, 0};
+    offers(debug, sizeof debug, CFU_SERVED, 1);
+    CHECK(SAME(replies, 0, 0, 0, 0xA5, 0, 0, 0, 0, CFU_REJECT_WRONG_VARIANT, 0, 0, 0, CFU_OFFER_REJECT));
     CHECK(FILLED(staging, 0x77));
     offered(0, 0, 0, CFU_OFFER_ACCEPT);
     offered(0, 0, 0, CFU_OFFER_BUSY);

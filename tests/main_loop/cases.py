@@ -1,5 +1,6 @@
 #!/usr/bin/env python3
-"""Frames for the main loop, and what it must print of each, from document 01 alone (bench examples E1 to E10, then one whole update).
+"""Frames for the main loop, and what it must print of each, from document 01 as document 02 amends it (bench examples E1 to E10,
+A1's REJECT, then one whole update).
 
 cases.py stdin     writes the frames to standard output
 cases.py stdout    writes the lines that the program must print
@@ -88,6 +89,10 @@ asks(OLD, REJECT, 0)
 asks(changed(OFFER, "protocol", "01"), REJECT, 0xE0)
 asks(changed(OLD, "protocol", "01"), REJECT, 0xE0)
 asks(changed(OFFER, "need", "02 02 00 01"), SKIP)
+
+# document 02, A1: a debug build of the running number, and one of a newer release
+asks(changed(OFFER, "version", "01 02 00 01"), REJECT, 0xE2)
+asks(changed(OFFER, "version", "01 03 00 01"), REJECT, 0xE2)
 
 # E6, then a second offer while the session is open; E2
 asks(changed(OFFER, "need", "02 01 00 01"), ACCEPT)

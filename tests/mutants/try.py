@@ -4,8 +4,8 @@
 usage: tests/mutants/try.py [NAME ..]
 
 A mutant is a wrong device or host written into the definitions themselves, so that no contract can refuse it: only a statement about the definitions
-can. A copy of the repository is made with the definitions, the declared types and the statements that compute (E1 to E10, E13 in both orders, the
-chain of seven, the mixed case, the need cycle), and no function. Each file NAME.mutant changes one line of a definition; the line `breaks:` says
+can. A copy of the repository is made with the definitions, the declared types and the statements that compute (E1 to E10, A1's case, E13 in both orders,
+the chain of seven, the mixed case, the need cycle), and no function. Each file NAME.mutant changes one line of a definition; the line `breaks:` says
 which proof must fail, or `nothing` where no statement that computes fails and docs/WRONG_PROGRAMS.md says what does. Status 1 where the outcome differs."""
 import glob
 import os
@@ -19,10 +19,11 @@ from concurrent.futures import ThreadPoolExecutor
 HERE = os.path.dirname(os.path.abspath(__file__))
 TOP = os.path.dirname(os.path.dirname(HERE))
 CRATES = ['wire', 'wire_offer', 'wire_content', 'wire_version', 'crc16', 'image', 'device_component', 'device_slots', 'device_session', 'device_offering',
-          'device_receiving', 'device', 'bundle_records', 'bundle_layout', 'bundle', 'host_record', 'host_table', 'host_decide', 'host_packet', 'host', 'update_passes', 'update']
+          'device_receiving', 'device', 'device_rules', 'bundle_records', 'bundle_layout', 'bundle', 'host_record', 'host_table', 'host_decide', 'host_packet', 'host',
+          'update_passes', 'update']
 # the statements that compute, and what they stand on
 PROOFS = {'wire': ['Tests'], 'device_component': ['record/Fits', 'record/Ranges'], 'device_session': ['effect/Laws', 'effect/Ranges'], 'device': ['Bench'],
-          'update': ['Fitting', 'Goodness', 'Bench', 'Cases']}
+          'device_rules': ['Examples'], 'update': ['Fitting', 'Goodness', 'Bench', 'Cases']}
 
 
 def types_only(text):
@@ -72,7 +73,7 @@ def definitions(folder):
 
 
 def check(folder):
-    done = subprocess.run(['rt', 'check', 'update'], cwd=folder, capture_output=True, text=True, env=dict(os.environ, RT_CUT='0'))
+    done = subprocess.run(['rt', 'check', 'device_rules', 'update'], cwd=folder, capture_output=True, text=True, env=dict(os.environ, RT_CUT='0'))
     return done.returncode, done.stdout + done.stderr
 
 

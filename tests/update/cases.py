@@ -66,8 +66,23 @@ run(record(BENCH), bundle([SWAPPED]))
 case("last year's fault behind a good image: component 2 lands, and the fault ends the run before anything of component 1 is pending")
 run(record(BENCH), bundle([TWO, SWAPPED]))
 
+# The customer's case (document 02, A1): a debug build of the number that runs as a production build.
+DEBUG = version(1, 2, 1)
+case("the customer's case: a debug build of the running number: REJECT 0xE2, one pass, nothing changes")
+run(record(BENCH), bundle([offer(1, DEBUG)]))
+case("the customer's case beside a good offer: 2 lands, the debug build of 1 is rejected and no second pass is run")
+run(record(BENCH), bundle([offer(1, DEBUG), TWO]))
+case('a debug build of component 2 of the needed release: it is rejected, so that 1, which needs it, stays')
+run(record(BENCH), bundle([ONE, offer(2, version(1, 2, 1))]))
+case('debug builds where debug builds run: both land, in two passes')
+run(record([(DEBUG, None), (version(1, 1, 1), None)]), bundle([offer(1, version(1, 3, 1), (2, V12)), offer(2, version(1, 2, 1))]))
+case('an image of another variant under an offer of the running one: H1 with status 7, nothing pending')
+run(record(BENCH), bundle([(offer(1, V13)[0], body(image(1, version(1, 3, 1))))]))
+
 case('refused: B3, no offers')
 run(record(BENCH), bundle([]))
+case("refused: D1, the customer's debug build staged")
+run(record([(V12, DEBUG), (V11, None)]), bundle([ONE, TWO]))
 case('refused: D1, a READY owed while idle')
 run(record(BENCH, owed=0x44), bundle([ONE, TWO]))
 

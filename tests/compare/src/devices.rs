@@ -22,9 +22,15 @@ pub fn version(r: &mut Random) -> u32 {
     }
 }
 
-/// A version that is not below another.
-fn version_from(r: &mut Random, least: u32) -> u32 {
-    least.saturating_add(r.pick(&[0, 1, 255, 256, 257, 0x1_0000, 0x0100_0000]))
+/// A version of the same variant, so many releases later; the latest where there are not so many.
+fn later(version: u32, releases: u32) -> u32 {
+    (version / 256 + releases).min(0xFF_FFFF) * 256 + version % 256
+}
+
+/// A version of another variant, of the release before, the same or a later one.
+pub fn other_variant(r: &mut Random, version: u32) -> u32 {
+    let near = r.pick(&[version, version, version.wrapping_sub(256), version.wrapping_add(256)]);
+    near ^ r.pick(&[1u32, 2, 0x80, 0xFF])
 }
 
 /// A record that row D1 does not refuse.
@@ -47,7 +53,7 @@ pub fn valid_device(r: &mut Random) -> DeviceRecord {
         component.id = *id;
         component.running = running;
         if r.percent(20) {
-            component.staged = Some(version_from(r, running));
+            component.staged = Some(later(running, r.pick(&[0, 1, 2, 256, 0x1_0000])));
         }
     }
     // Slots past the count are never looked at.
@@ -140,7 +146,7 @@ pub fn count_passed(tally: &mut Tally, given: &[u8], passed: &[Passed]) {
 }
 
 /// What a record is made to break: the clauses of row D1, and the forms of bytes that are no record.
-pub const BROKEN: [&str; 19] = [
+pub const BROKEN: [&str; 20] = [
     "D1: staging over the limit",
     "D1: count 0",
     "D1: count over the limit",
@@ -154,7 +160,8 @@ pub const BROKEN: [&str; 19] = [
     "D1: opens on an unlisted component",
     "D1: opens on a pending component",
     "D1: owes while idle",
-    "D1: staged below running",
+    "D1: staged of a lower release",
+    "D1: staged of another variant",
     "D1: no stage",
     "D1: owed neither 0 nor 1",
     "D1: staged neither 0 nor 1",
@@ -207,11 +214,16 @@ pub fn broken_device(r: &mut Random, aim: &'static str) -> Vec<u8> {
             record.session = Session::Idle;
             record.owed = Some(r.byte());
         }
-        "D1: staged below running" => {
+        "D1: staged of a lower release" => {
             record.session = Session::Idle;
             record.owed = None;
-            record.components[slot].running = r.pick(&[1, 0x0100_0000, u32::MAX]);
-            record.components[slot].staged = Some(record.components[slot].running - 1);
+            record.components[slot].running = r.pick(&[0x0100, 0x0100_0001, u32::MAX]);
+            record.components[slot].staged = Some(record.components[slot].running - 256);
+        }
+        "D1: staged of another variant" => {
+            record.session = Session::Idle;
+            record.owed = None;
+            record.components[slot].staged = Some(other_variant(r, record.components[slot].running));
         }
         _ => {}
     }
@@ -450,10 +462,11 @@ fn offer(r: &mut Random, record: &DeviceRecord) -> Vec<u8> {
     let id = if r.percent(92) { chosen.id } else { r.pick(&[0, 10, ID_LIMIT, ID_LIMIT + 1, 0xFD, r.clone().byte()]) };
     let version = match r.below(20) {
         0 => chosen.running,
-        1 => chosen.running.wrapping_sub(1),
+        1 => chosen.running.wrapping_sub(256),
         2 => version(r),
         3 => chosen.running.wrapping_add(0x0100_0000),
-        4..=8 => chosen.running.wrapping_add(1),
+        4 => chosen.running.wrapping_add(1),
+        5 | 6 => other_variant(r, chosen.running),
         _ => chosen.running.wrapping_add(256),
     };
     let token = r.byte();
@@ -536,14 +549,18 @@ fn session(r: &mut Random, record: &DeviceRecord) -> Vec<Vec<u8>> {
     }
     let version = component.running + 256;
     let mut image = demand::image(r, component.length as usize, version, component.id);
-    match r.below(8) {
+    match r.below(10) {
         0 => {
             let place = r.below(image.len());
             image[place] ^= 1 << r.below(8);
         }
         1 => image = demand::image(r, component.length as usize, version, component.id ^ 1),
-        2 => image = demand::image(r, component.length as usize, component.running.wrapping_sub(1), component.id),
+        2 => image = demand::image(r, component.length as usize, component.running.wrapping_sub(256), component.id),
         3 => image = demand::image(r, component.length as usize, component.running, component.id),
+        4 => {
+            let other = other_variant(r, component.running);
+            image = demand::image(r, component.length as usize, other, component.id);
+        }
         _ => {}
     }
     let token = r.byte();

@@ -99,6 +99,7 @@ pub const REJECT_INV_COMPONENT: u8 = 1;
 pub const REJECT_SWAP_PENDING: u8 = 2;
 pub const REJECT_WRONG_PROTOCOL: u8 = 0xE0;
 pub const REJECT_WRONG_SEGMENT: u8 = 0xE1;
+pub const REJECT_WRONG_VARIANT: u8 = 0xE2;
 pub const FLAG_FIRST_BLOCK: u8 = 0x80;
 pub const FLAG_LAST_BLOCK: u8 = 0x40;
 pub const SUCCESS: u8 = 0;

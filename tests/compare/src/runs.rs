@@ -7,7 +7,7 @@ use crate::bundles::{self, bundle, entries_in, Entry};
 use crate::calls::Calls;
 use crate::case::{difference, hex, Case, Outcome};
 use crate::demand::{self, Shown};
-use crate::devices::{any_record, broken_device, guarded, valid_device, BROKEN};
+use crate::devices::{any_record, broken_device, guarded, other_variant, valid_device, BROKEN};
 use crate::header::*;
 use crate::layout::*;
 use crate::lent::Lent;
@@ -55,7 +55,7 @@ fn records_for(r: &mut Random, image: &[u8]) -> Vec<(u32, Vec<u8>)> {
 /// The records with a fault.
 fn bad_records(r: &mut Random, component: &Component, version: u32) -> Vec<(u32, Vec<u8>)> {
     let length = component.length as usize;
-    match r.below(6) {
+    match r.below(7) {
         0 => {
             let mut image = demand::image(r, length, version, component.id);
             let place = r.below(length);
@@ -67,15 +67,20 @@ fn bad_records(r: &mut Random, component: &Component, version: u32) -> Vec<(u32,
             records_for(r, &image)
         }
         2 => {
-            let image = demand::image(r, length, component.running.wrapping_sub(1), component.id);
+            let image = demand::image(r, length, component.running.wrapping_sub(256), component.id);
             records_for(r, &image)
         }
         3 => {
             // Good in itself, but not of the offered version.
-            let image = demand::image(r, length, version.wrapping_add(1), component.id);
+            let image = demand::image(r, length, version.wrapping_add(256), component.id);
             records_for(r, &image)
         }
         4 => {
+            let other = other_variant(r, component.running);
+            let image = demand::image(r, length, other, component.id);
+            records_for(r, &image)
+        }
+        5 => {
             let image = demand::image(r, length, version, component.id);
             let mut records = records_for(r, &image);
             let place = r.below(records.len() + 1);
@@ -103,8 +108,8 @@ fn entries_for(r: &mut Random, device: &DeviceRecord) -> Vec<Entry> {
             let running = device.listed().iter().find(|component| component.id == *id).map_or(0x0100_0000, |component| component.running);
             let version = match r.below(20) {
                 0 => running,
-                1 => running.wrapping_sub(1),
-                2 | 3 => running.wrapping_add(1),
+                1 => running.wrapping_sub(256),
+                2 | 3 => other_variant(r, running),
                 4 => running.wrapping_add(0x0100_0000),
                 _ => running.wrapping_add(256),
             };

@@ -87,6 +87,7 @@ pub fn offer_status(reply: &[u8]) -> &'static str {
         (OFFER_REJECT, REJECT_SWAP_PENDING) => "offer reply: REJECT 2",
         (OFFER_REJECT, REJECT_WRONG_PROTOCOL) => "offer reply: REJECT 0xE0",
         (OFFER_REJECT, REJECT_WRONG_SEGMENT) => "offer reply: REJECT 0xE1",
+        (OFFER_REJECT, REJECT_WRONG_VARIANT) => "offer reply: REJECT 0xE2",
         (OFFER_BUSY, 0) => "offer reply: BUSY",
         (OFFER_READY, 0) => "offer reply: READY",
         (OFFER_UNSUPPORTED, 0) => "offer reply: unsupported",
@@ -108,7 +109,7 @@ pub fn content_status(reply: &[u8]) -> &'static str {
 }
 
 /// What the gate's run has to have met at least once.
-pub const REQUIRED: [&str; 46] = [
+pub const REQUIRED: [&str; 47] = [
     "row: served",
     "row: C1",
     "row: C2",
@@ -143,6 +144,7 @@ pub const REQUIRED: [&str; 46] = [
     "offer reply: REJECT 2",
     "offer reply: REJECT 0xE0",
     "offer reply: REJECT 0xE1",
+    "offer reply: REJECT 0xE2",
     "offer reply: BUSY",
     "offer reply: READY",
     "offer reply: unsupported",

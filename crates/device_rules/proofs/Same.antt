@@ -40,7 +40,7 @@ use Rattle.device.specs.Record.{find, component}
 use Rattle.device.specs.Refusals.{Row, served, D, Outcome, unlessRefused, servedWith}
 use Rattle.device.specs.Content.{sessionComponent, received}
 use Rattle.device_rules.specs.Rules.{VersionRules}
-use Rattle.device_rules.specs.Entries.{keepsStaged, breaksD1, refusalOf, offerVerdict, onKind, judge, onBlock, onContentVerdict, onContent, serveBy, serveStagingBy}
+use Rattle.device_rules.specs.Entries.{keepsStagedBy, breaksD1By, refusalBy, offerVerdictBy, onKindBy, judgeBy, onBlockBy, onContentVerdictBy, onContentBy, serveBy, serveStagingBy}
 
 -- a test that gives one answer for each of the first n
 pub any-same : (p q : Component → Bool) (n : ℕ) (cs : List Component) → ((k : ℕ) → k < n → p (componentAt cs k) ≡ q (componentAt cs k)) → any p (take n cs) ≡ any q (take n cs)
@@ -55,16 +55,16 @@ module _ (r r′ : VersionRules) (d : Device) where
   StagedSame = (k : ℕ) (v : Version) → k < d .count → component d k .staged ≡ Pending v → r .stagedFits (component d k) v ≡ r′ .stagedFits (component d k) v
 
   -- D1 then has one answer
-  pub d1-same : StagedSame → breaksD1 r d ≡ breaksD1 r′ d
-  d1-same h = rw (any-same (λ (c : Component). not (keepsStaged r c (c .staged))) (λ (c : Component). not (keepsStaged r′ c (c .staged))) (d .count) (d .components) (λ k l. each k l (component d k .staged) refl)) refl
+  pub d1-same : StagedSame → breaksD1By r d ≡ breaksD1By r′ d
+  d1-same h = rw (any-same (λ (c : Component). not (keepsStagedBy r c (c .staged))) (λ (c : Component). not (keepsStagedBy r′ c (c .staged))) (d .count) (d .components) (λ k l. each k l (component d k .staged) refl)) refl
     where
       each : (k : ℕ) → k < d .count → (s : Staged) → component d k .staged ≡ s
-          → not (keepsStaged r (component d k) (component d k .staged)) ≡ not (keepsStaged r′ (component d k) (component d k .staged))
+          → not (keepsStagedBy r (component d k) (component d k .staged)) ≡ not (keepsStagedBy r′ (component d k) (component d k .staged))
       each k l Nothing e = rw e
       each k l (Pending v) e = rw e (ap not (h k v l e))
 
   -- so have D1 to D3
-  refusal-same : StagedSame → (size n m : ℕ) → refusalOf r size d n m ≡ refusalOf r′ size d n m
+  refusal-same : StagedSame → (size n m : ℕ) → refusalBy r size d n m ≡ refusalBy r′ size d n m
   refusal-same h size n m = ap (λ (b : Bool). firstOf ((b, D 1) ∷ (not (eqb n (d .«staging_len»)), D 2) ∷ (not (eqb m size), D 3) ∷ []) served) (d1-same h)
 
   -- they agree on the version of an offer for a listed component
@@ -73,16 +73,16 @@ module _ (r r′ : VersionRules) (d : Device) where
       → (r .wrongVariant (component d k) (o .version) ≡ r′ .wrongVariant (component d k) (o .version)) × (r .isOld (component d k) (o .version) ≡ r′ .isOld (component d k) (o .version))
 
   -- its verdict is then one; an absent component is rejected before its version is looked at
-  verdict-same : (o : OfferFields) → OfferedSame o → offerVerdict r d o ≡ offerVerdict r′ d o
+  verdict-same : (o : OfferFields) → OfferedSame o → offerVerdictBy r d o ≡ offerVerdictBy r′ d o
   unfolding firstOf
   verdict-same o h = go (find d (o .id)) refl
     where
-      go : (f : Found) → find d (o .id) ≡ f → offerVerdict r d o ≡ offerVerdict r′ d o
+      go : (f : Found) → find d (o .id) ≡ f → offerVerdictBy r d o ≡ offerVerdictBy r′ d o
       go found.Nothing e = rw e refl
       go (found.At k) e = rw e (rw (h k e .0, h k e .1) refl)
 
   -- an offer packet is answered alike
-  kind-same : (x : Kind) → ((o : OfferFields) → x ≡ offer o → OfferedSame o) → onKind r d x ≡ onKind r′ d x
+  kind-same : (x : Kind) → ((o : OfferFields) → x ≡ offer o → OfferedSame o) → onKindBy r d x ≡ onKindBy r′ d x
   kind-same (offer o) h = ap (λ (v : OfferVerdict). servedWith d (d .components) (onOffer.onVerdict (d .session) (o .token) v)) (verdict-same o (h o refl))
   kind-same (information s) h = refl
   kind-same (extended s) h = refl
@@ -96,7 +96,7 @@ module _ (r r′ : VersionRules) (d : Device) where
   abbrev pub JudgedSame : Component → Image → Type 0
   JudgedSame c m = (v : Version) → m ≡ Bears v → r .imageFits c v ≡ r′ .imageFits c v
 
-  judge-same : (c : Component) (m : Image) → JudgedSame c m → judge r c m ≡ judge r′ c m
+  judge-same : (c : Component) (m : Image) → JudgedSame c m → judgeBy r c m ≡ judgeBy r′ c m
   judge-same c Damaged h = refl
   judge-same c Foreign h = refl
   judge-same c (Bears v) h =
@@ -107,7 +107,7 @@ module _ (r r′ : VersionRules) (d : Device) where
     after = takeBlock (sessionComponent d .fixed .region) (headIn report) (drop DATA-AT report) staging
 
     abbrev row : VersionRules → Row
-    row x = refusalOf x LONG-SIZE d (length staging) (length report)
+    row x = refusalBy x LONG-SIZE d (length staging) (length report)
 
     -- .. which a last block leaves in the region of the session's component, where it is taken
     abbrev pub ImageSame : Type 0
@@ -120,20 +120,20 @@ module _ (r r′ : VersionRules) (d : Device) where
 
     -- a taken block, where no row refuses the packet
     block-same : (slot : ℕ) → row staging report r ≡ served → contentVerdict (sessionComponent d .fixed .region) (d .session .stage) (headIn report) ≡ Take slot
-        → onBlock r (sessionComponent d) (d .session) slot (headIn report) (after staging report) ≡ onBlock r′ (sessionComponent d) (d .session) slot (headIn report) (after staging report)
+        → onBlockBy r (sessionComponent d) (d .session) slot (headIn report) (after staging report) ≡ onBlockBy r′ (sessionComponent d) (d .session) slot (headIn report) (after staging report)
     block-same slot z e = go (isLast (headIn report)) refl
       where
         go : (b : Bool) → isLast (headIn report) ≡ b
-            → onBlock r (sessionComponent d) (d .session) slot (headIn report) (after staging report) ≡ onBlock r′ (sessionComponent d) (d .session) slot (headIn report) (after staging report)
+            → onBlockBy r (sessionComponent d) (d .session) slot (headIn report) (after staging report) ≡ onBlockBy r′ (sessionComponent d) (d .session) slot (headIn report) (after staging report)
         go true l = rw l (rw (judge-same (sessionComponent d) _ (g slot z e l)) refl)
         go false l = rw l refl
 
     taken-same : row staging report r ≡ served
-        → onContent r (sessionComponent d) (d .session) (headIn report) (drop DATA-AT report) staging ≡ onContent r′ (sessionComponent d) (d .session) (headIn report) (drop DATA-AT report) staging
+        → onContentBy r (sessionComponent d) (d .session) (headIn report) (drop DATA-AT report) staging ≡ onContentBy r′ (sessionComponent d) (d .session) (headIn report) (drop DATA-AT report) staging
     taken-same z = go (contentVerdict (sessionComponent d .fixed .region) (d .session .stage) (headIn report)) refl
       where
         go : (w : ContentVerdict) → contentVerdict (sessionComponent d .fixed .region) (d .session .stage) (headIn report) ≡ w
-            → onContentVerdict r (sessionComponent d) (d .session) (headIn report) (drop DATA-AT report) staging w ≡ onContentVerdict r′ (sessionComponent d) (d .session) (headIn report) (drop DATA-AT report) staging w
+            → onContentVerdictBy r (sessionComponent d) (d .session) (headIn report) (drop DATA-AT report) staging w ≡ onContentVerdictBy r′ (sessionComponent d) (d .session) (headIn report) (drop DATA-AT report) staging w
         go (Refuse status) e = refl
         go (Take slot) e = block-same slot z e
 

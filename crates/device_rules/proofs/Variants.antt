@@ -50,7 +50,7 @@ use Rattle.device.specs.Content.{sessionComponent}
 use Rattle.device.specs.Entries.{versionEntry, resetEntry, serveEntry, serveStaging}
 use Rattle.device_rules.specs.Calls.{Call, packet, versions, reset, ofPacket}
 use Rattle.device_rules.specs.Rules.{inForce, document01}
-use Rattle.device_rules.specs.Entries.{keepsStaged, breaksD1, refusalOf, onKind, judge, onBlock, onContentVerdict, answerBy}
+use Rattle.device_rules.specs.Entries.{keepsStagedBy, breaksD1By, refusalBy, onKindBy, judgeBy, onBlockBy, onContentVerdictBy, answerBy}
 use Rattle.device_rules.specs.Promises.{RulesInForceAnswer, OneVariant, BroughtOne, OneVariantAsDocument01, SoundStagedOne}
 use Rattle.device_rules.proofs.Same.{any-same, StagedSame, ImageSame, d1-same, offer-same, content-same, staging-same}
 
@@ -73,41 +73,41 @@ module _ (c : Component) (v : Version) (one : OneVariant c v) where
   follows-as = rw right-variant (order (c .running .0) (v .0) (sym one))
 
 -- with the rules in force each part is the entry's own
-staged-as : (c : Component) (s : Staged) → not (rule.keepsStaged c s) ≡ not (keepsStaged inForce c s)
+staged-as : (c : Component) (s : Staged) → not (rule.keepsStaged c s) ≡ not (keepsStagedBy inForce c s)
 staged-as c Nothing = refl
 staged-as c (Pending v) = refl
 
-d1-as : (d : Device) → refusals.breaksD1 d ≡ breaksD1 inForce d
+d1-as : (d : Device) → refusals.breaksD1 d ≡ breaksD1By inForce d
 unfolding sound.breaksD1
 d1-as d =
-    rw (any-same (λ (c : Component). not (rule.keepsStaged c (c .staged))) (λ (c : Component). not (keepsStaged inForce c (c .staged))) (d .count) (d .components)
+    rw (any-same (λ (c : Component). not (rule.keepsStaged c (c .staged))) (λ (c : Component). not (keepsStagedBy inForce c (c .staged))) (d .count) (d .components)
     (λ k l. staged-as (component d k) (component d k .staged))) refl
 
-refusal-as : (size : ℕ) (d : Device) (n m : ℕ) → refusals.refusalOf size d n m ≡ refusalOf inForce size d n m
+refusal-as : (size : ℕ) (d : Device) (n m : ℕ) → refusals.refusalOf size d n m ≡ refusalBy inForce size d n m
 unfolding refusals.refusalOf
 refusal-as size d n m = ap (λ (b : Bool). firstOf ((b, D 1) ∷ (not (eqb n (d .«staging_len»)), D 2) ∷ (not (eqb m size), D 3) ∷ []) served) (d1-as d)
 
-kind-as : (d : Device) (x : Kind) → offers.onKind d x ≡ onKind inForce d x
+kind-as : (d : Device) (x : Kind) → offers.onKind d x ≡ onKindBy inForce d x
 unfolding offering.onOffer offering.offerVerdict offering.needUnmet
 kind-as d (offer o) = refl
 kind-as d (information s) = refl
 kind-as d (extended s) = refl
 
-judge-as : (c : Component) (m : Image) → finishing.judge c m ≡ judge inForce c m
+judge-as : (c : Component) (m : Image) → finishing.judge c m ≡ judgeBy inForce c m
 judge-as c Damaged = refl
 judge-as c Foreign = refl
 judge-as c (Bears v) = refl
 
 module _ (c : Component) (session : Session) (h : ContentHead) where
-  block-as : (slot : ℕ) (s : List ℕ) → receiving.onBlock c session slot h s ≡ onBlock inForce c session slot h s
+  block-as : (slot : ℕ) (s : List ℕ) → receiving.onBlock c session slot h s ≡ onBlockBy inForce c session slot h s
   unfolding receiving.onBlock finishing.finish
   block-as slot s = go (isLast h) refl
     where
-      go : (b : Bool) → isLast h ≡ b → receiving.onBlock c session slot h s ≡ onBlock inForce c session slot h s
+      go : (b : Bool) → isLast h ≡ b → receiving.onBlock c session slot h s ≡ onBlockBy inForce c session slot h s
       go true l = rw l (rw (judge-as c (imageIn (regionBytes (c .fixed .region) s) (c .fixed .id))) refl)
       go false l = rw l refl
 
-  verdict-as : (bytes s : List ℕ) (w : ContentVerdict) → receiving.onVerdict c session h bytes s w ≡ onContentVerdict inForce c session h bytes s w
+  verdict-as : (bytes s : List ℕ) (w : ContentVerdict) → receiving.onVerdict c session h bytes s w ≡ onContentVerdictBy inForce c session h bytes s w
   verdict-as bytes s (Refuse status) = refl
   verdict-as bytes s (Take slot) = block-as slot (takeBlock (c .fixed .region) h bytes s)
 
@@ -127,7 +127,7 @@ rules-in-force-answer d staging (packet Content report) =
 taken-slot : (region : Region) (stage : Stage) (h : ContentHead) (slot : ℕ) → contentVerdict region stage h ≡ Take slot → slot ≡ atSlot stage
 taken-slot region stage h slot e = sym (ap slotOf (subst (ContentSays region stage h) e (content-says region stage h) .0))
 
-module _ (d : Device) (staging report : List ℕ) (z : refusalOf inForce LONG-SIZE d (length staging) (length report) ≡ served) where
+module _ (d : Device) (staging report : List ℕ) (z : refusalBy inForce LONG-SIZE d (length staging) (length report) ≡ served) where
   -- a packet that no row refuses is served
   row-as : contents.contentEntry d staging report .row ≡ served
   unfolding contents.contentEntry

@@ -53,23 +53,23 @@ use Rattle.device_rules.specs.Rules.{VersionRules}
 
 module _ (rules : VersionRules) where
   -- D1
-  abbrev pub keepsStaged : Component → Staged → Bool
-  keepsStaged c Nothing = true
-  keepsStaged c (Pending v) = rules .stagedFits c v
+  abbrev pub keepsStagedBy : Component → Staged → Bool
+  keepsStagedBy c Nothing = true
+  keepsStagedBy c (Pending v) = rules .stagedFits c v
 
-  abbrev pub breaksD1 : Device → Bool
-  breaksD1 d =
+  abbrev pub breaksD1By : Device → Bool
+  breaksD1By d =
       breaksSetup (d .«staging_len») (d .count) (d .components)
       || (opensWrong (d .count) (d .components) (d .session)
-      || (owesIdle (d .session) || any (λ c. not (keepsStaged c (c .staged))) (take (d .count) (d .components))))
+      || (owesIdle (d .session) || any (λ c. not (keepsStagedBy c (c .staged))) (take (d .count) (d .components))))
 
   -- D1 to D3
-  abbrev pub refusalOf : (size : ℕ) → Device → (n m : ℕ) → Row
-  refusalOf size d n m = firstOf ((breaksD1 d, D 1) ∷ (not (eqb n (d .«staging_len»)), D 2) ∷ (not (eqb m size), D 3) ∷ []) served
+  abbrev pub refusalBy : (size : ℕ) → Device → (n m : ℕ) → Row
+  refusalBy size d n m = firstOf ((breaksD1By d, D 1) ∷ (not (eqb n (d .«staging_len»)), D 2) ∷ (not (eqb m size), D 3) ∷ []) served
 
   -- checks 2 to 7 of an offer, and checks 1 to 9
-  abbrev pub rejections : (platform : ℕ) → (target : Standing) → OfferFields → List (Bool × OfferVerdict)
-  rejections platform target o =
+  abbrev pub rejectionsBy : (platform : ℕ) → (target : Standing) → OfferFields → List (Bool × OfferVerdict)
+  rejectionsBy platform target o =
       (not (eqb (o .protocol) PROTOCOL), Reject REJECT-WRONG-PROTOCOL)
       ∷ (isAbsent (target .at), Reject REJECT-INV-COMPONENT)
       ∷ (not (eqb (o .platform) platform), Reject REJECT-INV-COMPONENT)
@@ -79,66 +79,66 @@ module _ (rules : VersionRules) where
       ∷ (rules .isOld (target .component) (o .version), Reject REJECT-OLD-FW)
       ∷ []
 
-  abbrev pub offerVerdict : Device → OfferFields → OfferVerdict
-  offerVerdict d o =
+  abbrev pub offerVerdictBy : Device → OfferFields → OfferVerdict
+  offerVerdictBy d o =
       firstOf (
       (isOpen (d .session .stage), Busy)
-      ∷ rejections (d .platform) (standingOf (o .id) (d .count) (d .components)) o
+      ∷ rejectionsBy (d .platform) (standingOf (o .id) (d .count) (d .components)) o
       ++ (needUnmet d o, Skip) ∷ [])
       (Accept (slotOf (find d (o .id))))
 
   -- a packet of the offer channel by its kind
-  abbrev pub onKind : Device → Kind → Outcome
-  onKind d (offer o) = servedWith d (d .components) (offering.onVerdict (d .session) (o .token) (offerVerdict d o))
-  onKind d (information s) = offers.onKind d (information s)
-  onKind d (extended s) = offers.onKind d (extended s)
+  abbrev pub onKindBy : Device → Kind → Outcome
+  onKindBy d (offer o) = servedWith d (d .components) (offering.onVerdict (d .session) (o .token) (offerVerdictBy d o))
+  onKindBy d (information s) = offers.onKind d (information s)
+  onKindBy d (extended s) = offers.onKind d (extended s)
 
   -- image judgement
-  abbrev pub judge : Component → Image → Finished
-  judge c Damaged = finishing.judge c Damaged
-  judge c Foreign = finishing.judge c Foreign
-  judge c (Bears v) =
+  abbrev pub judgeBy : Component → Image → Finished
+  judgeBy c Damaged = finishing.judge c Damaged
+  judgeBy c Foreign = finishing.judge c Foreign
+  judgeBy c (Bears v) =
       cond (rules .imageFits c v) (record { status = SUCCESS; component = withStaged c v }) (record { status = ERROR-VERSION; component = c })
 
-  abbrev pub finish : Component → (s : List ℕ) → Finished
-  finish c s = judge c (imageIn (regionBytes (c .fixed .region) s) (c .fixed .id))
+  abbrev pub finishBy : Component → (s : List ℕ) → Finished
+  finishBy c s = judgeBy c (imageIn (regionBytes (c .fixed .region) s) (c .fixed .id))
 
   -- a content packet: only a last block is judged
-  abbrev pub onBlock : Component → Session → (slot : ℕ) → ContentHead → (s : List ℕ) → Taken
-  onBlock c session slot h s =
+  abbrev pub onBlockBy : Component → Session → (slot : ℕ) → ContentHead → (s : List ℕ) → Taken
+  onBlockBy c session slot h s =
       cond (isLast h)
-      (record { effect = blockReply (h .sequence) (finish c s .status) (session .owed) idle; component = finish c s .component })
+      (record { effect = blockReply (h .sequence) (finishBy c s .status) (session .owed) idle; component = finishBy c s .component })
       (record { effect = blockReply (h .sequence) SUCCESS owed.Nothing (goesOn session slot h); component = c })
 
-  abbrev pub onContentVerdict : Component → Session → ContentHead → (bytes s : List ℕ) → ContentVerdict → Taken
-  onContentVerdict c session h bytes s (Refuse status) = receiving.onVerdict c session h bytes s (Refuse status)
-  onContentVerdict c session h bytes s (Take slot) = onBlock c session slot h (takeBlock (c .fixed .region) h bytes s)
+  abbrev pub onContentVerdictBy : Component → Session → ContentHead → (bytes s : List ℕ) → ContentVerdict → Taken
+  onContentVerdictBy c session h bytes s (Refuse status) = receiving.onVerdict c session h bytes s (Refuse status)
+  onContentVerdictBy c session h bytes s (Take slot) = onBlockBy c session slot h (takeBlock (c .fixed .region) h bytes s)
 
-  abbrev pub onContent : Component → Session → ContentHead → (bytes s : List ℕ) → Taken
-  onContent c session h bytes s = onContentVerdict c session h bytes s (contentVerdict (c .fixed .region) (session .stage) h)
+  abbrev pub onContentBy : Component → Session → ContentHead → (bytes s : List ℕ) → Taken
+  onContentBy c session h bytes s = onContentVerdictBy c session h bytes s (contentVerdict (c .fixed .region) (session .stage) h)
 
   -- the entries for packets, and every byte of the staging buffer afterwards
   abbrev pub serveBy : Device → Channel → (staging report : List ℕ) → Outcome
-  serveBy d Offer staging report = unlessRefused (refusalOf SHORT-SIZE d (length staging) (length report)) d (onKind d (kindIn report))
+  serveBy d Offer staging report = unlessRefused (refusalBy SHORT-SIZE d (length staging) (length report)) d (onKindBy d (kindIn report))
   serveBy d Content staging report =
-      unlessRefused (refusalOf LONG-SIZE d (length staging) (length report)) d
-      (received d (onContent (sessionComponent d) (d .session) (headIn report) (drop DATA-AT report) staging))
+      unlessRefused (refusalBy LONG-SIZE d (length staging) (length report)) d
+      (received d (onContentBy (sessionComponent d) (d .session) (headIn report) (drop DATA-AT report) staging))
 
   abbrev pub serveStagingBy : Device → Channel → (staging report : List ℕ) → List ℕ
   serveStagingBy d Offer staging report = staging
   serveStagingBy d Content staging report =
-      keptBy (refusalOf LONG-SIZE d (length staging) (length report)) staging
+      keptBy (refusalBy LONG-SIZE d (length staging) (length report)) staging
       (stagingAfter (sessionComponent d .fixed .region) (d .session .stage) (headIn report) (drop DATA-AT report) staging)
 
   -- the version reply, and the reset
   abbrev pub versionBy : Device → Versions
   versionBy d =
-      cond (breaksD1 d) (record { row = D 1; packet = replicate REPLY-SIZE 0 })
+      cond (breaksD1By d) (record { row = D 1; packet = replicate REPLY-SIZE 0 })
       (record { row = served; packet = replyBytes (d .count) PROTOCOL (map (runningOf (d .platform)) (d .components)) })
 
   abbrev pub resetBy : Device → Reset
   resetBy d =
-      cond (breaksD1 d) (record { row = D 1; device = d })
+      cond (breaksD1By d) (record { row = D 1; device = d })
       (record { row = served; device = idleWith d (resetComponents (d .count) (d .components)) })
 
   abbrev pub answerBy : Device → (staging : List ℕ) → Call → Answered

@@ -1,7 +1,6 @@
 //! The CRC, a region of the staging buffer, the image in it, a component's versions, and set-up: document 01, "The device", rows S1 to S4, and the
-//! addresses of E8 and E9. Written from that document.
+//! addresses of E8 and E9; document 02, A1. Written from these documents.
 use cfu_updater::device_component::record::{Component, Fixed, Listed};
-use cfu_updater::device_component::rule::VersionVerdict;
 use cfu_updater::device_component::setup::{setup_verdict, SetupVerdict};
 use cfu_updater::crc16::crc16;
 use cfu_updater::image::judge::{examine, Image};
@@ -158,24 +157,44 @@ fn a_staged_version_is_effective_until_a_reset_makes_it_running() {
     assert_eq!((reset.effective(), reset.running), (new, new));
 }
 
-/// Offer check 7 asks for a greater version than the running one; image judgement and D1 refuse only a lower one. All as 32-bit numbers.
+/// Offer check 7 asks for a greater release than the running one; image judgement and D1 refuse a lower one. All three want the running variant (document 02,
+/// A1).
 #[test]
 fn versions_against_the_running_one() {
     let c = component(1, Version::new(1, 2, 7), region(0, 64));
-    let lower = [Version::new(1, 2, 6), Version::new(1, 1, 255), Version::new(0, 65535, 255)];
-    let greater = [Version::new(1, 2, 8), Version::new(1, 3, 0), Version::new(2, 0, 0), Version::new(255, 65535, 255)];
+    let lower = [Version::new(1, 1, 7), Version::new(0, 65535, 7), Version::new(0, 0, 7)];
+    let greater = [Version::new(1, 3, 7), Version::new(2, 0, 7), Version::new(255, 65535, 7)];
     for v in lower {
-        assert_eq!(c.offer_version(v), VersionVerdict::Old);
+        assert!(!c.is_wrong_variant(v) && c.is_old(v));
         assert!(!c.image_version_fits(v));
         assert!(!c.with_staged(v).keeps_staged());
     }
     for v in greater {
-        assert_eq!(c.offer_version(v), VersionVerdict::Fits);
+        assert!(!c.is_wrong_variant(v) && !c.is_old(v));
         assert!(c.image_version_fits(v));
         assert!(c.with_staged(v).keeps_staged());
     }
-    assert_eq!(c.offer_version(c.running), VersionVerdict::Old);
+    assert!(!c.is_wrong_variant(c.running) && c.is_old(c.running));
     assert!(c.image_version_fits(c.running));
     assert!(c.with_staged(c.running).keeps_staged());
     assert!(c.keeps_staged());
+}
+
+/// Another variant fits nowhere, whatever its release; a release is old or not whatever its variant.
+#[test]
+fn another_variant_than_the_running_one() {
+    let c = component(1, Version::new(1, 2, 7), region(0, 64));
+    for variant in [0, 6, 8, 0x87, 255] {
+        for (major, minor, old) in [(1, 1, true), (1, 2, true), (1, 3, false), (2, 0, false), (0, 65535, true)] {
+            let v = Version::new(major, minor, variant);
+            assert!(c.is_wrong_variant(v));
+            assert_eq!(c.is_old(v), old);
+            assert!(!c.image_version_fits(v));
+            assert!(!c.with_staged(v).keeps_staged());
+        }
+    }
+    // It is the running version's variant that counts, also where another is staged.
+    let odd = c.with_staged(Version::new(1, 3, 9));
+    assert!(odd.is_wrong_variant(Version::new(1, 4, 9)));
+    assert!(!odd.is_wrong_variant(Version::new(1, 4, 7)));
 }

@@ -7,17 +7,26 @@ use image::region::Region;
 use wire::codes::ID_LIMIT;
 use wire::version::Version;
 ghost use mathlib.Core.Path.{_≡_};
+ghost use mathlib.Core.Bool.{not};
+ghost use lib.Dec.{eqb};
+ghost use Rattle.wire.specs.Version.{variantOf};
 ghost use Rattle.device_component.specs.Versions.{wrongVariant, isOld, mayFollow, imageVersionFits, stagedVersionFits, keepsStaged};
 ghost use Rattle.device_component.specs.Rules.{flawed as isFlawed, clash as clashes, ruleHolds, ruleOf};
 ghost use Rattle.device_component.specs.Setup.{badId, badRegion, overlap};
+
+// Two versions are of different variants.
+fn differ_in_variant(v: Version, w: Version) -> bool
+    ensures { λ r. ⌜ r ≡ not (eqb (variantOf v) (variantOf w)) ⌝ }
+{
+    v.variant() != w.variant()
+}
 
 impl Component {
     // The check of an offer between 6 and 7 (document 02, A1): another variant than the running one.
     pub fn is_wrong_variant(self, v: Version) -> bool
         ensures { λ r. ⌜ r ≡ wrongVariant self v ⌝ }
     {
-        let running = self.running;
-        v.variant() != running.variant()
+        differ_in_variant(v, self.running)
     }
 
     // Offer check 7: a release that is not greater than the running one.

@@ -123,8 +123,8 @@ extern "C" {
 #define CFU_S4 0x5304
 
 /* Device. D1: a stage, an owed or a staged that no record has; a record that breaks S1 to S4, opens a session on a component that is not listed or is pending,
- * owes a ready-reply while idle, or has a staged version whose variant is not the running one or whose release is lower. D2: another staging length than at
- * set-up. D3: a report of another length than 16 (offer channel) or 60 (content channel). */
+ * owes a ready-reply while idle, or has a staged version whose variant is not the running one or whose major and minor are lower. D2: another staging length
+ * than at set-up. D3: a report of another length than 16 (offer channel) or 60 (content channel). */
 #define CFU_D1 0x4401
 #define CFU_D2 0x4402
 #define CFU_D3 0x4403
@@ -184,12 +184,12 @@ extern "C" {
 #define CFU_OFFER_BUSY 3
 #define CFU_OFFER_READY 4
 #define CFU_OFFER_UNSUPPORTED 0xFF
-#define CFU_REJECT_OLD_FW 0 /* the offered release (major and minor) is not greater than the running one */
+#define CFU_REJECT_OLD_FW 0 /* the offered major and minor are not greater than the running ones */
 #define CFU_REJECT_INV_COMPONENT 1
 #define CFU_REJECT_SWAP_PENDING 2
 #define CFU_REJECT_WRONG_PROTOCOL 0xE0
 #define CFU_REJECT_WRONG_SEGMENT 0xE1
-#define CFU_REJECT_WRONG_VARIANT 0xE2 /* the offered variant, the kind of build, is not the running one; told before an old release */
+#define CFU_REJECT_WRONG_VARIANT 0xE2 /* the offered variant, the kind of build, is not the running one; tested before CFU_REJECT_OLD_FW */
 
 /* Flags of a content packet, and the status in its reply (not what a call returns). */
 #define CFU_FLAG_FIRST_BLOCK 0x80
@@ -197,7 +197,7 @@ extern "C" {
 #define CFU_SUCCESS 0
 #define CFU_ERROR_VERIFY 0x04
 #define CFU_ERROR_CRC 0x05
-#define CFU_ERROR_VERSION 0x07 /* the image's variant is not the running one, or its release is lower */
+#define CFU_ERROR_VERSION 0x07 /* the image's variant is not the running one, or its major and minor are lower */
 #define CFU_ERROR_INVALID_ADDR 0x09
 #define CFU_ERROR_NO_OFFER 0x0A
 #define CFU_ERROR_INVALID 0x0B
@@ -342,8 +342,8 @@ cfu_replies cfu_device_content(uint8_t *device, size_t device_len, uint8_t *stag
 
 /*
  * The device was reset: in the record staged versions run, nothing is pending or owed, the session is idle. The caller installs the images before this call.
- * Returns CFU_SERVED, C1 (device) or D1. A record that an older release of this code left with a staged version of another variant is refused by D1, here too:
- * reset before the firmware with this code is installed.
+ * Returns CFU_SERVED, C1 (device) or D1. A record in which code from before CFU_REJECT_WRONG_VARIANT has staged another variant than the running one is refused
+ * by D1, here too, and has to be set up anew: reset before firmware with this code is installed, or install no such variant.
  */
 uint32_t cfu_device_reset(uint8_t *device, size_t device_len);
 

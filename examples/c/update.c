@@ -97,19 +97,19 @@ static const struct words OFFER_STATUS[] = {
 };
 
 static const struct words REASONS[] = {
-    {CFU_REJECT_OLD_FW, "the running release is not older"},
+    {CFU_REJECT_OLD_FW, "what runs is not older"},
     {CFU_REJECT_INV_COMPONENT, "no such component on this platform"},
     {CFU_REJECT_SWAP_PENDING, "the component awaits a reset"},
     {CFU_REJECT_WRONG_PROTOCOL, "the protocol is not 2"},
     {CFU_REJECT_WRONG_SEGMENT, "the segment is not 0"},
-    {CFU_REJECT_WRONG_VARIANT, "the variant is not the running one"},
+    {CFU_REJECT_WRONG_VARIANT, "another variant runs"},
 };
 
 static const struct words CONTENT_STATUS[] = {
     {CFU_SUCCESS, "taken"},
     {CFU_ERROR_VERIFY, "the image is for another component"},
     {CFU_ERROR_CRC, "the image's CRC is wrong"},
-    {CFU_ERROR_VERSION, "the image has another variant or a lower release than what runs"},
+    {CFU_ERROR_VERSION, "the image is of another variant than what runs, or older"},
     {CFU_ERROR_INVALID_ADDR, "the block reaches past the region"},
     {CFU_ERROR_NO_OFFER, "no offer was accepted"},
     {CFU_ERROR_INVALID, "the block's length, flags or sequence are wrong"},

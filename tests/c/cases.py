@@ -196,13 +196,13 @@ def further(command, work, case, refusal, report):
     # devices that refuse
     case("another platform", E12, NOT_ALL, "pass 1", "  offer 1: REJECT: no such component on this platform", "  offer 2: REJECT: no such component on this platform",
          "done", report(0, 2, 5, 1), *BOTH_OLD, args=["--platform", "0x0043"])
-    case("an old version", E12, NOT_ALL, "pass 1", "  offer 1: REJECT: the running release is not older", "  offer 2: REJECT: the running release is not older",
+    case("an old version", E12, NOT_ALL, "pass 1", "  offer 1: REJECT: what runs is not older", "  offer 2: REJECT: what runs is not older",
          "done", report(0, 2, 5, 1), "device:", "  component 1 runs 1.3.0", "  component 2 runs 1.2.0", *AFTER, "  component 1 runs 1.3.0", "  component 2 runs 1.2.0",
          args=["--component", "1:1.3.0:0:64", "--component", "2:1.2.0:64:64"])
     case("the customer's case, a debug build of the running number", one(1, version(1, 2, 1), body(image(1, version(1, 2, 1)))), NOT_ALL, "pass 1",
-         "  offer 1: REJECT: the variant is not the running one", "done", report(0, 1, 4, 1), *BOTH_OLD)
-    case("another variant and an older release", one(1, version(1, 1, 1), body(image(1, version(1, 1, 1)))), NOT_ALL, "pass 1",
-         "  offer 1: REJECT: the variant is not the running one", "done", report(0, 1, 4, 1), *BOTH_OLD)
+         "  offer 1: REJECT: another variant runs", "done", report(0, 1, 4, 1), *BOTH_OLD)
+    case("another variant that is older, too", one(1, version(1, 1, 1), body(image(1, version(1, 1, 1)))), NOT_ALL, "pass 1",
+         "  offer 1: REJECT: another variant runs", "done", report(0, 1, 4, 1), *BOTH_OLD)
     case("a debug build where a debug build runs", one(1, version(1, 3, 1), body(image(1, version(1, 3, 1)))), ALL, "pass 1", "  offer 1: ACCEPT",
          "  offer 1: completed, blocks 2", "done", report(1, 1, 6, 1), "device:", "  component 1 runs 1.2.1, pending 1.3.1", *AFTER, "  component 1 runs 1.3.1",
          args=["--component", "1:1.2.1:0:64"])
@@ -215,8 +215,8 @@ def further(command, work, case, refusal, report):
     # images that the device refuses, by judgement and by content check 5
     case("an image for another component", one(2, V120, body(image(1, V120))), ENDED,
          "ended H1: the device refused a block with status 0x04: the image is for another component", report(0, 1, 5, 1), *BOTH_OLD)
-    old_image = "ended H1: the device refused a block with status 0x07: the image has another variant or a lower release than what runs"
-    case("an image of a lower release", one(2, V120, body(image(2, version(1, 0, 0)))), ENDED, old_image, report(0, 1, 5, 1), *BOTH_OLD)
+    old_image = "ended H1: the device refused a block with status 0x07: the image is of another variant than what runs, or older"
+    case("an older image", one(2, V120, body(image(2, version(1, 0, 0)))), ENDED, old_image, report(0, 1, 5, 1), *BOTH_OLD)
     case("an image of another variant", one(2, V120, body(image(2, version(1, 2, 1)))), ENDED, old_image, report(0, 1, 5, 1), *BOTH_OLD)
     case("a block past the region", one(2, V120, body_record(13, bytes(52))), ENDED,
          "ended H1: the device refused a block with status 0x09: the block reaches past the region", report(0, 1, 4, 1), *BOTH_OLD)

@@ -14,4 +14,4 @@ use Rattle.device_rules.specs.Examples.{A1Differs}
 
 pub a1-differs : A1Differs
 unfolding firstOf any pairs fieldsIn kindIn bitStep bitSteps byteStep crcFrom crcOf within blank put eraseOf writeOf regionBytes imageIn firstFrom find badIds badRegions setupVerdict needUnmet contentVerdict takeBlock
-a1-differs = record { offered01 = refl; offered = refl; image01 = refl; image = refl; staged01 = refl; staged = refl }
+a1-differs = record { offered01 = (refl, refl); offered = (refl, refl); image01 = (refl, refl); image = (refl, refl); staged01 = refl; staged = refl }

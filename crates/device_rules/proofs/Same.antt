@@ -12,12 +12,10 @@ use Rattle.wire.specs.declared.version.Version.{Version}
 use Rattle.wire_offer.specs.Kind.{Kind, offer, information, extended, kindIn}
 use Rattle.wire_offer.specs.declared.offer.OfferFields.{OfferFields}
 use Rattle.wire_content.specs.Head.{headIn}
-use Rattle.wire_content.specs.declared.head.ContentHead.{ContentHead}
 use Rattle.image.specs.Region.{regionBytes}
 use Rattle.image.specs.Judge.{imageIn}
 use Rattle.image.specs.declared.judge.Image.{Image}
 use Rattle.image.specs.declared.judge.Image.the-variants.{Damaged, Foreign, Bears}
-use Rattle.image.specs.declared.region.Region.{Region}
 use Rattle.device_component.specs.Lists.{componentAt}
 use Rattle.device_component.specs.Record.{withStaged}
 use Rattle.device_component.specs.declared.record.Component.{Component}
@@ -25,9 +23,6 @@ use Rattle.device_component.specs.declared.record.Staged.{Staged}
 use Rattle.device_component.specs.declared.record.Staged.the-variants.{Nothing, Pending}
 use Rattle.device_component.specs.declared.list.Found.{Found}
 use Rattle.device_component.specs.declared.list.Found.the-variants as found
-use Rattle.device_session.specs.Stage.{openSlot, atSlot}
-use Rattle.device_session.specs.declared.stage.Stage.{Stage}
-use Rattle.device_session.specs.declared.stage.Stage.the-variants.{Idle, Offered, Receiving}
 use Rattle.device_offering.specs.Offer as onOffer
 use Rattle.device_offering.specs.declared.verdict.OfferVerdict.{OfferVerdict}
 use Rattle.device_receiving.specs.Content.{isLast, contentVerdict, takeBlock}

@@ -1,5 +1,5 @@
 -- The device's entries over any rules on versions: each definition that asks such a rule, with the rules for a parameter; what asks none is taken as it stands.
--- With the rules in force the answers are the entries' own (`RulesInForceAnswer`), and the two sets of rules differ (`A1Differs`).
+-- With the rules in force the answers are the entries' own (`RulesInForceAnswer`); with document 01's rules some answers are others (`A1Differs`).
 use Prim.Native.Nat.{ℕ}
 use mathlib.Core.Bool.{Bool, true, not, cond, _||_}
 use mathlib.Core.List.{List, [], _∷_, _++_, map}

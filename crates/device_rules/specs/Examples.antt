@@ -14,12 +14,12 @@ use Rattle.device_session.specs.declared.effect.Session.{Session}
 use Rattle.device.specs.declared.record.Device.{Device}
 use Rattle.device.specs.declared.answer.Channel.the-variants.{Offer, Content}
 use Rattle.device.specs.Bench.{forOne, noNeed, answer}
-use Rattle.device.specs.Refusals.{Row, served, D}
+use Rattle.device.specs.Refusals.{Outcome, served, D}
 use Rattle.device.specs.Entries.{Reset}
 use Rattle.device_rules.specs.Rules.{VersionRules, inForce, document01}
-use Rattle.device_rules.specs.Entries.{serveBy, versionBy, resetBy}
+use Rattle.device_rules.specs.Entries.{serveBy, resetBy}
 
--- component 1 as the production build 1.2.0, with a region of 8 bytes
+-- component 1 as the production build 1.2.0, with a region of 8 bytes; here variant 0 stands for a production build and 1 for a debug build, the papers fix none
 abbrev pub production : Component
 production = plain 1 0x01000200 0 8
 
@@ -37,30 +37,31 @@ deviceOf c session = record {
   session = session;
 }
 
--- the reply to an offer of the debug build, with token 0xA5
-abbrev pub offerReply : VersionRules → List (List ℕ)
-offerReply rules =
+-- what an offer of the debug build comes to, with token 0xA5
+abbrev pub offering : VersionRules → Outcome
+offering rules =
     serveBy rules (deviceOf production idle) Offer (replicate 8 0)
-    (0x00 ∷ 0x00 ∷ 0x01 ∷ 0xA5 ∷ 0x01 ∷ 0x02 ∷ 0x00 ∷ 0x01 ∷ noNeed ++ 0x02 ∷ 0x00 ∷ 0x42 ∷ 0x00 ∷ []) .sent
+    (0x00 ∷ 0x00 ∷ 0x01 ∷ 0xA5 ∷ 0x01 ∷ 0x02 ∷ 0x00 ∷ 0x01 ∷ noNeed ++ 0x02 ∷ 0x00 ∷ 0x42 ∷ 0x00 ∷ [])
 
--- the reply to its whole image in one block, with sequence 0
-abbrev pub imageReply : VersionRules → List (List ℕ)
-imageReply rules =
+-- what its whole image in one block comes to, with sequence 0
+abbrev pub sending : VersionRules → Outcome
+sending rules =
     serveBy rules (deviceOf production (inStage idle forOne)) Content (replicate 8 0)
-    (0xC0 ∷ 8 ∷ replicate 6 0x00 ++ (0x01 ∷ 0x02 ∷ 0x00 ∷ 0x01 ∷ 0x01 ∷ 0x00 ∷ 0x05 ∷ 0x22 ∷ replicate 44 0x00)) .sent
+    (0xC0 ∷ 8 ∷ replicate 6 0x00 ++ (0x01 ∷ 0x02 ∷ 0x00 ∷ 0x01 ∷ 0x01 ∷ 0x00 ∷ 0x05 ∷ 0x22 ∷ replicate 44 0x00))
 
 abbrev pub status : ℕ → List (List ℕ)
 status s = (replicate 4 0x00 ++ s ∷ replicate 11 0x00) ∷ []
 
--- a reset where it is staged
-abbrev pub resetAnswer : VersionRules → Reset
-resetAnswer rules = resetBy rules (deviceOf (withStaged production debug) idle)
+-- what a reset comes to where it is staged
+abbrev pub resetting : VersionRules → Reset
+resetting rules = resetBy rules (deviceOf (withStaged production debug) idle)
 
--- document 01's rules accept, stage and start it; those in force reject it with 0xE2, answer 0x07, and refuse the record by D1 and leave it as it is
+-- document 01's rules accept it, stage it and start it; those in force reject it with 0xE2, answer its image with 0x07 and do not stage it, and refuse the record
+-- with it by D1
 pub record A1Differs : Type 0 where
-  pub offered01 : offerReply document01 ≡ answer 0 OFFER-ACCEPT
-  pub offered : offerReply inForce ≡ answer REJECT-WRONG-VARIANT OFFER-REJECT
-  pub image01 : imageReply document01 ≡ status SUCCESS
-  pub image : imageReply inForce ≡ status ERROR-VERSION
-  pub staged01 : resetAnswer document01 ≡ record { row = served; device = deviceOf (plain 1 0x01000201 0 8) idle }
-  pub staged : resetAnswer inForce ≡ record { row = D 1; device = deviceOf (withStaged production debug) idle }
+  pub offered01 : (offering document01 .sent ≡ answer 0 OFFER-ACCEPT) × (offering document01 .device ≡ deviceOf production (inStage idle forOne))
+  pub offered : (offering inForce .sent ≡ answer REJECT-WRONG-VARIANT OFFER-REJECT) × (offering inForce .device ≡ deviceOf production idle)
+  pub image01 : (sending document01 .sent ≡ status SUCCESS) × (sending document01 .device ≡ deviceOf (withStaged production debug) idle)
+  pub image : (sending inForce .sent ≡ status ERROR-VERSION) × (sending inForce .device ≡ deviceOf production idle)
+  pub staged01 : resetting document01 ≡ record { row = served; device = deviceOf (plain 1 0x01000201 0 8) idle }
+  pub staged : resetting inForce ≡ record { row = D 1; device = deviceOf (withStaged production debug) idle }

@@ -1,4 +1,4 @@
--- Where versions have one variant, every call answers as by document 01's rules: what document 02's A1 leaves as it is.
+-- Where versions have the variant that their component runs, every call answers as by document 01's rules: what document 02's A1 leaves as it is.
 use Prim.Native.Nat.{ℕ, _<_}
 use mathlib.Core.Path.{_≡_}
 use mathlib.Core.Bool.{true, false}
@@ -37,8 +37,8 @@ OneVariant c v = variantOf v ≡ variantOf (c .running)
 abbrev pub StagedOne : Device → Type 0
 StagedOne d = (k : ℕ) (v : Version) → k < d .count → component d k .staged ≡ Pending v → OneVariant (component d k) v
 
--- what a call brings to a component has the variant of its running version: the version of an offer for a listed component, and that of the image which a last
--- block, where it is taken, leaves in the region of the session's component
+-- what a call brings to a component has the variant of its running version: the version of an offer for a listed component; and that of an image, with a right
+-- CRC and the component's id, which a last block, where it is taken, leaves in the region of the session's component
 abbrev pub BroughtOne : Device → (staging : List ℕ) → Call → Type 0
 BroughtOne d staging (packet Offer report) = (o : OfferFields) (k : ℕ) → kindIn report ≡ offer o → find d (o .id) ≡ At k → OneVariant (component d k) (o .version)
 BroughtOne d staging (packet Content report) = (k : ℕ) (v : Version) → contentEntry d staging report .row ≡ served → contentVerdict d (headIn report) ≡ Take k

@@ -343,7 +343,7 @@ cfu_replies cfu_device_content(uint8_t *device, size_t device_len, uint8_t *stag
 /*
  * The device was reset: in the record staged versions run, nothing is pending or owed, the session is idle. The caller installs the images before this call.
  * Returns CFU_SERVED, C1 (device) or D1. A record in which code from before CFU_REJECT_WRONG_VARIANT has staged another variant than the running one is refused
- * by D1, here too, and has to be set up anew: reset before firmware with this code is installed, or install no such variant.
+ * by D1, here too, and has to be set up anew: reset before firmware with this code is installed.
  */
 uint32_t cfu_device_reset(uint8_t *device, size_t device_len);
 

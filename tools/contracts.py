@@ -5,8 +5,8 @@ usage: tools/contracts.py            a line for each crate: lines of code, of wh
        tools/contracts.py --check    status 1 where a public function of the updater asks something of its caller, has no contract, or puts a hypothesis
                                      in the place of its equation
 
-Believed are the lines of specs/ and of contracts. Blank lines and comments do not count. The updater's crates are all but those that read input or print: their
-lines in crates.txt name `io`. One contract may carry a claim with a premise of document 00 beside its equation, and names it: `update::run`, `DemandOf`."""
+Believed are the lines of specs/ and of contracts. Blank lines and comments do not count. The updater's crates are all but those that read input or print, whose
+lines in crates.txt name `io`, and those that are only measured, speed_*. One contract may carry a claim with a premise of document 00 beside its equation, and names it: `update::run`, `DemandOf`."""
 import glob
 import os
 import re
@@ -29,7 +29,7 @@ def crates():
     for line in read(f'{TOP}/crates.txt').split('\n'):
         if line.strip() and not line.startswith('#'):
             name, below = line.split(':')
-            yield name, 'io' not in below.split()
+            yield name, 'io' not in below.split() and not name.startswith('speed_')
 
 
 def texts(folder, ending):

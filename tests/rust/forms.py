@@ -1,7 +1,7 @@
 #!/usr/bin/env python3
-"""Tries tools/rust_crate on forms that few crates have: two small crates, beside a program and what it prints with, made into a crate that rustc
-compiles without a warning; then each thing that the script does not support, which it must name with its file and line. Status 1 where one goes
-otherwise."""
+"""Tries tools/rust_crate on forms that few crates have: two small crates, beside a program, what it prints with and what is only measured, made into a crate
+that rustc compiles without a warning; the same with what is measured in it; then each thing that the script does not support, which it must name with its
+file and line. Status 1 where one goes otherwise."""
 import os
 import shutil
 import subprocess
@@ -10,7 +10,7 @@ import tempfile
 
 SCRIPT = os.path.join(os.path.dirname(os.path.abspath(__file__)), '..', '..', 'tools', 'rust_crate')
 
-CRATES = '# crates\nlow:\nhigh: low\n\n# programs, and what they print with\nrun_print: io\ntool: run_print high low io\n'
+CRATES = '# crates\nlow:\nhigh: low\n\n# programs, and what they print with\nrun_print: io\ntool: run_print high low io\n\n# measured\nspeed_low: low\n'
 LOW = '''// The low crate: [brackets] and <signs> in words, `a[0]` as code.
 ghost use mathlib.Core.Path.{_≡_};
 ghost use lib.ListN.{length,
@@ -100,6 +100,7 @@ SOURCES = {
     'crates/high/src/part.rt': KEPT,
     'crates/run_print/src/lib.rt': 'pub fn line(s: &[u8]) {\n    io::write_all(1, s);\n}\n',
     'crates/tool/src/main.rt': 'fn main() {\n    run_print::line(b"x");\n}\n',
+    'crates/speed_low/src/lib.rt': 'pub fn twice(a: u16) -> u16 {\n    low::part::next(low::part::next(a))\n}\n',
 }
 
 # What must stand in the made crate.
@@ -112,6 +113,12 @@ MADE = {
                         '#[inline]\npub(in crate::low) fn before(a: u8) -> u8 {\n    u8::wrapping_sub(a, b', '    // Not documentation.\n',
                         '    /// The left one, whatever b is.\n    #[inline]\n    #[allow(unused_variables)] // only the contract names b\n    pub fn left_of(self, b'],
     'src/high/mod.rs': ['use crate::low::Pair;\nuse crate::low::part as below;\n', '= crate::low::part::next(p.left);\n    part::kept(left) + below::next('],
+}
+
+# And what must stand there beside it where what is measured is asked for.
+MEASURED = {
+    'src/lib.rs': ['pub mod low;\npub mod high;\npub mod speed_low;\n'],
+    'src/speed_low/mod.rs': ['    crate::low::part::next(crate::low::part::next(a))\n'],
 }
 
 # A text of KEPT, what it becomes, and what the script must say then.
@@ -130,7 +137,7 @@ UNKNOWN = [
 ]
 
 
-def run(files, top):
+def run(files, top, *options):
     """What the script says of these files, and its status; the crate goes to top/out."""
     shutil.rmtree(top, ignore_errors=True)
     for part, text in files.items():
@@ -138,23 +145,33 @@ def run(files, top):
         open(os.path.join(top, part), 'w', encoding='utf-8').write(text)
     os.makedirs(os.path.join(top, 'tools'))
     shutil.copy(SCRIPT, os.path.join(top, 'tools'))
-    done = subprocess.run([sys.executable, 'tools/rust_crate', 'out'], cwd=top, capture_output=True, text=True)
+    done = subprocess.run([sys.executable, 'tools/rust_crate', *options, 'out'], cwd=top, capture_output=True, text=True)
     return done.stdout + done.stderr, done.returncode
+
+
+def lacks(top, expected):
+    """The first file of the made crate that is without what it must say, in words; or nothing."""
+    for part, texts in expected.items():
+        made = open(os.path.join(top, 'out', part), encoding='utf-8').read()
+        for text in texts:
+            if text not in made:
+                return f'{part} is without\n{text}\nand says\n{made}'
+    return None
 
 
 def main():
     with tempfile.TemporaryDirectory() as place:
         top = os.path.join(place, 'top')
-        told, status = run(SOURCES, top)
-        if status != 0:
-            print(f'forms: no crate is made: {told}')
+        told, status = run(SOURCES, top, '--measured')
+        fault = f'no crate is made: {told}' if status != 0 else lacks(top, {**MADE, **MEASURED})
+        if not fault:
+            told, status = run(SOURCES, top)
+            fault = f'no crate is made: {told}' if status != 0 else lacks(top, MADE)
+        if not fault and (os.path.exists(os.path.join(top, 'out', 'src', 'speed_low')) or not told.endswith('left out tool speed_low run_print\n')):
+            fault = f'what is only measured is not left out: {told}'
+        if fault:
+            print(f'forms: {fault}')
             return 1
-        for part, texts in MADE.items():
-            made = open(os.path.join(top, 'out', part), encoding='utf-8').read()
-            for text in texts:
-                if text not in made:
-                    print(f'forms: {part} is without\n{text}\nand says\n{made}')
-                    return 1
         built = subprocess.run(['cargo', 'build', '--offline', '--quiet'], cwd=os.path.join(top, 'out'),
                                env=dict(os.environ, RUSTFLAGS='-D warnings', CARGO_TARGET_DIR=os.path.join(top, 'build')))
         if built.returncode != 0:

@@ -1,8 +1,8 @@
--- `crc16::bit_step` meets its contract: the bit that is shifted out is clear, or set. Assumes nothing.
+-- `speed_crc::bit_step` meets its contract: the bit that is shifted out is clear, or set. Assumes nothing.
 use borrow.Author.Tests.{lt-ltb, le-ltb}
 use Rattle.crc16.specs.Crc.{bitStep}
-use Rattle.crc16.proofs.bit_step.Statement.{statement}
-use Rattle.crc16.proofs.bit_step.Tie as tie
+use Rattle.speed_crc.proofs.bit_step.Statement.{statement}
+use Rattle.speed_crc.proofs.bit_step.Tie as tie
 
 returns : tie.Need-returns
 unfolding bitStep

@@ -1,1 +1,4 @@
 pub mod Check
+pub mod Xor
+pub mod Steps
+pub mod Table

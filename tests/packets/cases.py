@@ -249,6 +249,11 @@ def crc_cases():
     crc("one bit, the highest", b"\x80")
     crc("two bytes", b"\x12\x34")
     crc("the same in the other order", b"\x34\x12")
+    crc("one byte, 0x2F", b"\x2F")
+    crc("its halves exchanged", b"\xF2")
+    # The CRC of a byte whose high half is zero is the table's entry for its low half (A2).
+    for low in range(16):
+        crc(f"table entry {low}", bytes([low]))
 
 
 # At the end a cut frame, which ends the program.

@@ -1,6 +1,6 @@
 #!/usr/bin/env bash
-# The time of the static library and of the crate of tools/rust_crate against the second implementation taking the same steps, as one table, and of the
-# firmware's entry, as a second one. It fails where the three leave different bytes, never on a time. First: tools/library
+# The time of the static library and of the crate of tools/rust_crate against the second implementation, as one table, of the firmware's entry, as a second one,
+# and of the CRC by the table of sixteen against bit by bit, as a third (crc.sh). It fails where they leave different bytes, never on a time.
 set -u
 cd "$(dirname "$0")/../.." || exit 1
 
@@ -20,3 +20,5 @@ printf 'processor: %s\n' "$(sed -n 's/^model name[^:]*: //p' /proc/cpuinfo | hea
 printf 'clock: %s MHz\n' "$(sed -n 's/^cpu MHz[^:]*: //p' /proc/cpuinfo | head -n 1)"
 printf 'compiler of the crate and of the second implementation: %s, release\n' "$(rustc --version)"
 target/speed/release/speed || fail "the measurement"
+echo
+bash tests/speed/crc.sh || fail "the measurement of the CRC"

@@ -1,5 +1,5 @@
 //! The CRC, a region of the staging buffer, the image in it, a component's versions, and set-up: document 01, "The device", rows S1 to S4, and the
-//! addresses of E8 and E9; document 02, A1. Written from these documents.
+//! addresses of E8 and E9; document 02, A1 and A2. Written from these documents.
 use cfu_updater::device_component::record::{Component, Fixed, Listed};
 use cfu_updater::device_component::setup::{setup_verdict, SetupVerdict};
 use cfu_updater::crc16::crc16;
@@ -43,6 +43,16 @@ fn the_crc_gives_its_check_value() {
     assert_eq!(crc16(&[1]), 0x1021);
     // Bytes with their own CRC after them have the CRC 0.
     assert_eq!(crc16(b"123456789\x31\xC3"), 0);
+}
+
+#[test]
+fn the_crc_by_the_table_is_that_bit_after_bit() {
+    for first in 0..=255 {
+        for second in 0..=255 {
+            let bytes = [first, second];
+            assert_eq!(crc16(&bytes), crc(&bytes), "{bytes:02x?}");
+        }
+    }
 }
 
 #[test]

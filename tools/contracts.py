@@ -6,7 +6,8 @@ usage: tools/contracts.py            a line for each crate: lines of code, of wh
                                      in the place of its equation
 
 Believed are the lines of specs/ and of contracts. Blank lines and comments do not count. The updater's crates are all but those that read input or print, whose
-lines in crates.txt name `io`, and those that are only measured, speed_*. One contract may carry a claim with a premise of document 00 beside its equation, and names it: `update::run`, `DemandOf`."""
+lines in crates.txt name `io`, and those that are only measured, speed_*. One contract may carry a claim with a premise of document 00 beside its equation, and
+names it: `update::run`, `DemandOf`."""
 import glob
 import os
 import re

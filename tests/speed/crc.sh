@@ -1,6 +1,6 @@
 #!/usr/bin/env bash
-# The CRC of 65,536 bytes by the table of sixteen (crates/crc16) and bit by bit (crates/speed_crc), as the kit's back end, rustc and C compilers make it: the time
-# and the instructions of each, in one run, as one table. It fails where two of them differ on a message, never on a time.
+# The CRC of 65,536 bytes by the table of sixteen (crates/crc16) and bit by bit (crates/speed_crc), as the kit's back end, rustc and C compilers make it: time and
+# instructions of each, in one run, as one table. It fails where two of them differ on a message, never on a time.
 set -u
 cd "$(dirname "$0")/../.." || exit 1
 
@@ -9,7 +9,7 @@ fail() {
     exit 1
 }
 
-for tool in python3 rustc rt gcc valgrind; do
+for tool in python3 rustc rt gcc nm valgrind; do
     command -v "$tool" >/dev/null 2>&1 || fail "$tool is not installed"
 done
 out=target/speed_crc
@@ -28,8 +28,10 @@ for level in 3 s; do
     # shellcheck disable=SC2086  # flags without spaces in them
     rustc $flags --crate-type rlib --crate-name cfu_updater -o "$out/libcfu_updater_$level.rlib" "$out/crate/src/lib.rs" || fail "the crate at opt-level $level"
     # shellcheck disable=SC2086
-    rustc $flags --crate-type lib --emit obj --check-cfg 'cfg(level, values("3", "s"))' --cfg "level=\"$level\"" --extern "cfu_updater=$out/libcfu_updater_$level.rlib" \
-        -o "$out/crate_$level.o" "$here/steps.rs" || fail "the crate's two ways at opt-level $level"
+    rustc $flags --crate-type lib --emit obj --check-cfg 'cfg(level, values("3", "s"))' --cfg "level=\"$level\"" \
+        --extern "cfu_updater=$out/libcfu_updater_$level.rlib" -o "$out/crate_$level.o" "$here/steps.rs" || fail "the crate's two ways at opt-level $level"
+    # All of it is in there: what is left open would be taken from the library.
+    [ -z "$(nm -u "$out/crate_$level.o")" ] || fail "the crate's two ways at opt-level $level call something else"
     names="$names crate_$level"
 done
 
@@ -38,14 +40,18 @@ for compiler in gcc clang; do
     if command -v "$compiler" >/dev/null 2>&1; then
         for level in O2 Os; do
             name=${compiler}_$level
-            "$compiler" -std=c99 -Wall -Wextra -Werror "-$level" "-DTABLE=${name}_table" "-DBITS=${name}_bits" -c -o "$out/$name.o" "$here/steps.c" || fail "$name"
+            "$compiler" -std=c99 -Wall -Wextra -Werror "-$level" "-DTABLE=${name}_table" "-DBITS=${name}_bits" -c -o "$out/$name.o" "$here/steps.c" ||
+                fail "$name"
             names="$names $name"
         done
+    else
+        echo "$compiler is not installed: its rows are left out"
     fi
 done
 
 # shellcheck disable=SC2086
-gcc -std=c99 -Wall -Wextra -Werror -O2 "-DWAYS=$(printf 'X(%s) ' $names)" -o "$out/crc" "$here/main.c" "$out"/*.o target/staticlib/libspeed_crc.a || fail "the measurement does not build"
+gcc -std=c99 -Wall -Wextra -Werror -O2 "-DWAYS=$(printf 'X(%s) ' $names)" -o "$out/crc" "$here/main.c" "$out"/*.o target/staticlib/libspeed_crc.a ||
+    fail "the measurement does not build"
 "$out/crc" >"$out/times" || { cat "$out/times"; fail "the measurement"; }
 
 time_of() {
@@ -79,7 +85,9 @@ for name in $names; do
     bits=$(time_of "${name}_bits")
     table_steps=$(instructions_of "${name}_table")
     bits_steps=$(instructions_of "${name}_bits")
-    [ -n "$table_steps" ] && [ -n "$bits_steps" ] || fail "no count of instructions for $name"
+    for count in "$table" "$bits" "$table_steps" "$bits_steps"; do
+        [ "${count:-0}" -gt 0 ] || fail "a time or a count of instructions is missing for $name"
+    done
     printf '| %s | %s | %s | %s | %s | %s | %s |\n' "$(in_words "$name")" "$(per_byte %.2f "$table")" "$(per_byte %.2f "$bits")" \
         "$(awk "BEGIN { printf \"%.2f\", $table / $bits }")" "$(per_byte %.1f "$table_steps")" "$(per_byte %.1f "$bits_steps")" \
         "$(awk "BEGIN { printf \"%.2f\", $table_steps / $bits_steps }")"

@@ -23,7 +23,7 @@ value-at f i (suc n) zero h = ap f (sym (add-zero i))
 value-at f i (suc n) (suc k) h =
     value-at f (suc i) n k (le-of-suc-le-suc h) ∙ ap f (suc-add i k ∙ sym (add-suc i k))
 
--- what four single bits make of i in the high four bits
+-- what four single-bit steps make of i in the high four bits
 four : ℕ → ℕ
 four i = bitSteps 4 (i * 4096)
 

@@ -3,7 +3,7 @@ ghost use mathlib.Core.Path.{_≡_};
 ghost use Rattle.crc16.specs.Crc.{byteStep, crcOf};
 ghost use Rattle.crc16.specs.Table.{crcTable, nibbleStep};
 
-// The sixteen numbers of `crcTable`, whose rule is `TableRule`.
+// The numbers of `crcTable`, which has the rule of a table (`TableRule`).
 const TABLE: [u16; 16] = [
     0x0000,
     0x1021,
@@ -30,7 +30,7 @@ fn nibble_step(table: &[u16; 16], r: u16) -> u16
     (r << 4) ^ table[(r >> 12) as usize]
 }
 
-// One byte: by exclusive or into the high half of the register, then four bits twice.
+// One byte, by the CRC's own table: by exclusive or into the high half of the register, then four bits twice.
 fn byte_step(table: &[u16; 16], r: u16, b: u8) -> u16
     requires { ⌜ now table ≡ crcTable ⌝ }
     ensures { λ x. ⌜ x ≡ byteStep r b ⌝ }
@@ -38,7 +38,8 @@ fn byte_step(table: &[u16; 16], r: u16, b: u8) -> u16
     nibble_step(table, nibble_step(table, r ^ ((b as u16) << 8)))
 }
 
-// The CRC of all bytes that are lent; of none it is 0. The table is copied once for a call and lent to the steps: as a constant it would be made anew in each.
+// The CRC of all bytes that are lent; of none it is 0. The table is copied once for a call and lent to the steps: Rattle's compiler copies a constant wherever
+// it is read.
 pub fn crc16(bytes: &[u8]) -> u16
     ensures { λ r. ⌜ r ≡ crcOf (now (bytes .entry)) ⌝ }
 {

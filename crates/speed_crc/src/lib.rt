@@ -1,4 +1,4 @@
-// The CRC both ways, by the table of `crc16` and bit by bit as the base took it, for the measurement of tests/speed alone: the updater does not call this crate.
+// The CRC both ways, by the table of `crc16` and bit by bit as the base took it, for the measurement of tests/speed: the updater does not call this crate.
 ghost use mathlib.Core.Path.{_≡_};
 ghost use Rattle.crc16.specs.Crc.{bitStep, byteStep, crcOf};
 use crc16::crc16;

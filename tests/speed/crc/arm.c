@@ -1,6 +1,6 @@
 /*
  * arm.c: one way of steps.c over 4,096 bytes as a program for an emulator of Arm, without a C library. tests/speed/crc/arm.sh counts the instructions from
- * `begin` to `end`. WAY is the way's name.
+ * `begin` to `end`. WAY is the way's name, DUE the CRC of those bytes.
  */
 #include <stddef.h>
 #include <stdint.h>
@@ -21,7 +21,7 @@ __attribute__((noinline)) static void end(void)
     __asm__ volatile("");
 }
 
-/* The CRC is the program's status: 0 where it is the one that arm.sh names. */
+/* The status is 0 where the CRC is DUE, and 1 otherwise. */
 void start(void)
 {
     uint32_t random = 1;

@@ -1,6 +1,6 @@
 /*
- * steps.c: the CRC both ways in C, with the steps of crates/crc16 (the table) and of crates/speed_crc (bit by bit), one by one. It shows what a compiler makes of
- * them that does not turn the bits into a table of its own. TABLE and BITS are the names that the two functions get.
+ * steps.c: the CRC both ways in C, with the steps of crates/crc16 (the table, here a constant) and of crates/speed_crc (bit by bit). It shows what a compiler
+ * makes of them that does not turn the bits into a table of its own. TABLE and BITS are the names that the two functions get.
  */
 #include <stddef.h>
 #include <stdint.h>

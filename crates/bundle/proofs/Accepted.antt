@@ -18,15 +18,20 @@ use Rattle.bundle_records.specs.Parse.{Parsed, whole, broken, more, after, pars
 use Rattle.bundle_records.specs.declared.Head.{Head}
 use Rattle.bundle_records.specs.declared.Head.the-variants.{Empty, Cut, Whole}
 use Rattle.bundle_layout.specs.Layout.{ENTRY, HEAD, BUNDLE-LIMIT, OFFER-LIMIT, countIn, tableEnd, entriesFrom, entriesIn, idIn, offsetIn, lengthIn, bodyIn}
-use Rattle.bundle_layout.specs.Rows.{Row, served, B, firstEntry, badLength, badCount, badOffer, badBody, isBad, repeated, cutTable, badHead, named, rowB5, rowB6, rowB7, rowB8, bundleRow}
+use Rattle.bundle_layout.specs.Rows.{served, B, firstEntry, badLength, badCount, badOffer, badBody, isBad, repeated, cutTable, badHead, named, rowB5, rowB6, rowB7, rowB8, bundleRow}
 use Rattle.bundle.specs.Contents.{blocksIn}
-use Rattle.bundle.proofs.table.Laws.{length-entries, entry-is, skips, none-of}
+use Rattle.bundle.proofs.table.Laws.{length-entries, entry-is, skips}
+pub use Rattle.bundle.proofs.table.Laws.{none-of}
 use Rattle.bundle.proofs.chain.Laws.{bodies-inside}
 
--- a row that refuses nothing, and the rows after it
-passes : (t : Bool) (k e : ℕ) (rest : Row) → cond t (B k e) rest ≡ served → (t ≡ false) × (rest ≡ served)
-passes true k e rest h = let z : _≡_ {A = ℕ} 0 1 = cc in absurd (omega arith)
-passes false k e rest h = (refl, h)
+-- a test that does not apply, and the tests after it, where they answer what it does not
+pub passes : {A : Type 0} (t : Bool) (x rest last : A) → (x ≡ last → ⊥) → cond t x rest ≡ last → (t ≡ false) × (rest ≡ last)
+passes true x rest last n h = absurd (n h)
+passes false x rest last n h = (refl, h)
+
+-- a row that refuses is not served
+refused : (k e : ℕ) → B k e ≡ served → ⊥
+refused k e h = let z : _≡_ {A = ℕ} 0 1 = cc in absurd (omega arith)
 
 -- what the rows say of a bundle that none refuses
 pub record Passes (b : List ℕ) : Type 0 where
@@ -42,14 +47,14 @@ pub record Passes (b : List ℕ) : Type 0 where
 pub rows-pass : (b : List ℕ) → bundleRow b ≡ served → Passes b
 unfolding bundleRow firstOf
 rows-pass b h =
-    let p1 = passes (badLength b) 1 0 _ h in
-    let p2 = passes (badHead b) 2 0 _ (p1 .1) in
-    let p3 = passes (badCount b) 3 0 _ (p2 .1) in
-    let p4 = passes (cutTable b) 4 0 _ (p3 .1) in
-    let p5 = passes (named (rowB5 b)) 5 (rowB5 b) _ (p4 .1) in
-    let p6 = passes (named (rowB6 b)) 6 (rowB6 b) _ (p5 .1) in
-    let p7 = passes (named (rowB7 b)) 7 (rowB7 b) _ (p6 .1) in
-    let p8 = passes (named (rowB8 b)) 8 (rowB8 b) _ (p7 .1) in
+    let p1 = passes (badLength b) (B 1 0) _ served (refused 1 0) h in
+    let p2 = passes (badHead b) (B 2 0) _ served (refused 2 0) (p1 .1) in
+    let p3 = passes (badCount b) (B 3 0) _ served (refused 3 0) (p2 .1) in
+    let p4 = passes (cutTable b) (B 4 0) _ served (refused 4 0) (p3 .1) in
+    let p5 = passes (named (rowB5 b)) (B 5 (rowB5 b)) _ served (refused 5 (rowB5 b)) (p4 .1) in
+    let p6 = passes (named (rowB6 b)) (B 6 (rowB6 b)) _ served (refused 6 (rowB6 b)) (p5 .1) in
+    let p7 = passes (named (rowB7 b)) (B 7 (rowB7 b)) _ served (refused 7 (rowB7 b)) (p6 .1) in
+    let p8 = passes (named (rowB8 b)) (B 8 (rowB8 b)) _ served (refused 8 (rowB8 b)) (p7 .1) in
     record {
       b1 = p1 .0;
       b3 = p3 .0;
@@ -69,7 +74,7 @@ unseen seen k (e ∷ es) (suc i) h l =
     neither (eqb (idIn (getD es i [])) (idIn e)) _ (unseen (idIn e ∷ seen) (suc k) es i (skips (any (eqb (idIn e)) seen) k _ h .1) (le-of-suc-le-suc l)) .1
 
 -- the ids of two entries differ, where the search names none
-apart : (seen : List ℕ) (k : ℕ) (es : List (List ℕ)) (i j : ℕ) → repeated seen (suc k) es ≡ 0 → i < j → j < length es
+pub apart : (seen : List ℕ) (k : ℕ) (es : List (List ℕ)) (i j : ℕ) → repeated seen (suc k) es ≡ 0 → i < j → j < length es
     → idIn (getD es i []) ≡ idIn (getD es j []) → ⊥
 unfolding repeated any
 apart seen k [] i j h m l = absurd (not-suc-le-zero l)
@@ -80,12 +85,17 @@ apart seen k (e ∷ es) (suc i) (suc j) h m l =
     apart (idIn e ∷ seen) (suc k) es i j (skips (any (eqb (idIn e)) seen) k _ h .1) (le-of-suc-le-suc m) (le-of-suc-le-suc l)
 
 -- the entries of a table are of ENTRY bytes each
-entries-packet : (n : ℕ) (q : List ℕ) → Bytes q → ENTRY * n ≤ length q → (i : ℕ) → i < n → Packet ENTRY (getD (entriesFrom n q) i [])
+pub entries-size : (n : ℕ) (q : List ℕ) → ENTRY * n ≤ length q → (i : ℕ) → i < n → length (getD (entriesFrom n q) i []) ≡ ENTRY
 unfolding entriesFrom
-entries-packet zero q h l i m = absurd (not-suc-le-zero m)
-entries-packet (suc n) q h l zero m = record { size = length-take ENTRY q ∙ omega arith; bytes = first-bytes ENTRY q h }
-entries-packet (suc n) q h l (suc i) m =
-    entries-packet n (drop ENTRY q) (rest-bytes ENTRY q h) (omega (arith, length-drop ENTRY q)) i (le-of-suc-le-suc m)
+entries-size zero q l i m = absurd (not-suc-le-zero m)
+entries-size (suc n) q l zero m = length-take ENTRY q ∙ omega arith
+entries-size (suc n) q l (suc i) m = entries-size n (drop ENTRY q) (omega (arith, length-drop ENTRY q)) i (le-of-suc-le-suc m)
+
+pub entries-bytes : (n : ℕ) (q : List ℕ) → Bytes q → (i : ℕ) → i < n → Bytes (getD (entriesFrom n q) i [])
+unfolding entriesFrom
+entries-bytes zero q h i m = absurd (not-suc-le-zero m)
+entries-bytes (suc n) q h zero m = first-bytes ENTRY q h
+entries-bytes (suc n) q h (suc i) m = entries-bytes n (drop ENTRY q) (rest-bytes ENTRY q h) i (le-of-suc-le-suc m)
 
 -- a record that content can carry: 1 to 52 bytes
 pub record Carried (r : Block) : Type 0 where
@@ -221,7 +231,10 @@ accepted b bytes h =
       entries = es;
       table = table;
       places = entry-is b;
-      packet = entries-packet (countIn b) (drop HEAD b) (rest-bytes HEAD b bytes) (omega (arith, length-drop HEAD b));
+      packet = λ i l. record {
+        size = entries-size (countIn b) (drop HEAD b) (omega (arith, length-drop HEAD b)) i l;
+        bytes = entries-bytes (countIn b) (drop HEAD b) (rest-bytes HEAD b bytes) i l;
+      };
       offer = λ i l. offered (entry b i) (none-of badOffer 0 (entriesIn b) i (p .b5) (omega arith));
       ids = λ i j l m e. ids (p .b6) i j (omega arith) (omega arith) e;
       inside = λ i l. rw (entry-is b i l) (bodies-inside b (p .b7) i l);

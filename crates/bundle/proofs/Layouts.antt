@@ -1,4 +1,4 @@
--- Every well-formed layout within the limits is accepted. Assumes nothing.
+-- Every well-formed layout within the limits is accepted, and its offers and its records are read back. Assumes nothing.
 use mathlib.Core.Path.{_≡_, refl, sym, ap, ap₂, _∙_}
 use mathlib.Core.Bool.{false}
 use mathlib.Core.List.{List, [], _∷_, _++_, append-assoc, map, flatten}
@@ -7,21 +7,23 @@ use native.Mathlib.Nat.{not-suc-le-zero}
 use native.Mathlib.Omega.{arith}
 use borrow.Author.Tests.{eq-eqb, ne-eqb, le-ltb}
 use lib.Dec.{eqb}
-use lib.ListN.{length, getD, drop, length-append, List·getD-append}
+use lib.ListN.{length, getD, drop, replicate, length-append, List·getD-append}
 use lib.Seq.{take-at, drop-at, drop-drop, getD-append-add}
-use Rattle.wire.specs.Bytes.{number, bytesOf, bytesAt}
+use Rattle.wire.specs.Bytes.{Bytes, number, bytesOf, bytesAt}
 use Rattle.wire.specs.Checks.{any, All, firstOf}
+use Rattle.wire.specs.Codes.{SHORT-SIZE}
+use Rattle.wire.proofs.Bounds.{cons-bytes, join-bytes, no-bytes, word-bytes}
 use Rattle.wire.proofs.words.Laws.{round}
-use Rattle.bundle_records.specs.Record.{Block}
-use Rattle.bundle_records.specs.Parse.{whole, recordsOf, written}
+use Rattle.bundle_records.specs.Record.{Block, Sound, blockBytes}
+use Rattle.bundle_records.specs.Parse.{whole, recordsOf, blocksOf, written}
 use Rattle.bundle_records.proofs.Written.{written-reads}
-use Rattle.bundle_layout.specs.Layout.{BUNDLE-LIMIT, OFFER-LIMIT, HEAD, ENTRY, tableEnd, entriesFrom, entriesIn, idIn, offsetIn, lengthIn, bodyIn}
+use Rattle.bundle_layout.specs.Layout.{BUNDLE-LIMIT, OFFER-LIMIT, HEAD, ENTRY, tableEnd, entriesFrom, entriesIn, offerIn, idIn, offsetIn, lengthIn, bodyIn}
 use Rattle.bundle_layout.specs.Rows.{firstEntry, badLength, badHead, badCount, cutTable, badOffer, repeated, gap, isBad, badBody, rowB5, rowB6, rowB7, rowB8, bundleRow}
-use Rattle.bundle.specs.Contents.{Part, tableBytes, bundleBytes, GoodPart, LayoutAccepted}
+use Rattle.bundle.specs.Contents.{blocksIn, Part, tableBytes, bundleBytes, GoodPart, LayoutAccepted}
 
 -- a part's body, its entry where the body stands at `at`, and the entries of a layout
 
-abbrev bodyOf : Part → List ℕ
+abbrev pub bodyOf : Part → List ℕ
 bodyOf p = written (p .blocks)
 
 abbrev entryOf : ℕ → Part → List ℕ
@@ -39,6 +41,11 @@ bytes-after (suc k) i n m o x l e =
     let q : m ≡ length o + i = omega arith in
     ap₂ (λ (y : ℕ) (ys : List ℕ). y ∷ ys) (rw q (getD-append-add o x i 0)) (bytes-after k (suc i) n (suc m) o x l (omega arith))
 
+-- B5 looks at the 16 bytes of the offer alone
+pub same-offer : (e o : List ℕ) → ((i : ℕ) → i < SHORT-SIZE → getD e i 0 ≡ getD o i 0) → badOffer e ≡ badOffer o
+unfolding any
+same-offer e o h = rw (h 0 (omega arith), h 1 (omega arith), h 3 (omega arith), h 13 (omega arith), h 12 (omega arith), h 2 (omega arith))
+
 module _ (at : ℕ) (p : Part) (s : length (p .offer) ≡ 16) where
   length-entry : length (entryOf at p) ≡ ENTRY
   length-entry = simp length-append (omega arith)
@@ -53,8 +60,7 @@ module _ (at : ℕ) (p : Part) (s : length (p .offer) ≡ 16) where
   entry-byte i h = List·getD-append (p .offer) (bytesOf 4 at ++ bytesOf 4 (length (bodyOf p))) 0 i (omega arith)
 
   entry-offer : badOffer (entryOf at p) ≡ badOffer (p .offer)
-  unfolding any
-  entry-offer = rw (entry-byte 0 (omega arith), entry-byte 1 (omega arith), entry-byte 3 (omega arith), entry-byte 13 (omega arith), entry-byte 12 (omega arith), entry-byte 2 (omega arith))
+  entry-offer = same-offer (entryOf at p) (p .offer) entry-byte
 
 -- the table is its entries
 
@@ -69,13 +75,28 @@ table-entries at (p ∷ ps) rest g =
     (ap₂ (λ (x : List ℕ) (xs : List (List ℕ)). x ∷ xs) (take-at (entryOf at p) (t ++ rest) ENTRY l)
     (ap (entriesFrom (length ps)) (drop-at (entryOf at p) (t ++ rest) ENTRY l) ∙ table-entries (at + length (bodyOf p)) ps rest (g .1)))
 
-length-table : (at : ℕ) (ps : List Part) → All GoodPart ps → length (tableBytes at ps) ≡ ENTRY * length ps
+-- each offer has its 16 bytes
+abbrev pub Sized : List Part → Type 0
+Sized ps = All (λ (p : Part). length (p .offer) ≡ SHORT-SIZE) ps
+
+sized : (ps : List Part) → All GoodPart ps → Sized ps
+sized [] g = tt
+sized (p ∷ ps) g = (g .0 .packet .size, sized ps (g .1))
+
+length-table : (at : ℕ) (ps : List Part) → Sized ps → length (tableBytes at ps) ≡ ENTRY * length ps
 unfolding tableBytes
 length-table at [] g = refl
 length-table at (p ∷ ps) g =
     let ih = length-table (at + length (bodyOf p)) ps (g .1) in
-    let s = g .0 .packet .size in
+    let s = g .0 in
     simp length-append (omega arith)
+
+-- how long the bundle of a layout is
+pub bundle-length : (ps : List Part) → Sized ps → length (bundleBytes ps) ≡ tableEnd (length ps) + length (flatten (map bodyOf ps))
+unfolding bundleBytes
+bundle-length ps g =
+    let l = length-table (tableEnd (length ps)) ps g in
+    let m = length-append (tableBytes (tableEnd (length ps)) ps) (flatten (map bodyOf ps)) in omega arith
 
 -- row B5
 
@@ -126,27 +147,91 @@ parses p g = rw (written-reads (p .blocks) (g .sound)) (go (p .blocks) (g .some)
   go [] h = absurd (not-suc-le-zero h)
   go (r ∷ rs) h = refl
 
+-- the body of an entry, and what follows it
+body-back : (b : List ℕ) (at : ℕ) (p : Part) (j : List ℕ) → length (p .offer) ≡ SHORT-SIZE → at < 256 ^ 4 → length (bodyOf p) < 256 ^ 4
+    → drop at b ≡ bodyOf p ++ j → bodyIn b (entryOf at p) ≡ bodyOf p
+unfolding bodyIn
+body-back b at p j s h k d = rw (entry-offset at p s h, entry-length at p s k, d, take-at (bodyOf p) j (length (bodyOf p)) refl)
+
+rest-back : (b : List ℕ) (at : ℕ) (w j : List ℕ) → drop at b ≡ w ++ j → drop (at + length w) b ≡ j
+rest-back b at w j d = sym (drop-drop (length w) at b) ∙ ap (drop (length w)) d ∙ drop-at w j (length w) refl
+
 all-parse : (b : List ℕ) (at k : ℕ) (ps : List Part) → All GoodPart ps → length b < 256 ^ 4 → at + length (flatten (map bodyOf ps)) ≡ length b → drop at b ≡ flatten (map bodyOf ps)
     → firstEntry (badBody b) k (entriesOf at ps) ≡ 0
-unfolding firstEntry entriesOf flatten bodyIn
+unfolding firstEntry entriesOf flatten
 all-parse b at k [] g f e d = refl
 all-parse b at k (p ∷ ps) g f e d =
     let w = bodyOf p in
     let j = flatten (map bodyOf ps) in
     let l = length-append w j in
-    let s = g .0 .packet .size in
-    let n : drop (at + length w) b ≡ j = sym (drop-drop (length w) at b) ∙ ap (drop (length w)) d ∙ drop-at w j (length w) refl in
-    rw (entry-offset at p s (omega arith), entry-length at p s (omega arith), d, take-at w j (length w) refl, parses p (g .0))
-    (all-parse b (at + length w) (suc k) ps (g .1) f (omega arith) n)
+    rw (body-back b at p j (g .0 .packet .size) (omega arith) (omega arith) d, parses p (g .0))
+    (all-parse b (at + length w) (suc k) ps (g .1) f (omega arith) (rest-back b at w j d))
+
+-- what is read back: the offers, and the records of each body
+
+offers-back : (at : ℕ) (ps : List Part) → All GoodPart ps → map offerIn (entriesOf at ps) ≡ map (λ p. p .offer) ps
+unfolding entriesOf
+offers-back at [] g = refl
+offers-back at (p ∷ ps) g =
+    ap₂ (λ (x : List ℕ) (xs : List (List ℕ)). x ∷ xs) (take-at (p .offer) (bytesOf 4 at ++ bytesOf 4 (length (bodyOf p))) SHORT-SIZE (g .0 .packet .size))
+    (offers-back (at + length (bodyOf p)) ps (g .1))
+
+records-back : (b : List ℕ) (at : ℕ) (ps : List Part) → All GoodPart ps → length b < 256 ^ 4 → at + length (flatten (map bodyOf ps)) ≡ length b
+    → drop at b ≡ flatten (map bodyOf ps) → map (blocksIn b) (entriesOf at ps) ≡ map (λ p. p .blocks) ps
+unfolding entriesOf flatten
+records-back b at [] g f e d = refl
+records-back b at (p ∷ ps) g f e d =
+    let w = bodyOf p in
+    let j = flatten (map bodyOf ps) in
+    let l = length-append w j in
+    let r : bodyIn b (entryOf at p) ≡ w = body-back b at p j (g .0 .packet .size) (omega arith) (omega arith) d in
+    ap₂ (λ (x : List Block) (xs : List (List Block)). x ∷ xs)
+    (ap (λ (x : List ℕ). blocksOf (recordsOf x)) r ∙ ap blocksOf (written-reads (p .blocks) (g .0 .sound)))
+    (records-back b (at + length w) ps (g .1) f (omega arith) (rest-back b at w j d))
+
+-- the bytes of a layout are bytes
+
+written-bytes : (rs : List Block) → All Sound rs → Bytes (written rs)
+unfolding written
+written-bytes [] s = no-bytes
+written-bytes (r ∷ rs) s =
+    let h = s .0 in
+    let d = length (r .bytes) ∷ r .bytes in
+    join-bytes (blockBytes r) (written rs)
+    (join-bytes (bytesOf 4 (r .address .0)) d (word-bytes 4 (r .address .0)) (cons-bytes (length (r .bytes)) (r .bytes) (omega (arith, h .few)) (h .bytes)))
+    (written-bytes rs (s .1))
+
+bodies-bytes : (ps : List Part) → All GoodPart ps → Bytes (flatten (map bodyOf ps))
+unfolding flatten
+bodies-bytes [] g = no-bytes
+bodies-bytes (p ∷ ps) g = join-bytes (bodyOf p) (flatten (map bodyOf ps)) (written-bytes (p .blocks) (g .0 .sound)) (bodies-bytes ps (g .1))
+
+table-bytes : (at : ℕ) (ps : List Part) → All GoodPart ps → Bytes (tableBytes at ps)
+unfolding tableBytes
+table-bytes at [] g = no-bytes
+table-bytes at (p ∷ ps) g =
+    let size = bytesOf 4 (length (bodyOf p)) in
+    let rest = tableBytes (at + length (bodyOf p)) ps in
+    join-bytes (p .offer) (bytesOf 4 at ++ (size ++ rest)) (g .0 .packet .bytes)
+    (join-bytes (bytesOf 4 at) (size ++ rest) (word-bytes 4 at)
+    (join-bytes size rest (word-bytes 4 (length (bodyOf p))) (table-bytes (at + length (bodyOf p)) ps (g .1))))
+
+zero-bytes : (n : ℕ) → Bytes (replicate n 0)
+zero-bytes zero = no-bytes
+zero-bytes (suc n) = cons-bytes 0 (replicate n 0) (omega arith) (zero-bytes n)
 
 -- the bundle of a layout
 
 module _ (ps : List Part) (g : All GoodPart ps) where
-  bundle-length : length (bundleBytes ps) ≡ tableEnd (length ps) + length (flatten (map bodyOf ps))
+  pub bundle-bytes : length ps ≤ OFFER-LIMIT → Bytes (bundleBytes ps)
   unfolding bundleBytes
-  bundle-length =
-      let l = length-table (tableEnd (length ps)) ps g in
-      let m = length-append (tableBytes (tableEnd (length ps)) ps) (flatten (map bodyOf ps)) in omega arith
+  bundle-bytes h =
+      let table = tableBytes (tableEnd (length ps)) ps in
+      let bodies = flatten (map bodyOf ps) in
+      let rest = replicate 6 0 ++ (table ++ bodies) in
+      cons-bytes (length ps) (1 ∷ rest) (omega arith)
+      (cons-bytes 1 rest (omega arith)
+      (join-bytes (replicate 6 0) (table ++ bodies) (zero-bytes 6) (join-bytes table bodies (table-bytes (tableEnd (length ps)) ps g) (bodies-bytes ps g))))
 
   bundle-entries : entriesIn (bundleBytes ps) ≡ entriesOf (tableEnd (length ps)) ps
   unfolding bundleBytes entriesIn
@@ -157,12 +242,22 @@ module _ (ps : List Part) (g : All GoodPart ps) where
   bundle-bodies =
       let at = tableEnd (length ps) in
       sym (drop-drop (ENTRY * length ps) HEAD (bundleBytes ps))
-      ∙ drop-at (tableBytes at ps) (flatten (map bodyOf ps)) (ENTRY * length ps) (length-table at ps g)
+      ∙ drop-at (tableBytes at ps) (flatten (map bodyOf ps)) (ENTRY * length ps) (length-table at ps (sized ps g))
+
+  -- the offers and the records of a layout are read back
+
+  pub layout-offers : map offerIn (entriesIn (bundleBytes ps)) ≡ map (λ p. p .offer) ps
+  layout-offers = ap (map offerIn) bundle-entries ∙ offers-back (tableEnd (length ps)) ps g
+
+  pub layout-records : length (bundleBytes ps) ≤ BUNDLE-LIMIT → map (blocksIn (bundleBytes ps)) (entriesIn (bundleBytes ps)) ≡ map (λ p. p .blocks) ps
+  layout-records h =
+      ap (map (blocksIn (bundleBytes ps))) bundle-entries
+      ∙ records-back (bundleBytes ps) (tableEnd (length ps)) ps g (omega arith) (sym (bundle-length ps (sized ps g))) bundle-bodies
 
   -- no row applies to it
 
   row-1 : length (bundleBytes ps) ≤ BUNDLE-LIMIT → badLength (bundleBytes ps) ≡ false
-  row-1 h = let l = bundle-length in rw (le-ltb (length (bundleBytes ps)) HEAD (omega arith), le-ltb BUNDLE-LIMIT (length (bundleBytes ps)) h)
+  row-1 h = let l = bundle-length ps (sized ps g) in rw (le-ltb (length (bundleBytes ps)) HEAD (omega arith), le-ltb BUNDLE-LIMIT (length (bundleBytes ps)) h)
 
   row-2 : badHead (bundleBytes ps) ≡ false
   unfolding bundleBytes any
@@ -174,7 +269,7 @@ module _ (ps : List Part) (g : All GoodPart ps) where
 
   row-4 : cutTable (bundleBytes ps) ≡ false
   unfolding bundleBytes
-  row-4 = let l = bundle-length in le-ltb (length (bundleBytes ps)) (tableEnd (length ps)) (omega arith)
+  row-4 = let l = bundle-length ps (sized ps g) in le-ltb (length (bundleBytes ps)) (tableEnd (length ps)) (omega arith)
 
   row-5 : rowB5 (bundleBytes ps) ≡ 0
   unfolding rowB5
@@ -190,11 +285,11 @@ module _ (ps : List Part) (g : All GoodPart ps) where
 
   row-7 : length (bundleBytes ps) ≤ BUNDLE-LIMIT → rowB7 (bundleBytes ps) ≡ 0
   unfolding rowB7 bundleBytes
-  row-7 h = rw bundle-entries (chained (length (bundleBytes ps)) (tableEnd (length ps)) 1 ps g (omega arith) (sym bundle-length))
+  row-7 h = rw bundle-entries (chained (length (bundleBytes ps)) (tableEnd (length ps)) 1 ps g (omega arith) (sym (bundle-length ps (sized ps g))))
 
   row-8 : length (bundleBytes ps) ≤ BUNDLE-LIMIT → rowB8 (bundleBytes ps) ≡ 0
   unfolding rowB8
-  row-8 h = rw bundle-entries (all-parse (bundleBytes ps) (tableEnd (length ps)) 1 ps g (omega arith) (sym bundle-length) bundle-bodies)
+  row-8 h = rw bundle-entries (all-parse (bundleBytes ps) (tableEnd (length ps)) 1 ps g (omega arith) (sym (bundle-length ps (sized ps g))) bundle-bodies)
 
 pub layout-accepted : LayoutAccepted
 unfolding bundleRow firstOf

@@ -3,3 +3,4 @@ pub mod Accepted
 pub mod Tiles
 pub mod Layouts
 pub mod Told
+pub mod Entries

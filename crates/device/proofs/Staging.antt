@@ -28,7 +28,7 @@ use Rattle.device_session.proofs.sound.Laws.{open-slot, region-inside}
 use Rattle.device.proofs.Passes.{serves}
 
 -- place j is not among the n places from `at` on
-abbrev Outside : (at n j : ℕ) → Type 0
+abbrev pub Outside : (at n j : ℕ) → Type 0
 Outside at n j = (j < at) ⊎ (at + n ≤ j)
 
 module _ (at : ℕ) (bytes l : List ℕ) (h : at + length bytes ≤ length l) where
@@ -36,14 +36,14 @@ module _ (at : ℕ) (bytes l : List ℕ) (h : at + length bytes ≤ length l) wh
   front = length-take-le at l (omega arith)
 
   -- bytes that are put stand where they were put
-  put-in : (i : ℕ) → i < length bytes → getD (put at bytes l) (at + i) 0 ≡ getD bytes i 0
+  pub put-in : (i : ℕ) → i < length bytes → getD (put at bytes l) (at + i) 0 ≡ getD bytes i 0
   unfolding put
   put-in i k =
       ap (λ (n : ℕ). getD (take at l ++ (bytes ++ drop (at + length bytes) l)) (n + i) 0) (sym front)
       ∙ getD-append-add (take at l) _ i 0 ∙ List·getD-append bytes _ 0 i k
 
   -- every other byte stays
-  put-out : (j : ℕ) → Outside at (length bytes) j → getD (put at bytes l) j 0 ≡ getD l j 0
+  pub put-out : (j : ℕ) → Outside at (length bytes) j → getD (put at bytes l) j 0 ≡ getD l j 0
   unfolding put
   put-out j (inl k) = List·getD-append (take at l) _ 0 j (omega (arith, front)) ∙ getD-take at l j 0 k
   put-out j (inr k) =

@@ -41,7 +41,7 @@ pub struct Fault {
     pub entry: u8,
 }
 
-fn fault<T>(row: Refusal, entry: usize) -> Result<T, Fault> {
+pub fn fault<T>(row: Refusal, entry: usize) -> Result<T, Fault> {
     Err(Fault { row, entry: entry as u8 })
 }
 
@@ -99,12 +99,13 @@ fn body_place(bundle: &[u8], index: usize) -> (u32, u32) {
     (four(&bundle[at..at + 4]), four(&bundle[at + 4..at + 8]))
 }
 
-fn four(bytes: &[u8]) -> u32 {
+/// Four bytes, little-endian.
+pub fn four(bytes: &[u8]) -> u32 {
     u32::from_le_bytes([bytes[0], bytes[1], bytes[2], bytes[3]])
 }
 
 /// B5: bytes 0, 1, 3 or 13 not zero, byte 12 not 2, or id outside 1-0xDF.
-fn offer_faulty(offer: &[u8]) -> bool {
+pub fn offer_faulty(offer: &[u8]) -> bool {
     [0, 1, 3, 13].iter().any(|at| offer[*at] != 0)
         || offer[12] != PROTOCOL
         || !(1..=0xDF).contains(&offer[2])

@@ -522,7 +522,7 @@ fn write(staging: &mut [u8], region: Region, block: &Content) {
 // ------------------------------------------------------ image judgement
 
 /// Bytes 0-3.
-fn image_version(image: &[u8]) -> Version {
+pub fn image_version(image: &[u8]) -> Version {
     Version::from_bytes(&image[0..4])
 }
 

@@ -896,10 +896,10 @@ fn host_takes_one_fixed_reply_for_a_device() {
 // -------------------------------------------------------------- demand 3
 
 /// A small generator of numbers; the same ones on every run.
-struct Dice(u64);
+pub struct Dice(pub u64);
 
 impl Dice {
-    fn below(&mut self, border: u32) -> u32 {
+    pub fn below(&mut self, border: u32) -> u32 {
         self.0 = self.0.wrapping_mul(6_364_136_223_846_793_005).wrapping_add(1);
         ((self.0 >> 33) % border as u64) as u32
     }

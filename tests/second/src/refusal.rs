@@ -1,6 +1,6 @@
 //! "Numbered refusals": the numbers themselves.
 
-/// The rows of the table, in the paper's order.
+/// The rows of the table, in the paper's order; then A3's.
 #[derive(Clone, Copy, Debug, PartialEq, Eq)]
 pub enum Refusal {
     S1,
@@ -21,6 +21,14 @@ pub enum Refusal {
     B6,
     B7,
     B8,
+    W1,
+    W2,
+    W3,
+    W4,
+    W5,
+    W6,
+    W7,
+    W8,
 }
 
 /// A number prints as the paper writes it.

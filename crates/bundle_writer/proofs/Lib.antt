@@ -1,0 +1,4 @@
+pub mod Puts
+pub mod Taken
+pub mod Promises
+pub mod Refusals

@@ -1,0 +1,30 @@
+-- What the writer is given (document 02, A3): a list of entries, and one lent slice that holds the images. An entry of the list has the layout of an entry of a
+-- bundle's table: the offer (16), the image's offset in the slice (4) and its length (4). The count of offers is the number of entries.
+use Prim.Native.Nat.{ℕ, _/_}
+use mathlib.Core.List.{List, map}
+use lib.ListN.{length, take, drop}
+use Rattle.bundle_layout.specs.Layout.{ENTRY, entriesFrom, offerIn, offsetIn, lengthIn}
+use Rattle.bundle.specs.Contents.{Part, bundleBytes}
+use Rattle.bundle_cut.specs.Cut.{imageRecords}
+
+-- the entries of a list
+abbrev pub countOf : List ℕ → ℕ
+countOf list = length list / ENTRY
+
+unfoldable pub entriesOf : List ℕ → List (List ℕ)
+entriesOf list = entriesFrom (countOf list) list
+
+-- the image of an entry
+unfoldable pub imageAt : (images e : List ℕ) → List ℕ
+imageAt images e = take (lengthIn e) (drop (offsetIn e) images)
+
+-- the part of the bundle that an entry gives: its offer, and the records of its image
+abbrev pub madePart : (images e : List ℕ) → Part
+madePart images e = record { offer = offerIn e; blocks = imageRecords (imageAt images e) }
+
+abbrev pub madeParts : (list images : List ℕ) → List Part
+madeParts list images = map (madePart images) (entriesOf list)
+
+-- the bundle
+unfoldable pub madeBundle : (list images : List ℕ) → List ℕ
+madeBundle list images = bundleBytes (madeParts list images)

@@ -1,7 +1,8 @@
 /*
  * cfu.h: the C interface of the proved CFU updater (library libcfu.a, crates crates/c_*).
  *
- * The device end, the host end, the check of a bundle, and the building and reading of each packet of CFU, Microsoft's Component Firmware Update protocol.
+ * The device end, the host end, the check of a bundle and its writing, and the building and reading of each packet of CFU, Microsoft's Component Firmware
+ * Update protocol.
  * C99, also C++.
  *
  * Memory. The caller lends all of it: nothing is allocated, nothing is kept between calls, and there is no global state, so two threads may call at once with
@@ -21,8 +22,8 @@
  *     ASCII code times 256 plus the number, so that D1 is 0x4401 ('D' is 0x44).
  *
  * A refusal leaves every record, the staging buffer and the contents that are lent to a step as they were, and every other field of a returned struct is 0,
- * except the entry that a B row names and the fields of a report with N1, which are those of the record as it is read. What it leaves in a buffer for output is
- * said at each call. The first row that applies is returned: C1, C2, C3, then the others in the order of their numbers, B rows before N1. C1 to C3 are this
+ * except the entry that a B or W row names and the fields of a report with N1, which are those of the record as it is read. What it leaves in a buffer for
+ * output is said at each call. The first row that applies is returned: C1, C2, C3, then the others in the order of their numbers, B rows before N1. C1 to C3 are this
  * interface's own: with one of them nothing at all is changed.
  *
  * CFU_SERVED says that the call was carried out, not that the peer agreed: REJECT, SKIP, BUSY and the errors of a block stand in the packets, and how a host
@@ -152,6 +153,18 @@ extern "C" {
 #define CFU_B7 0x4207
 #define CFU_B8 0x4208
 
+/* Writer. W1: a list that is not 1 to CFU_OFFER_LIMIT whole entries. W2: an offer that B5 refuses. W3: an id that an earlier entry has. W4: an image under
+ * CFU_REGION_LEAST or over CFU_STAGING_LIMIT bytes, or past the end of the images. W5: an image whose CRC is wrong. W6: an image that bears another version or
+ * another id than its offer. W7: a bundle over CFU_BUNDLE_LIMIT bytes. W8: an output too short for the bundle. */
+#define CFU_W1 0x5701
+#define CFU_W2 0x5702
+#define CFU_W3 0x5703
+#define CFU_W4 0x5704
+#define CFU_W5 0x5705
+#define CFU_W6 0x5706
+#define CFU_W7 0x5707
+#define CFU_W8 0x5708
+
 /* ---- How far a host is (cfu_report.ending) ---- */
 
 #define CFU_RUNNING 0
@@ -275,6 +288,12 @@ typedef struct cfu_check {
     uint32_t count; /* how many offers an accepted bundle has */
 } cfu_check;
 
+typedef struct cfu_written {
+    uint32_t number;
+    uint32_t entry;  /* the entry that the row names, counted from 1; 0 for W1, W7 and W8 */
+    uint32_t length; /* how many bytes of the output are the bundle */
+} cfu_written;
+
 typedef struct cfu_step {
     uint32_t number;
     uint32_t entry;  /* the entry that a bundle's row names */
@@ -365,6 +384,16 @@ uint32_t cfu_device_reset(uint8_t *device, size_t device_len);
  * the entry, which the contents keep. The offer of entry i, counted from 0, is the 16 bytes of the bundle at 8 + 24 i, for cfu_read_offer.
  */
 cfu_check cfu_bundle_check(const uint8_t *bundle, size_t bundle_len, uint8_t *contents, size_t contents_len);
+
+/*
+ * Writes a bundle that the check accepts. list: for each offer, in the order of the bundle, CFU_BUNDLE_ENTRY_SIZE bytes: the offer (16, as cfu_build_offer
+ * leaves it, with token 0), at 16 where its image starts in `images` (4), at 20 how long it is (4). An image is a whole region: bytes 0 to 3 its version, byte 4
+ * its id, the last two bytes the CRC of all before them, high byte first. Returns CFU_SERVED with the bundle's length: the bundle is at the start of `out`, and
+ * every byte of `out` past it is as it was. Or returns the first of W1 to W8 that applies, each tried over the whole list before the next, with the entry that it
+ * names, and `out` is as it was. Of an image the two CRC bytes are always the last record; of the bytes before them each longest run of 52 or more bytes 0xFF is
+ * left out, since an erase restores it, and what is left is cut at 52 bytes. An output of CFU_BUNDLE_LIMIT bytes is never too short.
+ */
+cfu_written cfu_bundle_write(const uint8_t *list, size_t list_len, const uint8_t *images, size_t images_len, uint8_t *out, size_t out_len);
 
 /*
  * ---- The host ----

@@ -18,7 +18,7 @@ use Rattle.bundle_cut.proofs.Order.{image-apart, image-sound}
 use Rattle.bundle_writer.specs.Order.{countOf, entriesOf, imageAt, madePart, madeParts, madeBundle}
 use Rattle.bundle_writer.specs.Rows.{Row, served, W, writeRow}
 use Rattle.bundle_writer.specs.Answer.{madeBy, writeOf}
-use Rattle.bundle_writer.specs.Promises.{ReadsBack, MadeReadsBack, MadeApart, bodiesLength, MadeLength, Frame, MadeFrame}
+use Rattle.bundle_writer.specs.Promises.{MadeBack, MadeReadsBack, MadeApart, bodiesLength, MadeLength, Frame, MadeFrame}
 use Rattle.bundle_writer.proofs.Taken.{refused, rows-pass, length-entries, entry-size, entry-bytes, Taken, Listed, rows-say}
 
 -- what is said of every member of a list
@@ -112,7 +112,7 @@ module _ (list images : List ℕ) (lb : Bytes list) (ib : Bytes images) (t : Lis
       ap (λ (l : List (List ℕ)). idIn (getD l i [])) offers-given ∙ ap idIn (List·getD-map offerIn (entriesOf list) i [])
       ∙ getD-take SHORT-SIZE (getD (entriesOf list) i []) 2 0 (omega arith)
 
-  reads-back : length (madeBundle list images) ≤ BUNDLE-LIMIT → ReadsBack list images (madeBundle list images)
+  reads-back : length (madeBundle list images) ≤ BUNDLE-LIMIT → MadeBack list images (madeBundle list images)
   unfolding madeBundle bundleBytes
   reads-back fits =
       let ps = madeParts list images in

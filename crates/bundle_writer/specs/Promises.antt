@@ -16,7 +16,7 @@ use Rattle.bundle_writer.specs.Rows.{Row, served, W, writeRow}
 use Rattle.bundle_writer.specs.Answer.{Made, writeOf}
 
 -- the check accepts it, and reads back the offers that were given, in their order, each with the records of its image
-pub record ReadsBack (list images b : List ℕ) : Type 0 where
+pub record MadeBack (list images b : List ℕ) : Type 0 where
   pub bytes : Bytes b
   pub accepted : bundle.bundleRow b ≡ bundle.served
   pub count : countIn b ≡ countOf list
@@ -25,7 +25,7 @@ pub record ReadsBack (list images b : List ℕ) : Type 0 where
 
 abbrev pub MadeReadsBack : Type 0
 MadeReadsBack = (list images : List ℕ) (room : ℕ) → Bytes list → Bytes images → writeRow list images room ≡ served
-    → ReadsBack list images (madeBundle list images)
+    → MadeBack list images (madeBundle list images)
 
 -- in each of its bodies the records are in rising address and do not touch each other's bytes
 abbrev pub MadeApart : Type 0

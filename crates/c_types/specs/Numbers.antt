@@ -1,4 +1,4 @@
--- The numbers that cross to C: 0, or a row of document 01 as its letter's code, times 256, and its number; and the rows C1 to C3 of the calls
+-- The numbers that cross to C: 0, or a row of documents 01 and 02 as its letter's code, times 256, and its number; and the rows C1 to C3 of the calls
 -- themselves. The other rows have their numbers with the calls that answer them.
 use Prim.Native.Nat.{ℕ, _+_, _-_}
 use mathlib.Core.Bool.{Bool, cond}
@@ -35,6 +35,9 @@ ROW-D = 0x4400
 
 abbrev pub ROW-B : ℕ
 ROW-B = 0x4200
+
+abbrev pub ROW-W : ℕ
+ROW-W = 0x5700
 
 abbrev pub ROW-N : ℕ
 ROW-N = 0x4E00

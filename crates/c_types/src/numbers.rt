@@ -1,4 +1,4 @@
-// The numbers that cross to C (rows of document 01 as a letter's code, times 256, and a number; rows C1 to C3 of these crates), and the sizes of lent buffers.
+// The numbers that cross to C (rows of documents 01 and 02 as a letter's code, times 256, and a number; rows C1 to C3 of these crates), and the sizes of lent buffers.
 ghost use mathlib.Core.Path.{_≡_};
 ghost use Rattle.wire.specs.Rows.{rowOf};
 ghost use Rattle.c_types.specs.Numbers.{letteredOf, packetNumber};
@@ -24,6 +24,8 @@ pub const ROW_S: u16 = 0x5300;
 pub const ROW_D: u16 = 0x4400;
 
 pub const ROW_B: u16 = 0x4200;
+
+pub const ROW_W: u16 = 0x5700;
 
 pub const ROW_N: u16 = 0x4E00;
 

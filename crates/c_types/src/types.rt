@@ -87,6 +87,14 @@ pub struct CCheck {
     pub count: u32,
 }
 
+// What the writer of a bundle says: the entry that its row names, and how long the bundle is.
+#[repr(C)]
+pub struct CWritten {
+    pub number: u32,
+    pub entry: u32,
+    pub length: u32,
+}
+
 // What a step of the host says: the entry that a bundle's row names, and how many bytes of the packet are sent.
 #[repr(C)]
 pub struct CStep {

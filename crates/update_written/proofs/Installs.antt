@@ -15,7 +15,7 @@ use Rattle.bundle_layout.specs.Layout.{entriesIn, offerIn, idIn}
 use Rattle.bundle.specs.Contents.{blocksIn}
 use Rattle.bundle_cut.specs.Cut.{CRC-SIZE, imageRecords}
 use Rattle.bundle_writer.specs.Order.{countOf, entriesOf, imageAt, madeBundle}
-use Rattle.bundle_writer.specs.Promises.{ReadsBack}
+use Rattle.bundle_writer.specs.Promises.{MadeBack}
 use Rattle.bundle_cut.proofs.Order.{image-inside}
 use Rattle.bundle_writer.proofs.Promises.{made-reads-back}
 use Rattle.bundle_writer.proofs.Taken.{length-entries, Listed, rows-say}
@@ -48,7 +48,7 @@ offer-version e =
 
 -- the entries of what the writer made, as they were given
 
-module _ (list images b : List ℕ) (r : ReadsBack list images b) (i : ℕ) where
+module _ (list images b : List ℕ) (r : MadeBack list images b) (i : ℕ) where
   offer-back : offerIn (entryAt b i) ≡ offerIn (listed list i)
   offer-back =
       sym (List·getD-map offerIn (entriesIn b) i []) ∙ ap (λ (l : List (List ℕ)). getD l i (offerIn [])) (r .offers)
@@ -68,7 +68,7 @@ module _ (list images b : List ℕ) (r : ReadsBack list images b) (i : ℕ) wher
       ∙ map-at (λ e. imageRecords (imageAt images e)) (entriesOf list) i [] (blocksIn b []) (omega (arith, length-entries list))
 
 module _ (list images : List ℕ) (room token : ℕ) (d : Device) (staging : List ℕ) (f : Fitting list images room token d staging) where
-  back : ReadsBack list images (madeBundle list images)
+  back : MadeBack list images (madeBundle list images)
   back = made-reads-back list images room (f .list-bytes) (f .images-bytes) (f .made)
 
   said : Listed list images

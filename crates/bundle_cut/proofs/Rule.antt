@@ -1,15 +1,17 @@
--- `cut` has the rule of the runs. Assumes nothing.
-use mathlib.Core.Path.{_≡_}
+-- `cut` has the rule of the runs, and the records of an image end with its CRC. Assumes nothing.
+use mathlib.Core.Path.{_≡_, refl, ap, _∙_}
 use mathlib.Core.Logic.{_⊎_, inl, inr, _↔_}
 use mathlib.Core.List.{List, [], _∷_}
-use Prim.Native.Nat.{ℕ, _+_, _≤_, _<_}
+use Prim.Native.Nat.{ℕ, suc, _+_, _-_, _≤_, _<_}
 use native.Mathlib.Decide.{decLt}
 use native.Mathlib.Omega.{arith}
-use lib.ListN.{length}
+use lib.ListN.{length, getD, take, drop}
+use lib.Seq.{length-take-le, drop-cons}
 use Rattle.wire.specs.Checks.{All}
 use Rattle.bundle_records.specs.Record.{Block, DATA-LIMIT}
-use Rattle.bundle_cut.specs.Cut.{RUN-LEAST, runAt, recordOf, cut}
-use Rattle.bundle_cut.specs.Rule.{Kept, endOf, Covers, Full, CutRule}
+use Rattle.bundle_records.specs.Walk.{between}
+use Rattle.bundle_cut.specs.Cut.{RUN-LEAST, runAt, recordOf, cut, crcPlace, beforeCrc}
+use Rattle.bundle_cut.specs.Rule.{Kept, endOf, Covers, Full, CutRule, ImageRule}
 use Rattle.bundle_cut.proofs.Pieces.{IsGap, IsData, by-pieces}
 use Rattle.bundle_cut.proofs.Order.{data-ends, rising-apart, cut-taken, cut-rising}
 use Rattle.bundle_cut.proofs.Longest.{Clear, clear-start, gap-goes, clear-gap, clear-data, data-stays}
@@ -80,3 +82,23 @@ cut-rule d =
       full = cut-full d .1;
       parts = cut-taken d;
     }
+
+-- the last two bytes
+last-two : (m : List ℕ) → 2 ≤ length m → between m (crcPlace m) (length m) ≡ getD m (length m - 2) 0 ∷ getD m (length m - 1) 0 ∷ []
+last-two m h =
+    let n : length m - crcPlace m ≡ 2 = omega arith in
+    let i : suc (length m - 2) ≡ length m - 1 = omega arith in
+    let f : drop (suc (length m - 2)) m ≡ getD m (length m - 1) 0 ∷ drop (suc (length m - 1)) m = rw i (drop-cons m (length m - 1) 0 (omega arith)) in
+    ap (λ (k : ℕ). take k (drop (crcPlace m) m)) n
+    ∙ ap (take 2) (drop-cons m (length m - 2) 0 (omega arith) ∙ ap (λ (t : List ℕ). getD m (length m - 2) 0 ∷ t) f)
+
+pub image-rule : ImageRule
+image-rule m h = record {
+  front = cut (beforeCrc m);
+  last = recordOf m (crcPlace m) (length m);
+  whole = refl;
+  before = cut-rule (beforeCrc m);
+  size = let e = length-take-le (crcPlace m) m (omega arith) in omega arith;
+  place = omega arith;
+  crc = last-two m h;
+}

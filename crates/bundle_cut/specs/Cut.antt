@@ -32,13 +32,14 @@ leading (b ∷ bs) = cond (eqb b ERASED) (suc (leading bs)) 0
 abbrev pub runAt : (d : List ℕ) → (x : ℕ) → ℕ
 runAt d x = leading (drop x d)
 
--- how many bytes, at most n, stand before the end and before a run that is left out
+-- how many bytes, at most n, stand before the end and before the first place with 52 or more bytes 0xFF from it on
 unfoldable pub reach : (n : ℕ) → List ℕ → ℕ
 reach zero d = 0
 reach (suc n) [] = 0
 reach (suc n) (b ∷ bs) = cond (leb RUN-LEAST (leading (b ∷ bs))) 0 (suc (reach n bs))
 
--- what stands at place `at`: nothing more, a run that is left out, or the bytes of a record; with the place after it
+-- the piece that begins at place `at`, where a walk from place 0 comes there: nothing more, a run that is left out, or the bytes of a record, with the place
+-- after it. The bytes before `at` are not looked at.
 unfoldable pub pieceAt : (d : List ℕ) → (at : ℕ) → Piece
 pieceAt d at =
     cond (leb (length d) at) End

@@ -1,8 +1,8 @@
--- The rule of the runs (document 02, A3), said of places and not of a walk; and that `cut` is the one list of records with it.
-use Prim.Native.Nat.{ℕ, suc, _+_, _*_, _/_, _^_, _≤_, _<_}
+-- The rule of the records (document 02, A3), said of places and not of a walk; that `cut` is the one list of records with it; and the lengths that follow.
+use Prim.Native.Nat.{ℕ, suc, _+_, _-_, _*_, _/_, _^_, _≤_, _<_}
 use mathlib.Core.Path.{_≡_}
 use mathlib.Core.Logic.{_⊎_, _↔_}
-use mathlib.Core.List.{List, [], _∷_}
+use mathlib.Core.List.{List, [], _∷_, _++_}
 use lib.ListN.{length, getD, take, drop}
 use Rattle.wire.specs.Bytes.{Bytes}
 use Rattle.wire.specs.Checks.{All}
@@ -10,7 +10,7 @@ use Rattle.bundle_records.specs.Record.{Block, Sound, DATA-LIMIT}
 use Rattle.bundle_records.specs.Walk.{between}
 use Rattle.bundle_cut.specs.Cut.{ERASED, RUN-LEAST, CRC-SIZE, cut, beforeCrc, imageRecords, imageBody}
 
--- a longest run: n bytes 0xFF from place a on, with none before and none after
+-- a longest run: n bytes 0xFF from place a on, with none just before and none just after
 pub record LongestRun (d : List ℕ) (a n : ℕ) : Type 0 where
   pub inside : a + n ≤ length d
   pub erased : (x : ℕ) → a ≤ x → x < a + n → getD d x 0 ≡ ERASED
@@ -51,13 +51,14 @@ Full [] = Unit {0}
 Full (r ∷ []) = Unit {0}
 Full (r ∷ s ∷ rs) = (endOf r ≡ s .address .0 → length (r .bytes) ≡ DATA-LIMIT) × Full (s ∷ rs)
 
--- a record has from 1 to 52 bytes, and they are the image's at its address
+-- a record has from 1 to 52 bytes, and they are those of d at its address
 pub record TakenFrom (d : List ℕ) (r : Block) : Type 0 where
   pub some : 1 ≤ length (r .bytes)
   pub few : length (r .bytes) ≤ DATA-LIMIT
   pub bytes : r .bytes ≡ between d (r .address .0) (endOf r)
 
--- the rule: the records cover exactly the places that are kept, in rising address, and are cut at 52 bytes
+-- the rule: the records cover exactly the places that are kept, in rising address, cut at 52 bytes. The count starts anew after each run that is left out, so
+-- that only the last record before such a run, or before the end, may be shorter.
 pub record CutBy (d : List ℕ) (rs : List Block) : Type 0 where
   pub covers : (x : ℕ) → Covers rs x ↔ Kept d x
   pub apart : Apart rs
@@ -72,7 +73,20 @@ CutRule = (d : List ℕ) → CutBy d (cut d)
 abbrev pub CutOnly : Type 0
 CutOnly = (d : List ℕ) (rs : List Block) → CutBy d rs → rs ≡ cut d
 
--- the records of an image are in rising address, the CRC's among them, and do not touch each other's bytes
+-- the rule of an image: the records of the bytes before the CRC, and a last one with the two bytes of the CRC
+pub record ImageBy (m : List ℕ) (rs : List Block) : Type 0 where
+  pub front : List Block
+  pub last : Block
+  pub whole : rs ≡ front ++ (last ∷ [])
+  pub before : CutBy (beforeCrc m) front
+  pub size : length (beforeCrc m) + 2 ≡ length m
+  pub place : last .address .0 + 2 ≡ length m
+  pub crc : last .bytes ≡ getD m (length m - 2) 0 ∷ getD m (length m - 1) 0 ∷ []
+
+abbrev pub ImageRule : Type 0
+ImageRule = (m : List ℕ) → 2 ≤ length m → ImageBy m (imageRecords m)
+
+-- the records of an image are in rising address, the CRC's among them, and do not overlap
 abbrev pub ImageApart : Type 0
 ImageApart = (m : List ℕ) → Apart (imageRecords m)
 
@@ -85,17 +99,17 @@ abbrev pub parts52 : (n : ℕ) → ℕ
 parts52 n = (n + 51) / 52
 
 -- how many records an image has at most, and how long its body is at most
-pub record BodyBounds (m : List ℕ) : Type 0 where
+pub record BodyAtMost (m : List ℕ) : Type 0 where
   pub records : length (imageRecords m) ≤ parts52 (length (beforeCrc m)) + 1
   pub body : length (imageBody m) ≤ length (beforeCrc m) + 5 * parts52 (length (beforeCrc m)) + 7
 
 abbrev pub BodyBound : Type 0
-BodyBound = (m : List ℕ) → CRC-SIZE ≤ length m → BodyBounds m
+BodyBound = (m : List ℕ) → CRC-SIZE ≤ length m → BodyAtMost m
 
 -- where no run is left out, that is how many and how long
-pub record BodySizes (m : List ℕ) : Type 0 where
+pub record BodyExactly (m : List ℕ) : Type 0 where
   pub records : length (imageRecords m) ≡ parts52 (length (beforeCrc m)) + 1
   pub body : length (imageBody m) ≡ length (beforeCrc m) + 5 * parts52 (length (beforeCrc m)) + 7
 
 abbrev pub BodySize : Type 0
-BodySize = (m : List ℕ) → CRC-SIZE ≤ length m → ((x : ℕ) → LeftOut (beforeCrc m) x → ⊥) → BodySizes m
+BodySize = (m : List ℕ) → CRC-SIZE ≤ length m → ((x : ℕ) → LeftOut (beforeCrc m) x → ⊥) → BodyExactly m

@@ -57,8 +57,7 @@ fn record_end(d: &[u8], at: usize) -> usize
     end
 }
 
-// What stands at place `at`. Each byte is looked at a few times at most over a whole walk: a run that is left out when the record before it ends and when it is
-// passed over, and a shorter one twice where a record is cut inside it.
+// The piece that begins at place `at`, where a walk from place 0 comes there. Over a whole walk each byte is looked at four times at most.
 pub fn next_piece(d: &[u8], at: usize) -> Piece
     ensures { λ r. ⌜ r ≡ pieceAt (now (d .entry)) at ⌝ }
 {

@@ -15,7 +15,7 @@ use Rattle.bundle.proofs.Layouts.{bodyOf, same-offer, Sized, bundle-length, bun
 use Rattle.bundle_cut.specs.Cut.{recordOf, cut, crcPlace, beforeCrc, imageRecords, imageBody}
 use Rattle.bundle_cut.specs.Rule.{Apart}
 use Rattle.bundle_cut.proofs.Order.{image-apart, image-sound}
-use Rattle.bundle_writer.specs.Order.{countOf, entriesOf, imageAt, madePart, madeParts, madeBundle}
+use Rattle.bundle_writer.specs.Given.{countOf, entriesOf, imageAt, madePart, madeParts, madeBundle}
 use Rattle.bundle_writer.specs.Rows.{Row, served, W, writeRow}
 use Rattle.bundle_writer.specs.Answer.{madeBy, writeOf}
 use Rattle.bundle_writer.specs.Promises.{MadeBack, MadeReadsBack, MadeApart, bodiesLength, MadeLength, Frame, MadeFrame}

@@ -9,9 +9,9 @@ use lib.ListN.{length}
 use Rattle.wire.specs.Checks.{firstOf}
 use Rattle.bundle_layout.specs.Layout.{BUNDLE-LIMIT}
 use Rattle.bundle_layout.specs.Rows.{named}
-use Rattle.bundle_writer.specs.declared.list.Rule.{Rule}
-use Rattle.bundle_writer.specs.declared.list.Rule.the-variants.{Offer, Lent, Crc, Bears}
-use Rattle.bundle_writer.specs.Order.{madeBundle}
+use Rattle.bundle_writer.specs.declared.list.EntryRule.{EntryRule}
+use Rattle.bundle_writer.specs.declared.list.EntryRule.the-variants.{Offer, Lent, Crc, Bears}
+use Rattle.bundle_writer.specs.Given.{madeBundle}
 use Rattle.bundle_writer.specs.Rows.{Row, served, W, badList, firstBreaking, rowW3, writeRow}
 use Rattle.bundle_writer.specs.Answer.{madeBy, writeOf}
 
@@ -32,7 +32,7 @@ from k (e ∷ es) last = cond (named e) (W k e) (from (suc k) es last)
 
 -- past W1
 pub rows-from : (list images : List ℕ) (room : ℕ) → badList list ≡ false →
-    let at : Rule → ℕ = λ rule. firstBreaking rule list images in
+    let at : EntryRule → ℕ = λ rule. firstBreaking rule list images in
     writeRow list images room
     ≡ from 2 (at Offer ∷ rowW3 list ∷ at Lent ∷ at Crc ∷ at Bears ∷ []) (sizeRows room (length (madeBundle list images)))
 unfolding writeRow firstOf

@@ -18,9 +18,9 @@ use Rattle.bundle_layout.specs.Rows.{badOffer, named}
 use Rattle.bundle.proofs.Accepted.{passes, none-of, apart, entries-size, entries-bytes}
 use Rattle.bundle_writer.proofs.list.Laws.{good-list}
 pub use Rattle.bundle_writer.proofs.list.Laws.{length-entries}
-use Rattle.bundle_writer.specs.declared.list.Rule.{Rule}
-use Rattle.bundle_writer.specs.declared.list.Rule.the-variants.{Offer, Lent, Crc, Bears}
-use Rattle.bundle_writer.specs.Order.{countOf, entriesOf, imageAt, madeBundle}
+use Rattle.bundle_writer.specs.declared.list.EntryRule.{EntryRule}
+use Rattle.bundle_writer.specs.declared.list.EntryRule.the-variants.{Offer, Lent, Crc, Bears}
+use Rattle.bundle_writer.specs.Given.{countOf, entriesOf, imageAt, madeBundle}
 use Rattle.bundle_writer.specs.Rows.{served, W, badList, badLent, bearsOffer, breaks, firstBreaking, rowW3, writeRow}
 
 -- a row that refuses is not served
@@ -41,7 +41,7 @@ pub record Passes (list images : List ℕ) (room : ℕ) : Type 0 where
 pub rows-pass : (list images : List ℕ) (room : ℕ) → writeRow list images room ≡ served → Passes list images room
 unfolding writeRow firstOf
 rows-pass list images room h =
-    let first : Rule → ℕ = λ rule. firstBreaking rule list images in
+    let first : EntryRule → ℕ = λ rule. firstBreaking rule list images in
     let size = length (madeBundle list images) in
     let p1 = passes (badList list) (W 1 0) _ served (refused 1 0) h in
     let p2 = passes (named (first Offer)) (W 2 (first Offer)) _ served (refused 2 (first Offer)) (p1 .1) in

@@ -1,4 +1,4 @@
-pub mod Order
+pub mod Given
 pub mod Rows
 pub mod Answer
 pub mod Promises

@@ -11,11 +11,11 @@ use Rattle.bundle_layout.specs.Rows as bundle
 use Rattle.bundle.specs.Contents.{blocksIn}
 use Rattle.bundle_cut.specs.Cut.{imageRecords, imageBody}
 use Rattle.bundle_cut.specs.Rule.{Apart}
-use Rattle.bundle_writer.specs.Order.{countOf, entriesOf, imageAt, madeBundle}
+use Rattle.bundle_writer.specs.Given.{countOf, entriesOf, imageAt, madeBundle}
 use Rattle.bundle_writer.specs.Rows.{Row, served, W, writeRow}
 use Rattle.bundle_writer.specs.Answer.{Made, writeOf}
 
--- the check accepts it, and reads back the offers that were given, in their order, each with the records of its image
+-- the check accepts it; its table holds the offers that were given, in their order, and its bodies the records of their images
 pub record MadeBack (list images b : List ℕ) : Type 0 where
   pub bytes : Bytes b
   pub accepted : bundle.bundleRow b ≡ bundle.served
@@ -27,7 +27,7 @@ abbrev pub MadeReadsBack : Type 0
 MadeReadsBack = (list images : List ℕ) (room : ℕ) → Bytes list → Bytes images → writeRow list images room ≡ served
     → MadeBack list images (madeBundle list images)
 
--- in each of its bodies the records are in rising address and do not touch each other's bytes
+-- in each of its bodies the records are in rising address and do not overlap
 abbrev pub MadeApart : Type 0
 MadeApart = (list images : List ℕ) (room : ℕ) → Bytes list → Bytes images → writeRow list images room ≡ served
     → All (λ e. Apart (blocksIn (madeBundle list images) e)) (entriesIn (madeBundle list images))

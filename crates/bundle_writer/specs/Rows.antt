@@ -1,5 +1,5 @@
--- Rows W1 to W8 (document 02, A3), each over the whole list before the next. W2 to W6 answer the entry that they name, counted from 1, or 0 where they refuse
--- nothing; W1, W7 and W8 name no entry.
+-- Rows W1 to W8 (document 02, A3), in that order. As document 01 has it of the B rows, each is tried over the whole list before the next, and W2 to W6 answer
+-- the entry that they name, counted from 1, or 0 where they refuse nothing; W1, W7 and W8 name no entry.
 use Prim.Native.Nat.{ℕ, _+_, _%_}
 use mathlib.Core.Bool.{Bool, not, cond, _||_, _&&_}
 use mathlib.Core.List.{List, [], _∷_}
@@ -13,9 +13,9 @@ use Rattle.bundle_layout.specs.Layout.{BUNDLE-LIMIT, OFFER-LIMIT, ENTRY, idIn, 
 use Rattle.bundle_layout.specs.Rows.{firstEntry, badOffer, repeated, named}
 use Rattle.bundle_writer.specs.declared.rows.WriteVerdict.{WriteVerdict}
 use Rattle.bundle_writer.specs.declared.rows.WriteVerdict.the-variants.{Fine, W1, W2, W3, W4, W5, W6, W7, W8}
-use Rattle.bundle_writer.specs.declared.list.Rule.{Rule}
-use Rattle.bundle_writer.specs.declared.list.Rule.the-variants.{Offer, Lent, Crc, Bears}
-use Rattle.bundle_writer.specs.Order.{countOf, entriesOf, imageAt, madeBundle}
+use Rattle.bundle_writer.specs.declared.list.EntryRule.{EntryRule}
+use Rattle.bundle_writer.specs.declared.list.EntryRule.the-variants.{Offer, Lent, Crc, Bears}
+use Rattle.bundle_writer.specs.Given.{countOf, entriesOf, imageAt, madeBundle}
 
 -- the rows of document 02 that the writer gives out, with the entry
 pub data Row : Type 0 where
@@ -45,7 +45,7 @@ rowAt number entry = cond (eqb number 0) served (W number entry)
 abbrev pub rowOf : WriteVerdict → ℕ → Row
 rowOf v entry = rowAt (numberOf v) entry
 
--- W1: count not 1 to the limit; a list that does not end with an entry has no count
+-- W1: count not 1 to the limit, or bytes after the last whole entry
 abbrev pub badList : List ℕ → Bool
 badList list = not (eqb (length list % ENTRY) 0) || (ltb (countOf list) 1 || ltb OFFER-LIMIT (countOf list))
 
@@ -53,19 +53,20 @@ badList list = not (eqb (length list % ENTRY) 0) || (ltb (countOf list) 1 || ltb
 abbrev pub badLent : (size : ℕ) → (e : List ℕ) → Bool
 badLent size e = ltb (lengthIn e) REGION-LEAST || (ltb STAGING-LIMIT (lengthIn e) || ltb size (offsetIn e + lengthIn e))
 
--- W6: the image bears its offer's version and id
+-- what W6 asks: the image bears its offer's version, all 32 bits of it, and its id
 abbrev pub bearsOffer : (m e : List ℕ) → Bool
 bearsOffer m e = eqb (imageVersion m .0) (versionAt 4 e .0) && eqb (imageId m) (idIn e)
 
--- the rules on one entry. W2: an offer that B5 refuses; W4; W5: CRC wrong; W6: image version or id not its offer's
-abbrev pub breaks : Rule → (images e : List ℕ) → Bool
+-- what refuses one entry. W2: an offer that B5 refuses; W4; W5: CRC wrong; W6: image version or id not its offer's. W5 and W6 are tried where W4 refuses none,
+-- so of images that are wholly lent
+abbrev pub breaks : EntryRule → (images e : List ℕ) → Bool
 breaks Offer images e = badOffer e
 breaks Lent images e = badLent (length images) e
 breaks Crc images e = not (isRight (imageAt images e))
 breaks Bears images e = not (bearsOffer (imageAt images e) e)
 
--- the first entry that breaks a rule
-unfoldable pub firstBreaking : Rule → (list images : List ℕ) → ℕ
+-- the first entry that breaks a rule, or 0
+unfoldable pub firstBreaking : EntryRule → (list images : List ℕ) → ℕ
 firstBreaking rule list images = firstEntry (breaks rule images) 1 (entriesOf list)
 
 -- W3: id already used earlier, B6's rule on the list; the later entry

@@ -2,7 +2,7 @@
 // it.
 ghost use mathlib.Core.Path.{_≡_};
 ghost use Rattle.bundle_writer.specs.Answer.{told, writeOf};
-use crate::list::Rule;
+use crate::list::EntryRule;
 use crate::rows::WriteVerdict;
 use bundle_layout::limits::BUNDLE_LIMIT;
 
@@ -37,7 +37,7 @@ pub fn write(out: &mut [u8], list: &[u8], images: &[u8]) -> WriteAnswer
     if list::bad_list(list) {
         return refused(WriteVerdict::W1, 0);
     }
-    let offer = list::first_breaking(Rule::Offer, list, images);
+    let offer = list::first_breaking(EntryRule::Offer, list, images);
     if offer != 0 {
         return refused(WriteVerdict::W2, offer);
     }
@@ -45,15 +45,15 @@ pub fn write(out: &mut [u8], list: &[u8], images: &[u8]) -> WriteAnswer
     if repeated != 0 {
         return refused(WriteVerdict::W3, repeated);
     }
-    let lent = list::first_breaking(Rule::Lent, list, images);
+    let lent = list::first_breaking(EntryRule::Lent, list, images);
     if lent != 0 {
         return refused(WriteVerdict::W4, lent);
     }
-    let crc = list::first_breaking(Rule::Crc, list, images);
+    let crc = list::first_breaking(EntryRule::Crc, list, images);
     if crc != 0 {
         return refused(WriteVerdict::W5, crc);
     }
-    let bears = list::first_breaking(Rule::Bears, list, images);
+    let bears = list::first_breaking(EntryRule::Bears, list, images);
     if bears != 0 {
         return refused(WriteVerdict::W6, bears);
     }

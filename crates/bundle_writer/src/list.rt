@@ -7,7 +7,7 @@ ghost use lib.ListN.{length, take, drop};
 ghost use Rattle.wire.specs.Checks.{any};
 ghost use Rattle.image.specs.Judge.{isRight};
 ghost use Rattle.bundle_layout.specs.Layout.{ENTRY, idIn};
-ghost use Rattle.bundle_writer.specs.Order.{countOf, entriesOf, imageAt};
+ghost use Rattle.bundle_writer.specs.Given.{countOf, entriesOf, imageAt};
 ghost use Rattle.bundle_writer.specs.Rows.{badList, badLent, bearsOffer, breaks, firstBreaking, rowW3};
 use bundle_layout::limits::ENTRY;
 use bundle_layout::limits::OFFER_LIMIT;
@@ -23,8 +23,8 @@ use wire::version::Version;
 use wire::words::byte_at;
 use wire::words::least;
 
-// The rules on one entry and its image: rows W2, W4, W5 and W6.
-pub enum Rule {
+// What refuses one entry or its image: rows W2, W4, W5 and W6.
+pub enum EntryRule {
     Offer,
     Lent,
     Crc,
@@ -88,7 +88,7 @@ fn is_right(m: &[u8]) -> bool
     }
 }
 
-// W6 of an image and its entry: the image bears the offer's version and id.
+// What W6 asks of an image and its entry: the image bears the offer's version and id.
 fn bears_offer(m: &[u8], e: &[u8]) -> bool
     ensures { λ r. ⌜ r ≡ bearsOffer (now (m .entry)) (now (e .entry)) ⌝ }
 {
@@ -98,19 +98,19 @@ fn bears_offer(m: &[u8], e: &[u8]) -> bool
 }
 
 // An entry breaks a rule.
-fn breaks_rule(rule: Rule, images: &[u8], e: &[u8]) -> bool
+fn breaks_rule(rule: EntryRule, images: &[u8], e: &[u8]) -> bool
     ensures { λ r. ⌜ r ≡ breaks rule (now (images .entry)) (now (e .entry)) ⌝ }
 {
     match rule {
-        Rule::Offer => bad_offer(e),
-        Rule::Lent => bad_lent(images.len(), e),
-        Rule::Crc => !is_right(image_at(images, e)),
-        Rule::Bears => !bears_offer(image_at(images, e), e),
+        EntryRule::Offer => bad_offer(e),
+        EntryRule::Lent => bad_lent(images.len(), e),
+        EntryRule::Crc => !is_right(image_at(images, e)),
+        EntryRule::Bears => !bears_offer(image_at(images, e), e),
     }
 }
 
 // The first entry that breaks a rule, or 0.
-pub(crate) fn first_breaking(rule: Rule, list: &[u8], images: &[u8]) -> u8
+pub(crate) fn first_breaking(rule: EntryRule, list: &[u8], images: &[u8]) -> u8
     requires { ⌜ badList (now list) ≡ false ⌝ }
     ensures { λ r. ⌜ r ≡ firstBreaking rule (now (list .entry)) (now (images .entry)) ⌝ }
 {

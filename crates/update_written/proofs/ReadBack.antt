@@ -20,7 +20,7 @@ use Rattle.bundle_cut.proofs.Order.{image-inside, image-parts, uncovered}
 use Rattle.device.proofs.Staging.{Outside, put-in, put-out}
 use Rattle.update.specs.Claim.{writes, imageOf, Inside}
 use Rattle.update.proofs.Filled.{image-length}
-use Rattle.update_written.specs.Installs.{ImageReadsBack}
+use Rattle.update_written.specs.Stages.{ImageReadsBack}
 
 -- place x is among the n places from `at` on, or it is not
 place : (at n x : ℕ) → ((at ≤ x) × (x < at + n)) ⊎ Outside at n x

@@ -1,1 +1,1 @@
-pub mod Installs
+pub mod Stages

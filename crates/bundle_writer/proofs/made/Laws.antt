@@ -21,8 +21,8 @@ use Rattle.bundle.proofs.Accepted.{none-of}
 use Rattle.bundle.proofs.Layouts.{bodyOf}
 use Rattle.bundle_cut.specs.Cut.{crcPlace, imageBody}
 use Rattle.bundle_cut.proofs.Bounds.{body-bound}
-use Rattle.bundle_writer.specs.declared.list.Rule.the-variants.{Lent}
-use Rattle.bundle_writer.specs.Order.{countOf, entriesOf, imageAt, madePart, madeParts, madeBundle}
+use Rattle.bundle_writer.specs.declared.list.EntryRule.the-variants.{Lent}
+use Rattle.bundle_writer.specs.Given.{countOf, entriesOf, imageAt, madePart, madeParts, madeBundle}
 use Rattle.bundle_writer.specs.Rows.{badList, badLent, breaks, firstBreaking}
 use Rattle.bundle_writer.specs.Answer.{over}
 use Rattle.bundle_writer.specs.Promises.{bodiesLength}

@@ -9,9 +9,9 @@ use borrow.Author.Tests.{ne-eqb}
 use lib.ListN.{length}
 use Rattle.wire.specs.Checks.{firstOf}
 use Rattle.wire.proofs.Chain.{by}
-use Rattle.bundle_writer.specs.declared.list.Rule.{Rule}
-use Rattle.bundle_writer.specs.declared.list.Rule.the-variants.{Offer, Lent, Crc, Bears}
-use Rattle.bundle_writer.specs.Order.{madeBundle}
+use Rattle.bundle_writer.specs.declared.list.EntryRule.{EntryRule}
+use Rattle.bundle_writer.specs.declared.list.EntryRule.the-variants.{Offer, Lent, Crc, Bears}
+use Rattle.bundle_writer.specs.Given.{madeBundle}
 use Rattle.bundle_writer.specs.Rows.{Row, badList, firstBreaking, rowW3, writeRow}
 use Rattle.bundle_writer.specs.Answer.{writeOf}
 use Rattle.bundle_writer.proofs.Refusals.{refusal, sizeRows, from, rows-from, too-long, no-room, all-fits}
@@ -22,7 +22,7 @@ use Rattle.bundle_writer.proofs.write.Tie as tie
 abbrev row : tie.Else1 → Row
 row c = let a = c .before .before .before .before .before .args in writeRow (a .list .now) (a .images .now) (length (a .out .now))
 
-abbrev at : tie.Else1 → Rule → ℕ
+abbrev at : tie.Else1 → EntryRule → ℕ
 at c rule = let a = c .before .before .before .before .before .args in firstBreaking rule (a .list .now) (a .images .now)
 
 abbrev again : tie.Else1 → ℕ

@@ -1,7 +1,7 @@
 -- `list::image_at`: the part that is lent is the image, as far as the slice has it. Assumes nothing.
 use Rattle.bundle_layout.specs.Layout.{offsetIn, lengthIn}
 use Rattle.image.proofs.region.Lent.{clamped}
-use Rattle.bundle_writer.specs.Order.{imageAt}
+use Rattle.bundle_writer.specs.Given.{imageAt}
 use borrow.Author.Needs.{needs}
 use Rattle.bundle_writer.proofs.list.image_at.Statement.{statement}
 use Rattle.bundle_writer.proofs.list.image_at.Tie as tie

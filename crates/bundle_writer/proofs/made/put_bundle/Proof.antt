@@ -9,7 +9,7 @@ use Rattle.image.specs.Region.{put}
 use Rattle.image.proofs.region.Within.{put-length}
 use Rattle.bundle_layout.specs.Layout.{ENTRY}
 use Rattle.bundle_cut.specs.Cut.{imageBody}
-use Rattle.bundle_writer.specs.Order.{countOf, imageAt, madeBundle}
+use Rattle.bundle_writer.specs.Given.{countOf, imageAt, madeBundle}
 use Rattle.bundle_writer.proofs.Puts.{put-again, over-put}
 use Rattle.bundle_writer.proofs.Promises.{made-size}
 use Rattle.bundle_writer.proofs.list.Laws.{entryOf, good-list, entry-in, length-entry}

@@ -1,4 +1,5 @@
--- What the writer makes meets demand 3's premise where the region lengths are the images', and there the updater installs each image byte for byte.
+-- What the writer makes gives the images back, meets demand 3's premise where the region lengths are the images', and there the updater stages each image byte for
+-- byte. Assumes nothing.
 use mathlib.Core.Path.{_≡_, refl, sym, ap, subst, _∙_}
 use mathlib.Core.List.{List, [], _∷_, map}
 use Prim.Native.Nat.{ℕ, zero, suc, _≤_, _<_}
@@ -14,7 +15,7 @@ use Rattle.bundle_records.specs.Record.{Block}
 use Rattle.bundle_layout.specs.Layout.{entriesIn, offerIn, idIn}
 use Rattle.bundle.specs.Contents.{blocksIn}
 use Rattle.bundle_cut.specs.Cut.{CRC-SIZE, imageRecords}
-use Rattle.bundle_writer.specs.Order.{countOf, entriesOf, imageAt, madeBundle}
+use Rattle.bundle_writer.specs.Given.{countOf, entriesOf, imageAt, madeBundle}
 use Rattle.bundle_writer.specs.Promises.{MadeBack}
 use Rattle.bundle_cut.proofs.Order.{image-inside}
 use Rattle.bundle_writer.proofs.Promises.{made-reads-back}
@@ -28,7 +29,7 @@ use Rattle.update.specs.Run.{lastOf}
 use Rattle.update.specs.Demand.{Premise}
 use Rattle.update.proofs.Demand.{demand-three}
 use Rattle.update_written.proofs.ReadBack.{image-reads-back}
-use Rattle.update_written.specs.Installs.{listed, Fitting, MadePremise, Installs, MadeInstalls}
+use Rattle.update_written.specs.Stages.{listed, MadeImages, Fitting, MadePremise, Stages, MadeStages}
 
 -- member i of what the members of a list are turned into
 map-at : {A B : Type 0} (f : A → B) (l : List A) (i : ℕ) (none : A) (d : B) → i < length l → getD (map f l) i d ≡ f (getD l i none)
@@ -66,6 +67,19 @@ module _ (list images b : List ℕ) (r : MadeBack list images b) (i : ℕ) where
   records-back h =
       sym (List·getD-map (blocksIn b) (entriesIn b) i []) ∙ ap (λ (l : List (List Block)). getD l i (blocksIn b [])) (r .records)
       ∙ map-at (λ e. imageRecords (imageAt images e)) (entriesOf list) i [] (blocksIn b []) (omega (arith, length-entries list))
+
+-- each body gives its image
+pub made-images : MadeImages
+made-images list images room i lb ib h k =
+    let e = listed list i in
+    let t = rows-say list images room h .entry i k in
+    let r = made-reads-back list images room lb ib h in
+    record {
+      lent = t .size;
+      image = rw (← t .size)
+          (ap (imageOf (length (imageAt images e))) (records-back list images (madeBundle list images) r i k)
+          ∙ image-reads-back (imageAt images e) (omega (arith, t .size, t .least)));
+    }
 
 module _ (list images : List ℕ) (room token : ℕ) (d : Device) (staging : List ℕ) (f : Fitting list images room token d staging) where
   back : MadeBack list images (madeBundle list images)
@@ -116,8 +130,8 @@ module _ (list images : List ℕ) (room token : ℕ) (d : Device) (staging : Lis
         good = λ i k h here. good-body i k (omega (arith, back .count)) (ap (find d) (sym (id-back list images b back i)) ∙ here);
       }
 
-  installs : (reply : List ℕ) → Installs list images token d staging reply (lastOf (madeBundle list images) token d staging reply)
-  installs reply =
+  stages : (reply : List ℕ) → Stages list images token d staging reply (lastOf (madeBundle list images) token d staging reply)
+  stages reply =
       let b = madeBundle list images in
       let r = demand-three b token d staging reply premise in
       record {
@@ -129,5 +143,5 @@ module _ (list images : List ℕ) (room token : ℕ) (d : Device) (staging : Lis
 pub made-premise : MadePremise
 made-premise list images room token d staging f = premise list images room token d staging f
 
-pub made-installs : MadeInstalls
-made-installs list images room token d staging reply f = installs list images room token d staging f reply
+pub made-stages : MadeStages
+made-stages list images room token d staging reply f = stages list images room token d staging f reply

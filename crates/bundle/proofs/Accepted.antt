@@ -1,5 +1,5 @@
 -- What holds of a bundle that the check accepts: its count, its entries, their ids, and the records of each body. Assumes nothing.
-use mathlib.Core.Path.{_≡_, refl, sym, ap, _∙_}
+use mathlib.Core.Path.{_≡_, refl, sym, _∙_}
 use mathlib.Core.Bool.{Bool, true, false, true≢false, not, cond, _||_, _&&_}
 use mathlib.Core.List.{List, [], _∷_}
 use Prim.Native.Nat.{ℕ, zero, suc, _+_, _*_, _-_, _≤_, _<_}
@@ -18,7 +18,7 @@ use Rattle.bundle_records.specs.Parse.{Parsed, whole, broken, more, after, pars
 use Rattle.bundle_records.specs.declared.Head.{Head}
 use Rattle.bundle_records.specs.declared.Head.the-variants.{Empty, Cut, Whole}
 use Rattle.bundle_layout.specs.Layout.{ENTRY, HEAD, BUNDLE-LIMIT, OFFER-LIMIT, countIn, tableEnd, entriesFrom, entriesIn, idIn, offsetIn, lengthIn, bodyIn}
-use Rattle.bundle_layout.specs.Rows.{served, B, firstEntry, badLength, badCount, badOffer, badBody, isBad, repeated, cutTable, badHead, named, rowB5, rowB6, rowB7, rowB8, bundleRow}
+use Rattle.bundle_layout.specs.Rows.{served, B, badLength, badCount, badOffer, badBody, isBad, repeated, cutTable, badHead, named, rowB5, rowB6, rowB7, rowB8, bundleRow}
 use Rattle.bundle.specs.Contents.{blocksIn}
 use Rattle.bundle.proofs.table.Laws.{length-entries, entry-is, skips}
 pub use Rattle.bundle.proofs.table.Laws.{none-of}

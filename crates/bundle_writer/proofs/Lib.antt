@@ -2,3 +2,4 @@ pub mod Puts
 pub mod Taken
 pub mod Promises
 pub mod Refusals
+pub mod Bench

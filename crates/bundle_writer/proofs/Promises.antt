@@ -7,18 +7,22 @@ use lib.ListN.{length, getD, drop, length-append, length-drop, length-map, List�
 use lib.Seq.{getD-take, length-take-le, take-append-seam, drop-append-seam}
 use Rattle.wire.specs.Bytes.{Packet, Bytes}
 use Rattle.wire.specs.Checks.{All}
-use Rattle.wire.specs.Codes.{SHORT-SIZE}
+use Rattle.wire.specs.Codes.{ID-LIMIT, SHORT-SIZE}
 use Rattle.wire.proofs.Bounds.{first-bytes, rest-bytes}
+use Rattle.image.specs.Judge.{imageId}
+use Rattle.device_component.specs.Setup.{REGION-LEAST}
+use Rattle.bundle_records.specs.Record.{Block}
 use Rattle.bundle_layout.specs.Layout.{BUNDLE-LIMIT, OFFER-LIMIT, HEAD, ENTRY, entriesIn, offerIn, idIn, offsetIn, lengthIn}
 use Rattle.bundle.specs.Contents.{blocksIn, Part, bundleBytes, GoodPart}
 use Rattle.bundle.proofs.Layouts.{bodyOf, same-offer, Sized, bundle-length, bundle-bytes, layout-offers, layout-records, layout-accepted}
 use Rattle.bundle_cut.specs.Cut.{recordOf, cut, crcPlace, beforeCrc, imageRecords, imageBody}
-use Rattle.bundle_cut.specs.Rule.{Apart}
+use Rattle.bundle_cut.specs.Rule.{LeftOut, Covers, Apart}
 use Rattle.bundle_cut.proofs.Order.{image-apart, image-sound}
+use Rattle.bundle_cut.proofs.Rule.{cut-rule}
 use Rattle.bundle_writer.specs.Given.{countOf, entriesOf, imageAt, madePart, madeParts, madeBundle}
 use Rattle.bundle_writer.specs.Rows.{Row, served, W, writeRow}
-use Rattle.bundle_writer.specs.Answer.{madeBy, writeOf}
-use Rattle.bundle_writer.specs.Promises.{MadeBack, MadeReadsBack, MadeApart, bodiesLength, MadeLength, Frame, MadeFrame}
+use Rattle.bundle_writer.specs.Answer.{madeBy, makeOf}
+use Rattle.bundle_writer.specs.Promises.{MadeBack, MadeReadsBack, MadeApart, MadeTwo, bodiesLength, MadeLength, Frame, MadeFrame}
 use Rattle.bundle_writer.proofs.Taken.{refused, rows-pass, length-entries, entry-size, entry-bytes, Taken, Listed, rows-say}
 
 -- what is said of every member of a list
@@ -63,7 +67,7 @@ made-length list images room h = let p = rows-pass list images room h in (made-s
 -- what is left of the output
 
 pub made-frame : MadeFrame
-unfolding writeOf
+unfolding makeOf
 made-frame list images out = go (writeRow list images (length out)) refl where
   go : (r : Row) → writeRow list images (length out) ≡ r → Frame list images out (madeBy r list images out)
   go served e =
@@ -131,10 +135,38 @@ pub made-reads-back : MadeReadsBack
 made-reads-back list images room lb ib h =
     reads-back list images lb ib (rows-say list images room h) (rows-pass list images room h .w7)
 
-pub made-apart : MadeApart
-made-apart list images room lb ib h =
+-- what holds of the records of each image holds of each body
+of-bodies : (P : List Block → Type 0) (list images : List ℕ) (room : ℕ) → Bytes list → Bytes images → writeRow list images room ≡ served
+    → ((i : ℕ) → i < countOf list → P (imageRecords (imageAt images (getD (entriesOf list) i []))))
+    → All (λ e. P (blocksIn (madeBundle list images) e)) (entriesIn (madeBundle list images))
+of-bodies P list images room lb ib h each =
     let b = madeBundle list images in
     let r = made-reads-back list images room lb ib h in
-    all-of Apart (blocksIn b) (entriesIn b)
-    (subst (All Apart) (sym (r .records))
-    (all-by Apart (λ e. imageRecords (imageAt images e)) [] (entriesOf list) (λ i k. image-apart (imageAt images (getD (entriesOf list) i [])))))
+    all-of P (blocksIn b) (entriesIn b)
+    (subst (All P) (sym (r .records))
+    (all-by P (λ e. imageRecords (imageAt images e)) [] (entriesOf list) (λ i k. each i (omega (arith, length-entries list)))))
+
+pub made-apart : MadeApart
+made-apart list images room lb ib h = of-bodies Apart list images room lb ib h (λ i k. image-apart (imageAt images (getD (entriesOf list) i [])))
+
+-- place 4 is kept where the id is not 0xFF
+some-cover : (rs : List Block) (x : ℕ) → Covers rs x → 1 ≤ length rs
+unfolding Covers
+some-cover [] x c = absurd c
+some-cover (r ∷ rs) x c = omega arith
+
+two-records : (m : List ℕ) → REGION-LEAST ≤ length m → imageId m ≤ ID-LIMIT → 2 ≤ length (imageRecords m)
+two-records m h n =
+    let d = beforeCrc m in
+    let l = length-take-le (crcPlace m) m (omega arith) in
+    let e : getD d 4 0 ≡ imageId m = getD-take (crcPlace m) m 4 0 (omega arith) in
+    let out : LeftOut d 4 → ⊥ = λ o. let z = sym e ∙ o .run .erased 4 (o .from) (o .below) in omega arith in
+    let c = some-cover (cut d) 4 (cut-rule d .covers 4 .1 (omega arith, out)) in
+    omega (arith, length-append (cut d) (recordOf m (crcPlace m) (length m) ∷ []))
+
+pub made-two : MadeTwo
+made-two list images room lb ib h = of-bodies (λ rs. 2 ≤ length rs) list images room lb ib h each where
+  each : (i : ℕ) → i < countOf list → 2 ≤ length (imageRecords (imageAt images (getD (entriesOf list) i [])))
+  each i k =
+      let t = rows-say list images room h .entry i k in
+      two-records (imageAt images (getD (entriesOf list) i [])) (omega (arith, t .size, t .least)) (omega (arith, t .id, t .named))

@@ -13,12 +13,12 @@ use Rattle.bundle_writer.specs.declared.list.EntryRule.{EntryRule}
 use Rattle.bundle_writer.specs.declared.list.EntryRule.the-variants.{Offer, Lent, Crc, Bears}
 use Rattle.bundle_writer.specs.Given.{madeBundle}
 use Rattle.bundle_writer.specs.Rows.{Row, served, W, badList, firstBreaking, rowW3, writeRow}
-use Rattle.bundle_writer.specs.Answer.{madeBy, writeOf}
+use Rattle.bundle_writer.specs.Answer.{madeBy, makeOf}
 
 -- a refusal leaves the output
 pub refusal : (list images out : List ℕ) (k entry : ℕ) → writeRow list images (length out) ≡ W k entry
-    → record { row = W k entry; place = entry; length = 0; out = out } ≡ writeOf list images out
-unfolding writeOf
+    → record { row = W k entry; place = entry; length = 0; out = out } ≡ makeOf list images out
+unfolding makeOf
 refusal list images out k entry e = ap (λ r. madeBy r list images out) (sym e)
 
 -- the rows W7 and W8, of the bundle's length

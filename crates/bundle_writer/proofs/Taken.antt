@@ -1,14 +1,15 @@
 -- What holds of a list and images that no row of the writer refuses: its count, its ids, and each of its entries with its image. Assumes nothing.
 use mathlib.Core.Path.{_≡_, _∙_}
 use mathlib.Core.Bool.{true, false, not, _||_}
-use mathlib.Core.List.{List, []}
+use mathlib.Core.List.{List, [], _∷_}
 use Prim.Native.Nat.{ℕ, _+_, _≤_, _<_}
 use native.Mathlib.Omega.{arith}
 use borrow.Author.Tests.{ltb-false, eqb-true, not-false}
 use lib.Dec.{ltb, eqb}
 use lib.ListN.{length, getD, drop, length-take, length-drop}
 use Rattle.wire.specs.Bytes.{Bytes}
-use Rattle.wire.specs.Checks.{firstOf}
+use Rattle.wire.specs.Checks.{firstOf, any}
+use Rattle.wire.specs.Codes.{PROTOCOL, ID-LIMIT}
 use Rattle.wire.specs.Version.{versionAt}
 use Rattle.wire.proofs.Tests.{both, neither, equal}
 use Rattle.image.specs.Judge.{isRight, imageId, imageVersion}
@@ -76,6 +77,7 @@ module _ (list : List ℕ) where
 -- an entry that no row refuses, with its image
 pub record Taken (images e : List ℕ) : Type 0 where
   pub offer : badOffer e ≡ false
+  pub named : idIn e ≤ ID-LIMIT
   pub least : REGION-LEAST ≤ lengthIn e
   pub most : lengthIn e ≤ STAGING-LIMIT
   pub lent : offsetIn e + lengthIn e ≤ length images
@@ -83,6 +85,14 @@ pub record Taken (images e : List ℕ) : Type 0 where
   pub crc : isRight (imageAt images e) ≡ true
   pub version : imageVersion (imageAt images e) .0 ≡ versionAt 4 e .0
   pub id : imageId (imageAt images e) ≡ idIn e
+
+-- the id of an offer that B5 allows
+id-named : (e : List ℕ) → badOffer e ≡ false → idIn e ≤ ID-LIMIT
+id-named e o =
+    let p = neither (any (λ i. not (eqb (getD e i 0) 0)) (0 ∷ 1 ∷ 3 ∷ 13 ∷ [])) _ o in
+    let q = neither (not (eqb (getD e 12 0) PROTOCOL)) _ (p .1) in
+    let r = neither (ltb (idIn e) 1) (ltb ID-LIMIT (idIn e)) (q .1) in
+    ltb-false ID-LIMIT (idIn e) (r .1)
 
 taken : (images e : List ℕ) → badOffer e ≡ false → badLent (length images) e ≡ false → not (isRight (imageAt images e)) ≡ false
     → not (bearsOffer (imageAt images e) e) ≡ false → Taken images e
@@ -95,6 +105,7 @@ taken images e o l c b =
     let r = both (eqb (imageVersion m .0) (versionAt 4 e .0)) (eqb (imageId m) (idIn e)) (not-false (bearsOffer m e) b) in
     record {
       offer = o;
+      named = id-named e o;
       least = ltb-false (lengthIn e) REGION-LEAST (p .0);
       most = ltb-false STAGING-LIMIT (lengthIn e) (q .0);
       lent = lent;

@@ -27,8 +27,8 @@ madeBy served list images out = record {
 madeBy (W k entry) list images out = record { row = W k entry; place = entry; length = 0; out = out }
 
 -- the writer
-unfoldable pub writeOf : (list images out : List ℕ) → Made
-writeOf list images out = madeBy (writeRow list images (length out)) list images out
+unfoldable pub makeOf : (list images out : List ℕ) → Made
+makeOf list images out = madeBy (writeRow list images (length out)) list images out
 
 -- an answer of the code in these terms, with the output as it was left
 abbrev pub told : WriteAnswer → (out : List ℕ) → Made

@@ -2,3 +2,4 @@ pub mod Given
 pub mod Rows
 pub mod Answer
 pub mod Promises
+pub mod Bench

@@ -5,15 +5,14 @@ use mathlib.Core.List.{List, [], _∷_, map}
 use lib.ListN.{length, take, drop}
 use Rattle.wire.specs.Bytes.{Bytes}
 use Rattle.wire.specs.Checks.{All}
-use Rattle.bundle_records.specs.Record.{Block}
-use Rattle.bundle_layout.specs.Layout.{BUNDLE-LIMIT, HEAD, ENTRY, countIn, entriesIn, offerIn, lengthIn}
+use Rattle.bundle_layout.specs.Layout.{BUNDLE-LIMIT, HEAD, ENTRY, countIn, entriesIn, offerIn}
 use Rattle.bundle_layout.specs.Rows as bundle
 use Rattle.bundle.specs.Contents.{blocksIn}
 use Rattle.bundle_cut.specs.Cut.{imageRecords, imageBody}
 use Rattle.bundle_cut.specs.Rule.{Apart}
 use Rattle.bundle_writer.specs.Given.{countOf, entriesOf, imageAt, madeBundle}
-use Rattle.bundle_writer.specs.Rows.{Row, served, W, writeRow}
-use Rattle.bundle_writer.specs.Answer.{Made, writeOf}
+use Rattle.bundle_writer.specs.Rows.{served, W, writeRow}
+use Rattle.bundle_writer.specs.Answer.{Made, makeOf}
 
 -- the check accepts it; its table holds the offers that were given, in their order, and its bodies the records of their images
 pub record MadeBack (list images b : List ℕ) : Type 0 where
@@ -31,6 +30,11 @@ MadeReadsBack = (list images : List ℕ) (room : ℕ) → Bytes list → Bytes i
 abbrev pub MadeApart : Type 0
 MadeApart = (list images : List ℕ) (room : ℕ) → Bytes list → Bytes images → writeRow list images room ≡ served
     → All (λ e. Apart (blocksIn (madeBundle list images) e)) (entriesIn (madeBundle list images))
+
+-- each of its bodies has two records at least: byte 4 of an image is an id, which is not 0xFF, so some place before the CRC is kept
+abbrev pub MadeTwo : Type 0
+MadeTwo = (list images : List ℕ) (room : ℕ) → Bytes list → Bytes images → writeRow list images room ≡ served
+    → All (λ e. 2 ≤ length (blocksIn (madeBundle list images) e)) (entriesIn (madeBundle list images))
 
 -- the lengths of the bodies, added up
 unfoldable pub bodiesLength : (images : List ℕ) → List (List ℕ) → ℕ
@@ -52,4 +56,4 @@ pub record Frame (list images out : List ℕ) (made : Made) : Type 0 where
   pub size : length (made .out) ≡ length out
 
 abbrev pub MadeFrame : Type 0
-MadeFrame = (list images out : List ℕ) → Frame list images out (writeOf list images out)
+MadeFrame = (list images out : List ℕ) → Frame list images out (makeOf list images out)

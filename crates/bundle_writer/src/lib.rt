@@ -1,7 +1,7 @@
 // The bundle's writer (document 02, A3): from up to seven offers and the images of their whole regions, a bundle that the check accepts, or the row that refuses
 // it.
 ghost use mathlib.Core.Path.{_≡_};
-ghost use Rattle.bundle_writer.specs.Answer.{told, writeOf};
+ghost use Rattle.bundle_writer.specs.Answer.{told, makeOf};
 use crate::list::EntryRule;
 use crate::rows::WriteVerdict;
 use bundle_layout::limits::BUNDLE_LIMIT;
@@ -32,7 +32,7 @@ fn refused(verdict: WriteVerdict, place: u8) -> WriteAnswer
 
 // Rows W1 to W8, each over the whole list before the next; or the bundle at the start of `out`. Nothing is written before the last row is known.
 pub fn write(out: &mut [u8], list: &[u8], images: &[u8]) -> WriteAnswer
-    ensures { λ r. ⌜ told r (now (out .exit)) ≡ writeOf (now (list .entry)) (now (images .entry)) (now (out .entry)) ⌝ }
+    ensures { λ r. ⌜ told r (now (out .exit)) ≡ makeOf (now (list .entry)) (now (images .entry)) (now (out .entry)) ⌝ }
 {
     if list::bad_list(list) {
         return refused(WriteVerdict::W1, 0);

@@ -1,5 +1,5 @@
 -- The bench device as C sees it, computed. Assumes nothing.
-use mathlib.Core.Path.{refl}
+use mathlib.Core.Path.{refl, ap}
 use mathlib.Core.List.{flatten}
 use lib.Count.{ones}
 use Rattle.wire.specs.Bytes.{same}
@@ -39,12 +39,14 @@ use Rattle.c_host.specs.Host.{freshCall, reportCall}
 use Rattle.c_host_step.specs.Step.{stepCall, stepCheckedCall, stepCheckedContents}
 use Rattle.c_build.specs.Build.{buildOfferCall}
 use Rattle.c_read.specs.Read.{readOfferCall}
+use Rattle.bundle_writer.proofs.Bench.{writer-bench}
+use Rattle.c_writer.specs.Write.{writeBy, writeCall}
 use Rattle.c_api.specs.Bench.{CallsHold}
 use Rattle.c_api.proofs.Layouts.{layouts-hold}
 use Rattle.c_api.proofs.Packets.{packets-hold}
 
 pub calls-hold : CallsHold
-unfolding flatten same firstOf any pairs offerBytes fieldsIn buildOf kindIn readOf flat replyBytes within blank put eraseOf writeOf firstFrom find badIds badRegions setupVerdict breaksD1 refusalOf rejections needUnmet offerVerdict onOffer offerEntry contentVerdict takeBlock onBlock contentEntry setUpOf versionEntry componentsBytes deviceBytes componentsIn deviceIn stagedFit isRecord readDevice withSessionBytes withComponentBytes listIn bundleRow checkOf innerOf hostBytes hostIn readHost bodiesBytes contentsBytes contentsIn setUpCall versionsCall offerCall contentCall checkCall headIn parse nextOf tallyOf entriesFrom entriesIn bodyIn firstEntry rowB5 repeated rowB6 gap rowB7 rowB8 table ones reportOf act hears decideIn decisionOf laidOf writtenOf breaksN1 packetOf stepOn stepOf contentStaging resetEntry resetCall contentCallStaging freshCall reportCall stepCall stepCheckedCall stepCheckedContents buildOfferCall readOfferCall flagsFit
+unfolding flatten same firstOf any pairs offerBytes fieldsIn buildOf kindIn readOf flat replyBytes within blank put eraseOf writeOf firstFrom find badIds badRegions setupVerdict breaksD1 refusalOf rejections needUnmet offerVerdict onOffer offerEntry contentVerdict takeBlock onBlock contentEntry setUpOf versionEntry componentsBytes deviceBytes componentsIn deviceIn stagedFit isRecord readDevice withSessionBytes withComponentBytes listIn bundleRow checkOf innerOf hostBytes hostIn readHost bodiesBytes contentsBytes contentsIn setUpCall versionsCall offerCall contentCall checkCall headIn parse nextOf tallyOf entriesFrom entriesIn bodyIn firstEntry rowB5 repeated rowB6 gap rowB7 rowB8 table ones reportOf act hears decideIn decisionOf laidOf writtenOf breaksN1 packetOf stepOn stepOf contentStaging resetEntry resetCall contentCallStaging freshCall reportCall stepCall stepCheckedCall stepCheckedContents buildOfferCall readOfferCall writeCall flagsFit
 calls-hold = record {
   records = λ session. refl;
   idle-session = refl;
@@ -64,6 +66,8 @@ calls-hold = record {
   named = refl;
   rejects = refl;
   checks = refl;
+  makes = ap writeBy (writer-bench .one);
+  makes-none = ap writeBy (writer-bench .w6);
   starts = refl;
   begins = refl;
   begins-checked = refl;

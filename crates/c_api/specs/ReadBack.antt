@@ -1,9 +1,9 @@
 -- What C builds, C reads back (document 01, "Packets"), for all values of the types: where a build is served, the call that reads such packets tells the same
--- fields of the packet that it left. Unused data and components past the count are read as zero.
+-- fields of the packet that it left. Unused data and components past the count are read as zero. And what C writes as a bundle, C's check accepts.
 use Prim.Native.Nat.{ℕ, _*_, _^_, _<_}
 use mathlib.Core.Path.{_≡_}
 use mathlib.Core.List.{List}
-use lib.ListN.{length}
+use lib.ListN.{length, take}
 use Rattle.wire.specs.Bytes.{Bytes}
 use Rattle.wire.specs.Codes.{DATA-SIZE}
 use Rattle.wire_offer.specs.Signal.{FitsSignal}
@@ -21,6 +21,10 @@ use Rattle.c_types.specs.Numbers.{SERVED, KIND-OFFER, KIND-INFORMATION, KIND-EX
 use Rattle.c_types.specs.Lent.{Left}
 use Rattle.c_build.specs.Build.{buildVersionReplyCall, buildOfferCall, buildInformationCall, buildExtendedCall, buildOfferReplyCall, buildContentCall, buildContentReplyCall}
 use Rattle.c_read.specs.Read.{readVersionReplyCall, readOfferCall, readOfferReplyCall, readContentCall, readContentReplyCall}
+use Rattle.host_bytes.specs.Layout.{CONTENTS-SIZE}
+use Rattle.bundle_writer.specs.Given.{countOf}
+use Rattle.c_host.specs.Check.{checkCall}
+use Rattle.c_writer.specs.Write.{writeCall}
 use Rattle.c_api.specs.Packets.{noOffer}
 
 -- the values of the types
@@ -95,3 +99,12 @@ ExtendedCallsReadBack =
     (s : Signal) (packet : List ℕ) → FitsSignal s
     → ReadsBack (buildExtendedCall (s .code) (s .token) packet) readOfferCall
     (record { number = SERVED; kind = KIND-EXTENDED; offer = noOffer; signal = record { code = s .code; token = s .token } })
+
+-- cfu_bundle_write and cfu_bundle_check: where the write was served, the check of as many bytes of the output as it answered is served, with as many offers as
+-- the list has entries
+abbrev pub WrittenChecks : Type 0
+WrittenChecks =
+    (list images out contents : List ℕ) → Bytes list → Bytes images → length contents ≡ CONTENTS-SIZE
+    → writeCall list images out .written .number ≡ SERVED
+    → checkCall (take (writeCall list images out .written .length) (writeCall list images out .out)) contents .check
+    ≡ record { number = SERVED; entry = 0; count = countOf list }

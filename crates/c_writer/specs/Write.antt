@@ -2,7 +2,7 @@
 use Prim.Native.Nat.{ℕ, _+_}
 use mathlib.Core.List.{List}
 use Rattle.bundle_writer.specs.Rows.{Row, served, W}
-use Rattle.bundle_writer.specs.Answer.{Made, writeOf}
+use Rattle.bundle_writer.specs.Answer.{Made, makeOf}
 use Rattle.c_types.specs.declared.types.CWritten.{CWritten}
 use Rattle.c_types.specs.Numbers.{SERVED, ROW-W}
 
@@ -23,4 +23,4 @@ abbrev pub writeBy : Made → WriteLeft
 writeBy m = record { written = record { number = writeNumber (m .row); entry = m .place; length = m .length }; out = m .out }
 
 unfoldable pub writeCall : (list images out : List ℕ) → WriteLeft
-writeCall list images out = writeBy (writeOf list images out)
+writeCall list images out = writeBy (makeOf list images out)

@@ -1,12 +1,11 @@
 -- `record_end` meets its contract: no run of 52 or more begins before the place that was come to. Assumes nothing.
 use mathlib.Core.Path.{_≡_, sym, ap}
-use mathlib.Core.Logic.{inl, inr}
-use Prim.Native.Nat.{_+_, _-_, _≤_, min}
+use mathlib.Core.Logic.{inr}
+use Prim.Native.Nat.{_+_, _-_, _≤_}
 use native.Mathlib.Omega.{arith}
 use borrow.Author.Needs.{needs}
 use lib.ListN.{length}
 use Rattle.bundle_records.specs.Record.{DATA-LIMIT}
-use Rattle.bundle_cut.specs.Cut.{runAt}
 use Rattle.bundle_cut.proofs.Runs.{run-inside}
 use Rattle.bundle_cut.proofs.Steps.{Short, short-on, stops-room, reach-is}
 use Rattle.bundle_cut.proofs.record_end.Statement.{statement}

@@ -1,19 +1,18 @@
 -- What is left of a body at a place of the walk, and one step of it. Assumes nothing.
 use mathlib.Core.Path.{_≡_, refl, sym, ap, _∙_}
 use mathlib.Core.List.{List, [], _∷_, _++_, append-assoc, append-nil}
-use Prim.Native.Nat.{ℕ, suc, _+_, _-_, _≤_, _<_}
+use Prim.Native.Nat.{ℕ, _+_, _-_, _≤_, _<_}
 use native.Mathlib.Omega.{arith}
 use lib.ListN.{length, take, drop, take-append-drop, length-append, length-take, length-drop}
 use lib.Seq.{length-take-le, take-all, take-take}
 use Rattle.bundle_records.specs.Record.{Block, DATA-LIMIT, blockBytes}
 use Rattle.bundle_records.specs.Parse.{written}
-use Rattle.bundle_records.specs.Walk.{between}
 use Rattle.bundle_records.proofs.Parts.{drop-take}
 use Rattle.image.specs.Region.{put}
 use Rattle.image.proofs.region.Within.{put-length}
 use Rattle.bundle_cut.specs.declared.Piece.{Piece}
 use Rattle.bundle_cut.specs.declared.Piece.the-variants.{End, Gap, Data}
-use Rattle.bundle_cut.specs.Cut.{pieceAt, recordOf, onwards, cutFrom, cut, crcPlace, beforeCrc, imageRecords, imageBody}
+use Rattle.bundle_cut.specs.Cut.{pieceAt, recordOf, onwards, cutFrom, cut, crcPlace, beforeCrc, imageBody}
 use Rattle.bundle_cut.proofs.Pieces.{Says, says, one-step}
 use Rattle.bundle_writer.proofs.Puts.{part-long, part-on, part-left}
 

@@ -2,12 +2,12 @@
 use mathlib.Core.Path.{_≡_, refl, sym, ap, _∙_}
 use mathlib.Core.Bool.{false, _||_}
 use mathlib.Core.List.{List, [], _∷_, _++_, append-assoc, append-nil, map, map-append, flatten}
-use Prim.Native.Nat.{ℕ, suc, _+_, _*_, _≤_, _<_}
+use Prim.Native.Nat.{ℕ, _+_, _*_, _≤_, _<_}
 use native.Mathlib.Omega.{arith}
 use native.Mathlib.Numerals.{add-one}
 use borrow.Author.Tests.{ltb-false}
 use lib.Dec.{ltb}
-use lib.ListN.{length, getD, take, drop, replicate, take-append-drop, length-append, length-take, length-drop, length-map}
+use lib.ListN.{length, take, drop, replicate, take-append-drop, length-append, length-take, length-drop, length-map}
 use lib.Seq.{length-take-le, take-length, take-suc, drop-cons, drop-length}
 use Rattle.wire.specs.Bytes.{bytesOf}
 use Rattle.wire.specs.Codes.{SHORT-SIZE}
@@ -15,7 +15,7 @@ use Rattle.wire.proofs.Tests.{neither}
 use Rattle.image.specs.Region.{put}
 use Rattle.image.proofs.region.Within.{put-length}
 use Rattle.device_component.specs.Setup.{STAGING-LIMIT, REGION-LEAST}
-use Rattle.bundle_layout.specs.Layout.{OFFER-LIMIT, HEAD, ENTRY, tableEnd, offerIn, offsetIn, lengthIn}
+use Rattle.bundle_layout.specs.Layout.{ENTRY, tableEnd, offerIn, offsetIn, lengthIn}
 use Rattle.bundle.specs.Contents.{Part, tableBytes, bundleBytes}
 use Rattle.bundle.proofs.Accepted.{none-of}
 use Rattle.bundle.proofs.Layouts.{bodyOf}
@@ -23,7 +23,7 @@ use Rattle.bundle_cut.specs.Cut.{crcPlace, imageBody}
 use Rattle.bundle_cut.proofs.Bounds.{body-bound}
 use Rattle.bundle_writer.specs.declared.list.EntryRule.the-variants.{Lent}
 use Rattle.bundle_writer.specs.Given.{countOf, entriesOf, imageAt, madePart, madeParts, madeBundle}
-use Rattle.bundle_writer.specs.Rows.{badList, badLent, breaks, firstBreaking}
+use Rattle.bundle_writer.specs.Rows.{badLent, breaks, firstBreaking}
 use Rattle.bundle_writer.specs.Answer.{over}
 use Rattle.bundle_writer.specs.Promises.{bodiesLength}
 use Rattle.bundle_writer.proofs.Puts.{put-on, put-apart, put-start}

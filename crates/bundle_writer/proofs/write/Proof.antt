@@ -1,8 +1,8 @@
 -- `write`: each row from the tests that lead to it. Assumes nothing.
-use mathlib.Core.Path.{_≡_, sym, ap, _∙_}
-use mathlib.Core.Bool.{true, false}
+use mathlib.Core.Path.{_≡_, sym, _∙_}
+use mathlib.Core.Bool.{false}
 use mathlib.Core.List.{[], _∷_}
-use Prim.Native.Nat.{ℕ, _≤_}
+use Prim.Native.Nat.{ℕ}
 use native.Mathlib.Omega.{arith}
 use borrow.Author.Needs.{needs}
 use borrow.Author.Tests.{ne-eqb}
@@ -13,7 +13,7 @@ use Rattle.bundle_writer.specs.declared.list.EntryRule.{EntryRule}
 use Rattle.bundle_writer.specs.declared.list.EntryRule.the-variants.{Offer, Lent, Crc, Bears}
 use Rattle.bundle_writer.specs.Given.{madeBundle}
 use Rattle.bundle_writer.specs.Rows.{Row, badList, firstBreaking, rowW3, writeRow}
-use Rattle.bundle_writer.specs.Answer.{writeOf}
+use Rattle.bundle_writer.specs.Answer.{makeOf}
 use Rattle.bundle_writer.proofs.Refusals.{refusal, sizeRows, from, rows-from, too-long, no-room, all-fits}
 use Rattle.bundle_writer.proofs.write.Statement.{statement}
 use Rattle.bundle_writer.proofs.write.Tie as tie
@@ -113,7 +113,7 @@ put-bundle-requires c κs =
     ((good (f .before .before .before .before .before .before), lent f), (rw (← e) (omega arith), rw (← e) (omega arith)))
 
 returns-9 : tie.Need-returns-9
-unfolding writeOf
+unfolding makeOf
 returns-9 c =
     let e = c .before .before .before .before .before .before .bundle-length .ensures in
     let f = c .before .before .before .before .before .before .before in

@@ -1,5 +1,5 @@
 -- `made::put_bundle` meets its contract: entry by entry, a body and its entry in the table. Assumes nothing.
-use mathlib.Core.Path.{_≡_, sym, ap, _∙_}
+use mathlib.Core.Path.{_≡_, ap, _∙_}
 use Prim.Native.Nat.{_+_, _-_, _≤_}
 use native.Mathlib.Omega.{arith}
 use borrow.Author.Needs.{needs}
@@ -7,12 +7,11 @@ use mathlib.Core.List.{_∷_}
 use lib.ListN.{length, replicate}
 use Rattle.image.specs.Region.{put}
 use Rattle.image.proofs.region.Within.{put-length}
-use Rattle.bundle_layout.specs.Layout.{ENTRY}
 use Rattle.bundle_cut.specs.Cut.{imageBody}
 use Rattle.bundle_writer.specs.Given.{countOf, imageAt, madeBundle}
 use Rattle.bundle_writer.proofs.Puts.{put-again, over-put}
 use Rattle.bundle_writer.proofs.Promises.{made-size}
-use Rattle.bundle_writer.proofs.list.Laws.{entryOf, good-list, entry-in, length-entry}
+use Rattle.bundle_writer.proofs.list.Laws.{entryOf, entry-in, length-entry}
 use Rattle.bundle_writer.proofs.made.Laws.{image-sized, bodies-on, Filling, fill-start, fill-on, fill-end}
 use Rattle.bundle_writer.proofs.made.put_bundle.Statement.{statement}
 use Rattle.bundle_writer.proofs.made.put_bundle.Tie as tie

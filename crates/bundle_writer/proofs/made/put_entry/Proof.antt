@@ -1,9 +1,8 @@
 -- `made::put_entry` meets its contract: the offer, the offset and the length, one after the other. Assumes nothing.
-use mathlib.Core.Path.{_≡_, sym, _∙_}
+use mathlib.Core.Path.{sym, _∙_}
 use Prim.Native.Nat.{_+_}
 use native.Mathlib.Omega.{arith}
 use borrow.Author.Needs.{needs}
-use lib.ListN.{length}
 use lib.Seq.{length-take-le}
 use Rattle.wire.specs.Bytes.{bytesOf}
 use Rattle.wire.specs.Codes.{SHORT-SIZE}

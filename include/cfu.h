@@ -23,8 +23,8 @@
  *
  * A refusal leaves every record, the staging buffer and the contents that are lent to a step as they were, and every other field of a returned struct is 0,
  * except the entry that a B or W row names and the fields of a report with N1, which are those of the record as it is read. What it leaves in a buffer for
- * output is said at each call. The first row that applies is returned: C1, C2, C3, then the others in the order of their numbers, B rows before N1. C1 to C3 are this
- * interface's own: with one of them nothing at all is changed.
+ * output is said at each call. The first row that applies is returned: C1, C2, C3, then the others in the order of their numbers, B rows before N1. C1 to C3
+ * are this interface's own: with one of them nothing at all is changed.
  *
  * CFU_SERVED says that the call was carried out, not that the peer agreed: REJECT, SKIP, BUSY and the errors of a block stand in the packets, and how a host
  * ended stands in its report.
@@ -387,11 +387,11 @@ cfu_check cfu_bundle_check(const uint8_t *bundle, size_t bundle_len, uint8_t *co
 
 /*
  * Writes a bundle that the check accepts. list: for each offer, in the order of the bundle, CFU_BUNDLE_ENTRY_SIZE bytes: the offer (16, as cfu_build_offer
- * leaves it, with token 0), at 16 where its image starts in `images` (4), at 20 how long it is (4). An image is a whole region: bytes 0 to 3 its version, byte 4
- * its id, the last two bytes the CRC of all before them, high byte first. Returns CFU_SERVED with the bundle's length: the bundle is at the start of `out`, and
- * every byte of `out` past it is as it was. Or returns the first of W1 to W8 that applies, each tried over the whole list before the next, with the entry that it
- * names, and `out` is as it was. Of an image the two CRC bytes are always the last record; of the bytes before them each longest run of 52 or more bytes 0xFF is
- * left out, since an erase restores it, and what is left is cut at 52 bytes. An output of CFU_BUNDLE_LIMIT bytes is never too short.
+ * leaves it, with token 0), at 16 where its image starts in `images` (4), at 20 how long it is (4). An image is a whole region: bytes 0 to 3 its version, byte
+ * 4 its id, the last two bytes the CRC of all before them, high byte first. Returns CFU_SERVED with the bundle's length: the bundle is at the start of `out`,
+ * and every byte of `out` past it is as it was. Or returns the first of W1 to W8 that applies, each tried over the whole list before the next, with the entry
+ * that it names, and `out` is as it was. Of an image the two CRC bytes are always the last record; of the bytes before them each longest run of 52 or more
+ * bytes 0xFF is left out, since an erase restores it, and what is left is cut at 52 bytes. An output of CFU_BUNDLE_LIMIT bytes is never too short.
  */
 cfu_written cfu_bundle_write(const uint8_t *list, size_t list_len, const uint8_t *images, size_t images_len, uint8_t *out, size_t out_len);
 

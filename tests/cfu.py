@@ -173,6 +173,25 @@ def body(data, size=DATA_SIZE):
     return b"".join(body_record(at, data[at:at + size]) for at in range(0, len(data), size))
 
 
+# The shortest run of 0xFF that the bundle's writer leaves out (document 02, A3), and the bytes of the CRC
+RUN_LEAST, CRC_SIZE = 52, 2
+
+
+def written_records(data):
+    """The records of an image as A3 has them: (address, data). Of the bytes before the CRC each longest run of 52 or more bytes 0xFF is left out, what is left is
+    cut at 52 bytes, and the CRC is the last record."""
+    end = len(data) - CRC_SIZE
+    runs = [found.span() for found in re.finditer(rb"\xFF{%d,}" % RUN_LEAST, data[:end])]
+    left = zip([0] + [after for _, after in runs], [before for before, _ in runs] + [end])
+    cut = [(at, data[at:min(at + DATA_SIZE, after)]) for before, after in left for at in range(before, after, DATA_SIZE)]
+    return cut + [(end, data[end:])]
+
+
+def written_body(data):
+    """The body that the bundle's writer makes of an image."""
+    return b"".join(body_record(*record) for record in written_records(data))
+
+
 def bundle(offers):
     """offers: (offer, body)."""
     table, bodies = b"", b""

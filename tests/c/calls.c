@@ -1,6 +1,6 @@
 /*
- * calls.c: each function of include/cfu.h, called from C on the values of document 01 (E1 to E10, E13, and a case of each row that the interface gives). The
- * bytes around each lent buffer are checked: no call writes there.
+ * calls.c: each function of include/cfu.h, called from C on the values of document 01 (E1 to E10, E13, and a case of each row that the interface gives) and of
+ * document 02, A3. The bytes around each lent buffer are checked: no call writes there.
  *
  * usage: calls BUNDLE, where BUNDLE is examples/e12.bundle
  */
@@ -539,6 +539,258 @@ static void host_calls(const uint8_t *bundle, size_t length)
     CHECK(cfu_host_report(host + EDGE, CFU_HOST_SIZE - 1).number == CFU_C1);
 }
 
+/* What is lent to the writer: a list, images and an output, each with its edges right around as many bytes as are lent; and the first two as they were given. */
+enum { ENTRY = CFU_BUNDLE_ENTRY_SIZE, OFFSET_AT = CFU_SHORT_SIZE, LENGTH_AT = OFFSET_AT + 4 };
+enum { MOST_LIST = (CFU_OFFER_LIMIT + 1) * ENTRY, MOST_IMAGES = CFU_STAGING_LIMIT + 1 };
+static BUFFER(entries, MOST_LIST);
+static BUFFER(images, MOST_IMAGES);
+static BUFFER(out, CFU_BUNDLE_LIMIT);
+static uint8_t list_given[MOST_LIST], images_given[MOST_IMAGES];
+static size_t list_len, images_len;
+
+/* CRC-16/XMODEM, bit after bit. */
+static uint16_t crc_of(const uint8_t *data, size_t length)
+{
+    uint16_t crc = 0;
+    for (size_t i = 0; i < length; i++) {
+        crc ^= (uint16_t)(data[i] << 8);
+        for (unsigned bit = 0; bit < 8; bit++)
+            crc = (uint16_t)(crc & 0x8000 ? (crc << 1) ^ 0x1021 : crc << 1);
+    }
+    return crc;
+}
+
+/* The given list and images into an output of so many bytes 0x33: what is answered, and which bytes of the output stay as they are. */
+static void writes(size_t room, uint32_t number, uint32_t entry, uint32_t length)
+{
+    clear(entries, list_len + 2 * EDGE, 0);
+    clear(images, images_len + 2 * EDGE, 0);
+    clear(out, room + 2 * EDGE, 0x33);
+    memcpy(entries + EDGE, list_given, list_len);
+    memcpy(images + EDGE, images_given, images_len);
+    cfu_written w = cfu_bundle_write(entries + EDGE, list_len, images + EDGE, images_len, out + EDGE, room);
+    CHECK(w.number == number && w.entry == entry && w.length == length);
+    CHECK(edges(entries, list_len + 2 * EDGE) && edges(images, images_len + 2 * EDGE) && edges(out, room + 2 * EDGE));
+    CHECK(memcmp(entries + EDGE, list_given, list_len) == 0 && memcmp(images + EDGE, images_given, images_len) == 0);
+    CHECK(filled(out + length, room - length, 0x33));
+}
+
+static void refused_write(uint32_t number, uint32_t entry)
+{
+    writes(CFU_BUNDLE_LIMIT, number, entry, 0);
+}
+
+#define WRITTEN(...) (memcmp(out + EDGE, (const uint8_t[]){__VA_ARGS__}, sizeof((const uint8_t[]){__VA_ARGS__})) == 0)
+
+static void put_four(uint8_t *place, uint32_t value)
+{
+    for (unsigned i = 0; i < 4; i++)
+        place[i] = (uint8_t)(value >> 8 * i);
+}
+
+/* Entry i of the list, counted from 0: an offer of this id and of version 1.minor.0 that B5 allows, and where its image stands. */
+static void listed(unsigned i, uint8_t id, uint8_t minor, uint32_t offset, uint32_t length)
+{
+    const uint8_t offer[CFU_SHORT_SIZE] = {0, 0, id, 0, 0, minor, 0, 1, 0, 0, 0, 0, 2, 0, 0x42, 0};
+    memcpy(list_given + ENTRY * i, offer, sizeof offer);
+    put_four(list_given + ENTRY * i + OFFSET_AT, offset);
+    put_four(list_given + ENTRY * i + LENGTH_AT, length);
+}
+
+/* Two offers, for component 1 at 1.3.0 and for component 2 at 1.2.0, with images of 8 bytes that stand in the other order and apart. */
+static void two_offers(void)
+{
+    static const uint8_t lent[] = {0xAA, 0, 2, 0, 1, 2, 0xFF, 0x0B, 0x21, 0xBB, 0, 3, 0, 1, 1, 7, 0x9A, 0x34};
+    memcpy(images_given, lent, sizeof lent);
+    images_len = sizeof lent;
+    listed(0, 1, 3, 10, 8);
+    listed(1, 2, 2, 1, 8);
+    list_len = 2 * ENTRY;
+}
+
+/* With another value at a place of the list the two offers are refused. */
+static void wrong_list(unsigned place, uint8_t value, uint32_t number, uint32_t entry)
+{
+    two_offers();
+    list_given[place] = value;
+    refused_write(number, entry);
+}
+
+/* One offer, with the image 1.2.0 of component 2 that has these bytes between its id and its CRC: so many 0xFF, and then so many 9. */
+static void one_image(size_t erased, size_t nines)
+{
+    const size_t end = 5 + erased + nines;
+    memcpy(images_given, (const uint8_t[]){0, 2, 0, 1, 2}, 5);
+    memset(images_given + 5, 0xFF, erased);
+    memset(images_given + 5 + erased, 9, nines);
+    const uint16_t crc = crc_of(images_given, end);
+    images_given[end] = (uint8_t)(crc >> 8);
+    images_given[end + 1] = (uint8_t)crc;
+    images_len = end + 2;
+    listed(0, 2, 2, 0, (uint32_t)images_len);
+    list_len = ENTRY;
+}
+
+/* The check accepts the output's first bytes, as a bundle of one offer with so many records. */
+static void accepted(uint32_t length, uint8_t records)
+{
+    CLEAR(contents, 0x33);
+    cfu_check k = cfu_bundle_check(out + EDGE, length, AT(contents));
+    CHECK(k.number == CFU_SERVED && k.entry == 0 && k.count == 1);
+    CHECK(contents[EDGE + CFU_CONTENTS_BODIES_AT + CFU_BODY_RECORDS_AT] == records);
+    EDGES(contents);
+}
+
+/* Rows W1 to W6, each with the entry that it names. */
+static void writer_rows(void)
+{
+    /* W1: no entry, one byte less or more than a whole one, eight */
+    two_offers();
+    static const size_t lengths[] = {0, 1, ENTRY - 1, ENTRY + 1, 2 * ENTRY - 1, CFU_OFFER_LIMIT * ENTRY + 1, MOST_LIST};
+    for (unsigned i = 0; i < sizeof lengths / sizeof *lengths; i++) {
+        list_len = lengths[i];
+        refused_write(CFU_W1, 0);
+    }
+
+    /* W2: each byte that B5 looks at, in either entry */
+    for (unsigned i = 0; i < 2; i++) {
+        wrong_list(ENTRY * i, 1, CFU_W2, i + 1);
+        wrong_list(ENTRY * i + 1, 0x40, CFU_W2, i + 1);
+        wrong_list(ENTRY * i + 2, 0, CFU_W2, i + 1);
+        wrong_list(ENTRY * i + 2, CFU_ID_LIMIT + 1, CFU_W2, i + 1);
+        wrong_list(ENTRY * i + 3, 0xA5, CFU_W2, i + 1);
+        wrong_list(ENTRY * i + 12, 0x12, CFU_W2, i + 1);
+        wrong_list(ENTRY * i + 13, 1, CFU_W2, i + 1);
+    }
+
+    /* W3: the later one */
+    wrong_list(ENTRY + 2, 1, CFU_W3, 2);
+    wrong_list(2, 2, CFU_W3, 2);
+
+    /* W4: under 8 bytes, past the end by one byte and by a sum that 32 bits do not hold, over 65,536 bytes that are all lent */
+    wrong_list(LENGTH_AT, 7, CFU_W4, 1);
+    wrong_list(ENTRY + LENGTH_AT, 0, CFU_W4, 2);
+    wrong_list(OFFSET_AT, 11, CFU_W4, 1);
+    wrong_list(LENGTH_AT, 9, CFU_W4, 1);
+    two_offers();
+    images_len--;
+    refused_write(CFU_W4, 1);
+    two_offers();
+    put_four(list_given + ENTRY + OFFSET_AT, 0xFFFFFFF9);
+    refused_write(CFU_W4, 2);
+    two_offers();
+    put_four(list_given + ENTRY + LENGTH_AT, 0xFFFFFFFF);
+    refused_write(CFU_W4, 2);
+    two_offers();
+    images_len = CFU_STAGING_LIMIT + 1;
+    put_four(list_given + OFFSET_AT, 0);
+    put_four(list_given + LENGTH_AT, CFU_STAGING_LIMIT + 1);
+    refused_write(CFU_W4, 1);
+
+    /* W5: each CRC byte, and a byte before them */
+    for (unsigned i = 5; i < 8; i++) {
+        two_offers();
+        images_given[10 + i] ^= 1;
+        refused_write(CFU_W5, 1);
+        two_offers();
+        images_given[1 + i] ^= 0x80;
+        refused_write(CFU_W5, 2);
+    }
+
+    /* W6: another version in an offer, its variant alone too, or another id; and in an image, whose CRC is right */
+    for (unsigned i = 4; i < 8; i++) {
+        wrong_list(i, 9, CFU_W6, 1);
+        wrong_list(ENTRY + i, 9, CFU_W6, 2);
+    }
+    wrong_list(2, 3, CFU_W6, 1);
+    two_offers();
+    memcpy(images_given + 10, (const uint8_t[]){1, 3, 0, 1, 1, 7, 0xDF, 0x94}, 8);
+    refused_write(CFU_W6, 1);
+    memcpy(images_given + 10, (const uint8_t[]){0, 3, 0, 1, 3, 7, 0xFC, 0x56}, 8);
+    refused_write(CFU_W6, 1);
+
+    /* each row is tried over the whole list before the next: entry 1 breaks W6, then W5, W4, and entry 2 the row before each */
+    two_offers();
+    list_given[4] = 9;
+    images_given[8] ^= 1;
+    refused_write(CFU_W5, 2);
+    images_given[17] ^= 1;
+    put_four(list_given + ENTRY + OFFSET_AT, 11);
+    refused_write(CFU_W4, 2);
+    put_four(list_given + LENGTH_AT, 7);
+    list_given[ENTRY + 2] = 1;
+    refused_write(CFU_W3, 2);
+    list_given[ENTRY + 3] = 1;
+    refused_write(CFU_W2, 2);
+    list_len++;
+    refused_write(CFU_W1, 0);
+}
+
+static void writer_calls(void)
+{
+    /* one offer with an image of 8 bytes: 50 bytes */
+    two_offers();
+    list_len = ENTRY;
+    enum { ONE = 50, TWO = 92 };
+    for (size_t room = ONE; room <= ONE + 3; room++) {
+        writes(room, CFU_SERVED, 0, ONE);
+        CHECK(WRITTEN(1, 1, 0, 0, 0, 0, 0, 0,
+                      0, 0, 1, 0, 0, 3, 0, 1, 0, 0, 0, 0, 2, 0, 0x42, 0, 32, 0, 0, 0, 18, 0, 0, 0,
+                      0, 0, 0, 0, 6, 0, 3, 0, 1, 1, 7, 6, 0, 0, 0, 2, 0x9A, 0x34));
+    }
+    accepted(ONE, 2);
+    static const uint8_t one[CFU_CONTENTS_BODIES_AT + CFU_BODY_SIZE] = { 0, 0, 1, 32, 0, 0, 0, 18, 0, 0, 0, 2 };
+    CHECK(new_check(contents, one, sizeof one));
+    writes(CFU_BUNDLE_LIMIT, CFU_SERVED, 0, ONE);
+    writes(ONE - 1, CFU_W8, 0, 0);
+    writes(0, CFU_W8, 0, 0);
+
+    /* two offers in the order of the list, not of the images; of an offer all 16 bytes are kept */
+    two_offers();
+    memcpy(list_given + 8, (const uint8_t[]){2, 2, 0, 1}, 4);
+    writes(TWO, CFU_SERVED, 0, TWO);
+    CHECK(WRITTEN(2, 1, 0, 0, 0, 0, 0, 0,
+                  0, 0, 1, 0, 0, 3, 0, 1, 2, 2, 0, 1, 2, 0, 0x42, 0, 56, 0, 0, 0, 18, 0, 0, 0,
+                  0, 0, 2, 0, 0, 2, 0, 1, 0, 0, 0, 0, 2, 0, 0x42, 0, 74, 0, 0, 0, 18, 0, 0, 0,
+                  0, 0, 0, 0, 6, 0, 3, 0, 1, 1, 7, 6, 0, 0, 0, 2, 0x9A, 0x34,
+                  0, 0, 0, 0, 6, 0, 2, 0, 1, 2, 0xFF, 6, 0, 0, 0, 2, 0x0B, 0x21));
+    writes(TWO - 1, CFU_W8, 0, 0);
+
+    /* a run of 52 bytes 0xFF is left out before the CRC and before another byte; one of 51 is not, and what is left is cut at 52 */
+    one_image(52, 0);
+    writes(49, CFU_SERVED, 0, 49);
+    CHECK(WRITTEN(1, 1, 0, 0, 0, 0, 0, 0,
+                  0, 0, 2, 0, 0, 2, 0, 1, 0, 0, 0, 0, 2, 0, 0x42, 0, 32, 0, 0, 0, 17, 0, 0, 0,
+                  0, 0, 0, 0, 5, 0, 2, 0, 1, 2, 57, 0, 0, 0, 2, 0x95, 0x64));
+    accepted(49, 2);
+    one_image(52, 1);
+    writes(55, CFU_SERVED, 0, 55);
+    CHECK(memcmp(out + EDGE + 32, (const uint8_t[]){0, 0, 0, 0, 5, 0, 2, 0, 1, 2, 57, 0, 0, 0, 1, 9, 58, 0, 0, 0, 2, 0x26, 0x35}, 23) == 0);
+    accepted(55, 3);
+    one_image(51, 0);
+    writes(105, CFU_SERVED, 0, 105);
+    CHECK(memcmp(out + EDGE + 32, (const uint8_t[]){0, 0, 0, 0, 52, 0, 2, 0, 1, 2, 0xFF}, 11) == 0);
+    CHECK(memcmp(out + EDGE + 32 + 57, (const uint8_t[]){52, 0, 0, 0, 4, 0xFF, 0xFF, 0xFF, 0xFF, 56, 0, 0, 0, 2, 0x15, 0xC9}, 16) == 0);
+    accepted(105, 3);
+
+    /* the largest image: all 0xFF it takes a small bundle, and without a run W7, before W8; of 59,750 bytes without a run it fits, and not of one more */
+    one_image(CFU_STAGING_LIMIT - 7, 0);
+    writes(49, CFU_SERVED, 0, 49);
+    accepted(49, 2);
+    one_image(0, CFU_STAGING_LIMIT - 7);
+    CHECK(images_len == CFU_STAGING_LIMIT);
+    refused_write(CFU_W7, 0);
+    writes(0, CFU_W7, 0, 0);
+    one_image(0, 59750 - 7);
+    writes(CFU_BUNDLE_LIMIT, CFU_SERVED, 0, 65532);
+    CHECK(cfu_bundle_check(out + EDGE, 65532, AT(contents)).number == CFU_SERVED);
+    writes(65531, CFU_W8, 0, 0);
+    one_image(0, 59751 - 7);
+    refused_write(CFU_W7, 0);
+
+    writer_rows();
+}
+
 int main(int count, char **words)
 {
     static uint8_t bundle[CFU_BUNDLE_LIMIT];
@@ -554,6 +806,7 @@ int main(int count, char **words)
     device_bytes();
     packet_calls();
     host_calls(bundle, length);
+    writer_calls();
     printf("%u passed, %u failed\n", passed, failed);
     return failed == 0 && passed > 0 ? 0 : 1;
 }

@@ -109,7 +109,8 @@ PARTS = (
                     "HOST_MASK_AT": "MASK_AT", "HOST_SKIPPED_AT": "SKIPPED_AT", "HOST_LANDED_AT": "LANDED_AT"}),
 )
 
-NUMBERS = files("c_types/specs/Numbers.antt", "c_device/specs/Numbers.antt", "c_host/specs/Numbers.antt", "c_host/specs/Check.antt")
+NUMBERS = files("c_types/specs/Numbers.antt", "c_device/specs/Numbers.antt", "c_host/specs/Numbers.antt", "c_host/specs/Check.antt",
+                "c_writer/specs/Write.antt")
 
 
 def found(pattern, text):
@@ -133,7 +134,8 @@ def row_numbers():
     """The rows, each with its letter by specs/Numbers.antt and its number by its own name."""
     out = {}
     for enum, function, letter, entry in (("Verdict", "packetNumber", "P", ""), ("SetupVerdict", "setupNumber", "S", ""), ("Refusal", "deviceNumber", "D", ""),
-                                          ("BundleVerdict", "bundleNumber", "B", " entry"), ("StepRefusal", "stepNumber", "N", "")):
+                                          ("BundleVerdict", "bundleNumber", "B", " entry"), ("WriteVerdict", "writeNumber", "W", " entry"),
+                                          ("StepRefusal", "stepNumber", "N", "")):
         base = letter_of(function, letter, entry)
         rows = variants(enum)
         if not rows:
@@ -186,8 +188,8 @@ def expected_numbers():
     return out
 
 
-# Places and sizes that the header's comments give, with the crate and the constants that they are. Of the fields of a component the comments give the widths:
-# each field ends where the sum of the widths says.
+# Places and sizes that the header's comments give, with the crate and the constants that they are. Of the fields of a component and of an entry of the writer's
+# list the comments give the widths: each field ends where the sum of the widths says.
 
 FIELDS = r"id \((\d)\), running version \((\d)\), region base[ *\n]+\((\d)\), region length \((\d)\), "
 LAYOUTS = (
@@ -203,6 +205,7 @@ LAYOUTS = (
     (r"byte (\d+) \+ (\d+) i \+ (\d+) tells whether", "device_bytes", ["COMPONENTS_START", "COMPONENT_SIZE", "STAGED_AT"]),
     (r"the components of a version reply: CFU_COMPONENT_LIMIT times (\d+) ", "c_version", ["RUNNING_SIZE"]),
     (r"the 16 bytes of the bundle at (\d+) \+ (\d+) i", "bundle_layout", ["HEAD", "ENTRY"]),
+    (r"at (\d+) where its image starts in `images` \(4\), at (\d+) how long it is", "bundle_layout", ["SHORT_SIZE", "SHORT_SIZE + 4"]),
     (r"(\d+)  row \(1\): .*; (\d+) the entry that it names \(1\)", "host_bytes", ["ROW_AT", "ENTRY_AT"]),
     (r"(\d+)  count of offers \(1\)", "host_bytes", ["COUNT_AT"]),
     (r"(\d+)  CFU_OFFER_LIMIT times (\d+) bytes: body offset \(4\)", "host_bytes", ["BODIES_START", "BODY_SIZE"]),
@@ -217,6 +220,8 @@ LAYOUTS = (
 WIDTHS_OF = (
     (r"bytes: " + FIELDS + r"staged \((\d)\): .*; staged[ *\n]+version \((\d)\)", "device_component_bytes",
      ["RUNNING_AT", "REGION_AT", "REGION_LEN_AT", "STAGED_AT", "STAGED_VERSION_AT", "COMPONENT_SIZE"]),
+    (r"CFU_BUNDLE_ENTRY_SIZE bytes: the offer \((\d+),[^:]*starts in `images` \((\d)\), at \d+ how long it is \((\d)\)", "bundle_layout",
+     ["SHORT_SIZE", "SHORT_SIZE + 4", "ENTRY"]),
     (r"list: CFU_COMPONENT_LIMIT times " + FIELDS + "CFU_LIST_SIZE", "device_component_bytes", ["RUNNING_AT", "REGION_AT", "REGION_LEN_AT", "LISTED_SIZE"]),
 )
 

@@ -39,6 +39,8 @@ slip "a field left out" '/^    uint32_t mask;/d' cfu_report
 slip "two fields exchanged" 's/^    uint8_t reason;/    uint8_t status;/;t;s/^    uint8_t status;/    uint8_t reason;/' cfu_offer_reply
 slip "a size" 's/^#define CFU_DEVICE_SIZE [0-9]*/&1/' CFU_DEVICE_SIZE
 slip "a row's number" 's/^#define CFU_B7 0x4207/#define CFU_B7 0x4208/' CFU_B7
+slip "a row's number of the writer" 's/^#define CFU_W5 0x5705/#define CFU_W5 0x5706/' CFU_W5
+slip "a row of the writer left out" '/^#define CFU_W8 /d' CFU_W8
 slip "an end's number" 's/^#define CFU_H4 0x4804/#define CFU_H4 4/' CFU_H4
 slip "a code of CFU" 's/^#define CFU_OFFER_BUSY 3/#define CFU_OFFER_BUSY 4/' CFU_OFFER_BUSY
 slip "a limit" 's/^#define CFU_STAGING_LIMIT [0-9]*/&1/' CFU_STAGING_LIMIT
@@ -49,10 +51,13 @@ slip "a place in a device's record" 's/^\( \* *[0-9]*\)\(  owed ready-reply\)/\1
 slip "a width in a device's record" 's/region base ([0-9])/region base (2)/' REGION_AT
 slip "a place in a host's record" 's/^\( \* *[0-9]*\)\(  mask of\)/\11\2/' MASK_AT
 slip "a place in the contents" 's/^\( \* *[0-9]*\)\(  the block that\)/\11\2/' HAND_START
+slip "a place in the writer's list" 's/, at 20 how long it is/, at 24 how long it is/' SHORT_SIZE
+slip "a width in the writer's list" 's/how long it is (4)/how long it is (2)/' SHORT_SIZE
 slip "a place that has a name" 's/^#define CFU_COMPONENT_STAGED_AT [0-9]*/&1/' CFU_COMPONENT_STAGED_AT
 slip "a part's size that has a name" 's/^#define CFU_BODY_SIZE [0-9]*/&1/' CFU_BODY_SIZE
 slip "a number left out" '/^#define CFU_ERROR_CRC /d' CFU_ERROR_CRC
 slip "a number that nothing has" 's/^#define CFU_SERVED 0/&\n#define CFU_B9 0x4209/' CFU_B9
+slip "a row that the writer lacks" 's/^#define CFU_SERVED 0/&\n#define CFU_W9 0x5709/' CFU_W9
 slip "a declaration that nothing has" 's/^uint32_t cfu_host_fresh(/int spare;\n&/' "int spare"
 echo "$slips slips seen"
 

@@ -63,7 +63,7 @@ pub(crate) fn put_body(out: &mut [u8], start: usize, m: &[u8]) -> usize
     let mut at: usize = 0;
     let mut end = start;
     loop {
-        let p = next_piece(&m[..crc], at);
+        let p = next_piece(&m[..crc], at); // runs are of the bytes before the CRC
         match p {
             Piece::End => {
                 put_record(out, end, crc as u32, &m[crc..]);

@@ -13,6 +13,7 @@ pub trait Calls: Sync {
     fn reset(&self, device: &mut [u8]) -> u32;
 
     fn check(&self, bundle: &[u8], contents: &mut [u8]) -> Check;
+    fn write(&self, list: &[u8], images: &[u8], out: &mut [u8]) -> Written;
 
     fn fresh(&self, host: &mut [u8], token: u8) -> u32;
     fn step(&self, host: &mut [u8], bundle: &[u8], reply: &[u8], packet: &mut [u8]) -> Step;

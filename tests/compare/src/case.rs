@@ -1,5 +1,7 @@
 //! A case: numbers, byte strings and lists of them, from which everything that is compared follows. A case that shows a difference is made smaller.
 
+use std::time::{Duration, Instant};
+
 use crate::tally::Tally;
 
 #[derive(Clone, Debug, PartialEq, Eq)]
@@ -108,14 +110,16 @@ pub fn difference(what: &str, answers: &[(&str, String)]) -> String {
 
 // ------------------------------------------------------------- shrinking
 
-/// How many smaller cases are tried.
+/// How many smaller cases are tried, and for how long.
 const TRIES: usize = 20_000;
+const LONGEST: Duration = Duration::from_secs(20);
 
 /// A smaller case that still shows a difference, and that difference.
 pub fn shrink(case: &Case, run: Run, seen: String) -> (Case, String) {
     let mut best = case.clone();
     let mut words = seen;
     let mut tries = 0;
+    let begun = Instant::now();
     // What is made smaller first makes the rest quicker.
     let mut places: Vec<usize> = (0..best.fields.len()).collect();
     places.sort_by_key(|place| match best.fields[*place].1 {
@@ -129,7 +133,7 @@ pub fn shrink(case: &Case, run: Run, seen: String) -> (Case, String) {
             // Each success offers candidates anew; those that were tried in vain are passed over.
             let mut passed = 0;
             while let Some(smaller) = smaller_fields(&best.fields[*place].1).into_iter().nth(passed) {
-                if tries == TRIES {
+                if tries == TRIES || begun.elapsed() > LONGEST {
                     return (best, words);
                 }
                 tries += 1;

@@ -27,7 +27,7 @@ pub fn written(length: usize, records: &[(u32, Vec<u8>)]) -> Option<Vec<u8>> {
     Some(out)
 }
 
-fn component_of(device: &DeviceRecord, id: u8) -> Option<&Component> {
+pub fn component_of(device: &DeviceRecord, id: u8) -> Option<&Component> {
     device.listed().iter().find(|component| component.id == id)
 }
 

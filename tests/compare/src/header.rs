@@ -99,6 +99,14 @@ pub struct Check {
 
 #[repr(C)]
 #[derive(Clone, Copy, Debug, Default, PartialEq, Eq)]
+pub struct Written {
+    pub number: u32,
+    pub entry: u32,
+    pub length: u32,
+}
+
+#[repr(C)]
+#[derive(Clone, Copy, Debug, Default, PartialEq, Eq)]
 pub struct Step {
     pub number: u32,
     pub entry: u32,
@@ -151,6 +159,7 @@ extern "C" {
     ) -> Replies;
     pub fn cfu_device_reset(device: *mut u8, device_len: usize) -> u32;
     pub fn cfu_bundle_check(bundle: *const u8, bundle_len: usize, contents: *mut u8, contents_len: usize) -> Check;
+    pub fn cfu_bundle_write(list: *const u8, list_len: usize, images: *const u8, images_len: usize, out: *mut u8, out_len: usize) -> Written;
     pub fn cfu_host_fresh(host: *mut u8, host_len: usize, token: u8) -> u32;
     pub fn cfu_host_step(
         host: *mut u8,

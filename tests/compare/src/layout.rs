@@ -71,6 +71,14 @@ pub const B5: u32 = 0x4205;
 pub const B6: u32 = 0x4206;
 pub const B7: u32 = 0x4207;
 pub const B8: u32 = 0x4208;
+pub const W1: u32 = 0x5701;
+pub const W2: u32 = 0x5702;
+pub const W3: u32 = 0x5703;
+pub const W4: u32 = 0x5704;
+pub const W5: u32 = 0x5705;
+pub const W6: u32 = 0x5706;
+pub const W7: u32 = 0x5707;
+pub const W8: u32 = 0x5708;
 
 pub const RUNNING: u32 = 0;
 pub const DONE: u32 = 1;

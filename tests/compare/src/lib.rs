@@ -17,6 +17,7 @@ pub mod packets;
 pub mod random;
 pub mod runs;
 pub mod tally;
+pub mod writers;
 
 use calls::Calls;
 

@@ -61,6 +61,10 @@ impl Calls for Library {
         unsafe { cfu_bundle_check(bundle.as_ptr(), bundle.len(), contents.as_mut_ptr(), contents.len()) }
     }
 
+    fn write(&self, list: &[u8], images: &[u8], out: &mut [u8]) -> Written {
+        unsafe { cfu_bundle_write(list.as_ptr(), list.len(), images.as_ptr(), images.len(), out.as_mut_ptr(), out.len()) }
+    }
+
     #[inline]
     fn fresh(&self, host: &mut [u8], token: u8) -> u32 {
         unsafe { cfu_host_fresh(host.as_mut_ptr(), host.len(), token) }

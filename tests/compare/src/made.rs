@@ -2,6 +2,7 @@
 
 use cfu_updater::bundle;
 use cfu_updater::bundle_layout::{self, verdict_of, BundleVerdict, Checked};
+use cfu_updater::c_writer::cfu_bundle_write;
 use cfu_updater::device::answer::{Answer, Refusal};
 use cfu_updater::device::record::Device;
 use cfu_updater::device::setup::set_up;
@@ -338,6 +339,11 @@ impl Calls for Made {
         let checked = bundle::check(bytes);
         contents.copy_from_slice(&contents_of(&checked).bytes());
         Check { number: bundle_number(checked.verdict), entry: checked.place as u32, count: checked.count as u32 }
+    }
+
+    fn write(&self, list: &[u8], images: &[u8], out: &mut [u8]) -> Written {
+        let told = cfu_bundle_write(list, images, out);
+        Written { number: told.number, entry: told.entry, length: told.length }
     }
 
     fn fresh(&self, host: &mut [u8], token: u8) -> u32 {

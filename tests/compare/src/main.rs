@@ -13,7 +13,7 @@ use std::time::Instant;
 use compare::case::{shrink, Case, Outcome, Run};
 use compare::random::Random;
 use compare::tally::{Tally, REQUIRED};
-use compare::{bundles, devices, hosts, lengths, packets, runs};
+use compare::{bundles, devices, hosts, lengths, packets, runs, writers};
 
 /// The gate's seed.
 const SEED: u64 = 20_190_711;
@@ -27,7 +27,7 @@ struct Kind {
     gate: u64,
 }
 
-const KINDS: [Kind; 9] = [
+const KINDS: [Kind; 10] = [
     Kind { name: "set-up", make: devices::make_setup, run: devices::run_setup, unit: "calls: set-up", gate: 100_000 },
     Kind { name: "packets", make: devices::make_script, run: devices::run_script, unit: "packets to the device", gate: 3_000_000 },
     Kind { name: "build", make: packets::make_build, run: packets::run_build, unit: "packets built", gate: 100_000 },
@@ -37,6 +37,7 @@ const KINDS: [Kind; 9] = [
     Kind { name: "contents", make: hosts::make_contents, run: hosts::run_contents, unit: "steps over any contents", gate: 300_000 },
     Kind { name: "lengths", make: lengths::make, run: lengths::run, unit: "calls with buffers of any length", gate: 60_000 },
     Kind { name: "runs", make: runs::make_run, run: runs::run_run, unit: "whole runs", gate: 60_000 },
+    Kind { name: "write", make: writers::make_write, run: writers::run_write, unit: "calls: write", gate: 200_000 },
 ];
 
 struct Options {
@@ -109,7 +110,8 @@ fn run_by<const K: usize>(case: &Case, tally: &mut Tally) -> Outcome {
     tried(KINDS[K].run, case, tally)
 }
 
-const CAUGHT: [Run; 9] = [run_by::<0>, run_by::<1>, run_by::<2>, run_by::<3>, run_by::<4>, run_by::<5>, run_by::<6>, run_by::<7>, run_by::<8>];
+const CAUGHT: [Run; 10] =
+    [run_by::<0>, run_by::<1>, run_by::<2>, run_by::<3>, run_by::<4>, run_by::<5>, run_by::<6>, run_by::<7>, run_by::<8>, run_by::<9>];
 
 fn one_kind(place: usize, options: &Options, tally: &mut Tally) -> Result<(), String> {
     let kind = &KINDS[place];
@@ -152,7 +154,7 @@ fn one_kind(place: usize, options: &Options, tally: &mut Tally) -> Result<(), St
 /// What was not met although it has to be.
 fn unmet(tally: &Tally) -> Vec<&'static str> {
     let all = REQUIRED.iter().chain(&devices::BROKEN).chain(&devices::PASSED).chain(&devices::LEFT).chain(&devices::SETUP).chain(&devices::LENGTHS);
-    let all = all.chain(&hosts::BROKEN).chain(&hosts::PASSED).chain(&runs::RUNS);
+    let all = all.chain(&hosts::BROKEN).chain(&hosts::PASSED).chain(&runs::RUNS).chain(&writers::WRITTEN);
     all.copied().chain(lengths::required()).filter(|name| tally.of(name) == 0).collect()
 }
 

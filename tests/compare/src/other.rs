@@ -6,6 +6,7 @@
 use second::bundle::{check, Bundle, Fault};
 use second::device::{set_up, Answer, Component as SecondComponent, Device, Listed, Offered, Receiving, Region, Stage as DeviceStage, StagingOffset};
 use second::host::{End, Host, Packet, Stage as HostStage, Stepped};
+use second::maker;
 use second::packets;
 use second::refusal::Refusal;
 use second::version::Version as SecondVersion;
@@ -89,6 +90,14 @@ fn row_number(row: Refusal) -> u32 {
         Refusal::B6 => B6,
         Refusal::B7 => B7,
         Refusal::B8 => B8,
+        Refusal::W1 => W1,
+        Refusal::W2 => W2,
+        Refusal::W3 => W3,
+        Refusal::W4 => W4,
+        Refusal::W5 => W5,
+        Refusal::W6 => W6,
+        Refusal::W7 => W7,
+        Refusal::W8 => W8,
     }
 }
 
@@ -303,6 +312,13 @@ impl Calls for Other {
         };
         contents.copy_from_slice(&left.bytes());
         answer
+    }
+
+    fn write(&self, list: &[u8], images: &[u8], out: &mut [u8]) -> Written {
+        match maker::write(list, images, out) {
+            Ok(length) => Written { number: SERVED, entry: 0, length: length as u32 },
+            Err(Fault { row, entry }) => Written { number: row_number(row), entry: entry as u32, length: 0 },
+        }
     }
 
     fn fresh(&self, host: &mut [u8], token: u8) -> u32 {

@@ -1,5 +1,6 @@
-//! Whole runs: a fresh host and a device of each implementation, over random devices and bundles; demand 3 wherever its premise holds; and hostile
-//! devices, against which every host has to end within its bound.
+//! Whole runs: a fresh host and a device of each implementation, over random devices and bundles, some of these from the writer; demand 3 wherever its
+//! premise holds, as it has to for a written bundle where the regions are as long as the images; and hostile devices, against which every host has to end
+//! within its bound.
 
 use cfu_updater::update::{run as made_run, RunRefusal};
 
@@ -14,6 +15,7 @@ use crate::lent::Lent;
 use crate::library::Library;
 use crate::random::Random;
 use crate::tally::{self, Tally};
+use crate::writers::{self, Given, Pair};
 use crate::{made, other, ALL};
 
 // -------------------------------------------------------------- bundles
@@ -93,8 +95,7 @@ fn bad_records(r: &mut Random, component: &Component, version: u32) -> Vec<(u32,
 }
 
 /// Offers for the device's components and some others, with needs that form chains, cycles and dead ends.
-fn entries_for(r: &mut Random, device: &DeviceRecord) -> Vec<Entry> {
-    let all_good = r.percent(75);
+fn offers_for(r: &mut Random, device: &DeviceRecord) -> Vec<[u8; SHORT_SIZE]> {
     let chain = r.percent(30);
     let mut ids: Vec<u8> = device.listed().iter().map(|component| component.id).collect();
     ids.extend((10..=12).filter(|_| r.percent(12)));
@@ -116,25 +117,49 @@ fn entries_for(r: &mut Random, device: &DeviceRecord) -> Vec<Entry> {
             (*id, version)
         })
         .collect();
-    let mut entries = Vec::new();
+    let mut offers = Vec::new();
     for (place, (id, version)) in offered.iter().enumerate() {
         let need = need_for(r, device, &offered, place, chain);
         let platform = if r.percent(96) { device.platform } else { device.platform ^ 1 };
-        let offer = offer_packet(*id, *version, need, platform);
-        let records = match device.listed().iter().find(|component| component.id == *id) {
+        offers.push(offer_packet(*id, *version, need, platform));
+    }
+    if chain && r.percent(50) {
+        r.shuffle(&mut offers);
+    }
+    offers
+}
+
+/// Those offers with good and bad bodies.
+fn entries_for(r: &mut Random, device: &DeviceRecord) -> Vec<Entry> {
+    let all_good = r.percent(75);
+    let mut entries = Vec::new();
+    for offer in offers_for(r, device) {
+        let version = four(&offer[offer_at::VERSION..]);
+        let records = match demand::component_of(device, offer[offer_at::ID]) {
             None => vec![(r.next() as u32, r.bytes(r.clone().between(1, DATA_SIZE))), (0, vec![1])],
             Some(component) if all_good || r.percent(60) => {
-                let image = demand::image(r, component.length as usize, *version, component.id);
+                let image = demand::image(r, component.length as usize, version, component.id);
                 records_for(r, &image)
             }
-            Some(component) => bad_records(r, component, *version),
+            Some(component) => bad_records(r, component, version),
         };
         entries.push(Entry { offer, records });
     }
-    if chain && r.percent(50) {
-        r.shuffle(&mut entries);
-    }
     entries
+}
+
+/// Those offers with images for the writer, as long as the regions of the device.
+fn given_for(r: &mut Random, device: &DeviceRecord) -> Given {
+    let mut pairs: Vec<Pair> = Vec::new();
+    for offer in offers_for(r, device) {
+        let (id, version) = (offer[offer_at::ID], four(&offer[offer_at::VERSION..]));
+        let length = match demand::component_of(device, id) {
+            None => r.between(REGION_LEAST, 140),
+            Some(component) => component.length as usize,
+        };
+        pairs.push((offer, writers::image_for(r, length, version, id)));
+    }
+    Given::laid(r, &pairs)
 }
 
 fn need_for(r: &mut Random, device: &DeviceRecord, offered: &[(u8, u32)], place: usize, chain: bool) -> [u8; 4] {
@@ -159,11 +184,16 @@ fn need_for(r: &mut Random, device: &DeviceRecord, offered: &[(u8, u32)], place:
 
 pub fn make_run(r: &mut Random) -> Case {
     let device = valid_device(r);
-    let entries = entries_for(r, &device);
     let hostile = if r.percent(20) { r.next() | 1 } else { 0 };
-    let (mut record, mut laid) = (any_record(r, &device.bytes(), device.passed_over()), bundle(&entries));
+    let (mut given, mut laid) = (Given::default(), Vec::new());
+    if r.percent(25) {
+        given = given_for(r, &device);
+    } else {
+        laid = bundle(&entries_for(r, &device));
+    }
+    let mut record = any_record(r, &device.bytes(), device.passed_over());
     match r.below(50) {
-        0 => laid = bundles::any_bundle(r),
+        0 if given.list.is_empty() => laid = bundles::any_bundle(r),
         1 => {
             let aim = r.pick(&BROKEN);
             record = broken_device(r, aim);
@@ -177,6 +207,8 @@ pub fn make_run(r: &mut Random) -> Case {
         .bytes("device", record)
         .bytes("staging", r.bytes(device.staging as usize))
         .bytes("bundle", laid)
+        .bytes("list", given.list)
+        .bytes("images", given.images)
 }
 
 // ----------------------------------------------------------------- runs
@@ -328,12 +360,29 @@ fn whole_run(calls: &dyn Calls, start: &Start, by: By) -> Result<Left, String> {
     Ok(left)
 }
 
+/// The case's own bundle, or the writer's; none where the regions are too long for one, or where the list of a smaller case is refused by another row.
+fn bundle_in(case: &Case, given: &Given, tally: &mut Tally) -> Result<Option<Vec<u8>>, String> {
+    if given.list.is_empty() {
+        return Ok(Some(case.bytes_at("bundle").to_vec()));
+    }
+    let (told, mut out) = writers::written(given, BUNDLE_LIMIT)?;
+    tally.one(tally::row(told.number));
+    if told.number != SERVED {
+        return Ok(None);
+    }
+    tally.one("whole runs of a written bundle");
+    out.truncate(told.length as usize);
+    Ok(Some(out))
+}
+
 pub fn run_run(case: &Case, tally: &mut Tally) -> Outcome {
+    let given = Given { list: case.bytes_at("list").to_vec(), images: case.bytes_at("images").to_vec() };
+    let Some(bundle) = bundle_in(case, &given, tally)? else { return Ok(()) };
     let start = Start {
         token: case.number_at("token") as u8,
         device: case.bytes_at("device"),
         staging: case.bytes_at("staging"),
-        bundle: case.bytes_at("bundle"),
+        bundle: &bundle,
         hostile: case.number_at("hostile"),
     };
     let mut lefts = Vec::new();
@@ -358,7 +407,7 @@ pub fn run_run(case: &Case, tally: &mut Tally) -> Outcome {
         return Ok(());
     }
     whole_functions(&start, left)?;
-    run_demand(case, &start, left, tally)
+    run_demand(case, &start, &given, left, tally)
 }
 
 /// The made crate's and the second implementation's own runs leave the same.
@@ -409,7 +458,7 @@ fn is_left(start: &Start, left: &Left, before: &DeviceRecord, record: &DeviceRec
     DeviceRecord::read(&left.device).as_ref() == Some(record) && (!is_whole || record.bytes()[..] == left.device[..])
 }
 
-fn run_demand(case: &Case, start: &Start, left: &Left, tally: &mut Tally) -> Outcome {
+fn run_demand(case: &Case, start: &Start, given: &Given, left: &Left, tally: &mut Tally) -> Outcome {
     let Some(device) = DeviceRecord::read(start.device) else { return Ok(()) };
     let mut packet = [0; LONG_SIZE];
     let allowed = Library.version_reply(start.device, &mut packet) == SERVED && start.staging.len() == device.staging as usize;
@@ -417,12 +466,17 @@ fn run_demand(case: &Case, start: &Start, left: &Left, tally: &mut Tally) -> Out
         return Ok(());
     }
     let entries = entries_in(start.bundle);
-    if !demand::premise(&device, &entries) {
-        return Ok(());
+    match (demand::premise(&device, &entries), is_fitting(&device, given)) {
+        (true, _) => {}
+        (false, true) => return Err("demand 3: its premise does not hold for a written bundle".to_string()),
+        (false, false) => return Ok(()),
     }
     tally.one("demand 3: runs where its premise holds");
     let set = demand_of(start, left, &device, &entries)?;
     tally.add("demand 3: images staged", set.count_ones() as u64);
+    if is_fitting(&device, given) {
+        staged_as_given(&device, given, set, &left.staging, tally)?;
+    }
     if left.report.passes > 2 {
         tally.one("demand 3: runs of more than two passes");
     }
@@ -442,6 +496,33 @@ fn run_demand(case: &Case, start: &Start, left: &Left, tally: &mut Tally) -> Out
             return Err(format!("demand 3: order {order:?} gives another end\n    {}\n    {}", left.text(), again.text()));
         }
         tally.one("demand 3: runs in another order");
+    }
+    Ok(())
+}
+
+/// There is a written bundle, and its images are as long as the regions of the device.
+fn is_fitting(device: &DeviceRecord, given: &Given) -> bool {
+    let fits = |place: usize| match demand::component_of(device, given.offer(place)[offer_at::ID]) {
+        Some(component) => given.image(place).is_some_and(|image| image.len() == component.length as usize),
+        None => true,
+    };
+    given.count() > 0 && (0..given.count()).all(fits)
+}
+
+/// The region of each staged component is the image that the writer was given, byte for byte.
+fn staged_as_given(device: &DeviceRecord, given: &Given, set: usize, staging: &[u8], tally: &mut Tally) -> Outcome {
+    for place in (0..given.count()).filter(|place| set >> place & 1 == 1) {
+        let component = demand::component_of(device, given.offer(place)[offer_at::ID]);
+        let (Some(component), Some(image)) = (component, given.image(place)) else {
+            return Err(format!("written bundle: entry {} is staged without a component or an image", place + 1));
+        };
+        if staging[component.base as usize..][..component.length as usize] != *image {
+            return Err(format!("written bundle: entry {} is staged as another image than {}", place + 1, hex(image)));
+        }
+        tally.one("written bundle: images staged");
+        if writers::has_left_out_run(image) {
+            tally.one("written bundle: images staged with a left-out run");
+        }
     }
     Ok(())
 }
@@ -481,7 +562,10 @@ fn orders(r: &mut Random, count: usize) -> Vec<Vec<usize>> {
 }
 
 /// What the gate's run has to have met in whole runs.
-pub const RUNS: [&str; 6] = [
+pub const RUNS: [&str; 9] = [
+    "whole runs of a written bundle",
+    "written bundle: images staged",
+    "written bundle: images staged with a left-out run",
     "whole runs against a hostile device",
     "demand 3: runs where its premise holds",
     "demand 3: images staged",

@@ -61,6 +61,14 @@ pub fn row(number: u32) -> &'static str {
         B6 => "row: B6",
         B7 => "row: B7",
         B8 => "row: B8",
+        W1 => "row: W1",
+        W2 => "row: W2",
+        W3 => "row: W3",
+        W4 => "row: W4",
+        W5 => "row: W5",
+        W6 => "row: W6",
+        W7 => "row: W7",
+        W8 => "row: W8",
         _ => "row: unknown",
     }
 }
@@ -109,7 +117,7 @@ pub fn content_status(reply: &[u8]) -> &'static str {
 }
 
 /// What the gate's run has to have met at least once.
-pub const REQUIRED: [&str; 47] = [
+pub const REQUIRED: [&str; 55] = [
     "row: served",
     "row: C1",
     "row: C2",
@@ -132,6 +140,14 @@ pub const REQUIRED: [&str; 47] = [
     "row: B6",
     "row: B7",
     "row: B8",
+    "row: W1",
+    "row: W2",
+    "row: W3",
+    "row: W4",
+    "row: W5",
+    "row: W6",
+    "row: W7",
+    "row: W8",
     "end: done",
     "end: H1",
     "end: H2",

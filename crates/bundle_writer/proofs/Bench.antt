@@ -8,7 +8,8 @@ use Rattle.bundle_layout.specs.Layout.{entriesFrom}
 use Rattle.bundle_layout.specs.Rows.{firstEntry, repeated}
 use Rattle.bundle.specs.Contents.{tableBytes, bundleBytes}
 use Rattle.bundle_cut.specs.Cut.{leading, reach, pieceAt, cutFrom}
-use Rattle.bundle_writer.specs.Given.{entriesOf, imageAt, madeBundle}
+use Rattle.bundle_given.specs.Given.{entriesOf, imageAt}
+use Rattle.bundle_writer.specs.Bundle.{madeBundle}
 use Rattle.bundle_writer.specs.Rows.{firstBreaking, rowW3, writeRow}
 use Rattle.bundle_writer.specs.Answer.{makeOf}
 use Rattle.bundle_writer.specs.Bench.{WriterBench}

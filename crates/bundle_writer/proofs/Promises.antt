@@ -19,7 +19,8 @@ use Rattle.bundle_cut.specs.Cut.{recordOf, cut, crcPlace, beforeCrc, imageRecor
 use Rattle.bundle_cut.specs.Rule.{LeftOut, Covers, Apart}
 use Rattle.bundle_cut.proofs.Order.{image-apart, image-sound}
 use Rattle.bundle_cut.proofs.Rule.{cut-rule}
-use Rattle.bundle_writer.specs.Given.{countOf, entriesOf, imageAt, madePart, madeParts, madeBundle}
+use Rattle.bundle_given.specs.Given.{countOf, entriesOf, imageAt}
+use Rattle.bundle_writer.specs.Bundle.{madePart, madeParts, madeBundle}
 use Rattle.bundle_writer.specs.Rows.{Row, served, W, writeRow}
 use Rattle.bundle_writer.specs.Answer.{madeBy, makeOf}
 use Rattle.bundle_writer.specs.Promises.{MadeBack, MadeReadsBack, MadeApart, MadeTwo, bodiesLength, MadeLength, Frame, MadeFrame}

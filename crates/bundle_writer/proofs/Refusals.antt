@@ -9,10 +9,11 @@ use lib.ListN.{length}
 use Rattle.wire.specs.Checks.{firstOf}
 use Rattle.bundle_layout.specs.Layout.{BUNDLE-LIMIT}
 use Rattle.bundle_layout.specs.Rows.{named}
-use Rattle.bundle_writer.specs.declared.list.EntryRule.{EntryRule}
-use Rattle.bundle_writer.specs.declared.list.EntryRule.the-variants.{Offer, Lent, Crc, Bears}
-use Rattle.bundle_writer.specs.Given.{madeBundle}
-use Rattle.bundle_writer.specs.Rows.{Row, served, W, badList, firstBreaking, rowW3, writeRow}
+use Rattle.bundle_given.specs.declared.EntryRule.{EntryRule}
+use Rattle.bundle_given.specs.declared.EntryRule.the-variants.{Offer, Lent, Crc, Bears}
+use Rattle.bundle_writer.specs.Bundle.{madeBundle}
+use Rattle.bundle_given.specs.Entry.{badList}
+use Rattle.bundle_writer.specs.Rows.{Row, served, W, firstBreaking, rowW3, writeRow}
 use Rattle.bundle_writer.specs.Answer.{madeBy, makeOf}
 
 -- a refusal leaves the output

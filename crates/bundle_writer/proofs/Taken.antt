@@ -19,10 +19,12 @@ use Rattle.bundle_layout.specs.Rows.{badOffer, named}
 use Rattle.bundle.proofs.Accepted.{passes, none-of, apart, entries-size, entries-bytes}
 use Rattle.bundle_writer.proofs.list.Laws.{good-list}
 pub use Rattle.bundle_writer.proofs.list.Laws.{length-entries}
-use Rattle.bundle_writer.specs.declared.list.EntryRule.{EntryRule}
-use Rattle.bundle_writer.specs.declared.list.EntryRule.the-variants.{Offer, Lent, Crc, Bears}
-use Rattle.bundle_writer.specs.Given.{countOf, entriesOf, imageAt, madeBundle}
-use Rattle.bundle_writer.specs.Rows.{served, W, badList, badLent, bearsOffer, breaks, firstBreaking, rowW3, writeRow}
+use Rattle.bundle_given.specs.declared.EntryRule.{EntryRule}
+use Rattle.bundle_given.specs.declared.EntryRule.the-variants.{Offer, Lent, Crc, Bears}
+use Rattle.bundle_given.specs.Given.{countOf, entriesOf, imageAt}
+use Rattle.bundle_writer.specs.Bundle.{madeBundle}
+use Rattle.bundle_given.specs.Entry.{badList, badLent, bearsOffer, breaks}
+use Rattle.bundle_writer.specs.Rows.{served, W, firstBreaking, rowW3, writeRow}
 
 -- a row that refuses is not served
 pub refused : (k e : ℕ) → W k e ≡ served → ⊥

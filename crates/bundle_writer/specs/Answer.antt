@@ -3,7 +3,7 @@ use Prim.Native.Nat.{ℕ}
 use mathlib.Core.List.{List, _++_}
 use lib.ListN.{length, drop}
 use Rattle.bundle_writer.specs.declared.WriteAnswer.{WriteAnswer}
-use Rattle.bundle_writer.specs.Given.{madeBundle}
+use Rattle.bundle_writer.specs.Bundle.{madeBundle}
 use Rattle.bundle_writer.specs.Rows.{Row, served, W, rowOf, writeRow}
 
 -- l with `bytes` for its first ones

@@ -1,4 +1,4 @@
-pub mod Given
+pub mod Bundle
 pub mod Rows
 pub mod Answer
 pub mod Promises

@@ -10,7 +10,8 @@ use Rattle.bundle_layout.specs.Rows as bundle
 use Rattle.bundle.specs.Contents.{blocksIn}
 use Rattle.bundle_cut.specs.Cut.{imageRecords, imageBody}
 use Rattle.bundle_cut.specs.Rule.{Apart}
-use Rattle.bundle_writer.specs.Given.{countOf, entriesOf, imageAt, madeBundle}
+use Rattle.bundle_given.specs.Given.{countOf, entriesOf, imageAt}
+use Rattle.bundle_writer.specs.Bundle.{madeBundle}
 use Rattle.bundle_writer.specs.Rows.{served, W, writeRow}
 use Rattle.bundle_writer.specs.Answer.{Made, makeOf}
 

@@ -1,21 +1,20 @@
 -- Rows W1 to W8 (document 02, A3), in that order. As document 01 has it of the B rows, each is tried over the whole list before the next, and W2 to W6 answer
 -- the entry that they name, counted from 1, or 0 where they refuse nothing; W1, W7 and W8 name no entry.
-use Prim.Native.Nat.{ℕ, _+_, _%_}
-use mathlib.Core.Bool.{Bool, not, cond, _||_, _&&_}
+use Prim.Native.Nat.{ℕ}
+use mathlib.Core.Bool.{Bool, not, cond}
 use mathlib.Core.List.{List, [], _∷_}
 use lib.Dec.{ltb, eqb}
 use lib.ListN.{length}
 use Rattle.wire.specs.Checks.{firstOf}
-use Rattle.wire.specs.Version.{versionAt}
-use Rattle.image.specs.Judge.{isRight, imageId, imageVersion}
-use Rattle.device_component.specs.Setup.{STAGING-LIMIT, REGION-LEAST}
-use Rattle.bundle_layout.specs.Layout.{BUNDLE-LIMIT, OFFER-LIMIT, ENTRY, idIn, offsetIn, lengthIn}
-use Rattle.bundle_layout.specs.Rows.{firstEntry, badOffer, repeated, named}
+use Rattle.bundle_layout.specs.Layout.{BUNDLE-LIMIT}
+use Rattle.bundle_layout.specs.Rows.{firstEntry, repeated, named}
 use Rattle.bundle_writer.specs.declared.rows.WriteVerdict.{WriteVerdict}
 use Rattle.bundle_writer.specs.declared.rows.WriteVerdict.the-variants.{Fine, W1, W2, W3, W4, W5, W6, W7, W8}
-use Rattle.bundle_writer.specs.declared.list.EntryRule.{EntryRule}
-use Rattle.bundle_writer.specs.declared.list.EntryRule.the-variants.{Offer, Lent, Crc, Bears}
-use Rattle.bundle_writer.specs.Given.{countOf, entriesOf, imageAt, madeBundle}
+use Rattle.bundle_given.specs.declared.EntryRule.{EntryRule}
+use Rattle.bundle_given.specs.declared.EntryRule.the-variants.{Offer, Lent, Crc, Bears}
+use Rattle.bundle_given.specs.Given.{entriesOf}
+use Rattle.bundle_given.specs.Entry.{badList, breaks}
+use Rattle.bundle_writer.specs.Bundle.{madeBundle}
 
 -- the rows of document 02 that the writer gives out, with the entry
 pub data Row : Type 0 where
@@ -44,26 +43,6 @@ rowAt number entry = cond (eqb number 0) served (W number entry)
 
 abbrev pub rowOf : WriteVerdict → ℕ → Row
 rowOf v entry = rowAt (numberOf v) entry
-
--- W1: count not 1 to the limit, or bytes after the last whole entry
-abbrev pub badList : List ℕ → Bool
-badList list = not (eqb (length list % ENTRY) 0) || (ltb (countOf list) 1 || ltb OFFER-LIMIT (countOf list))
-
--- W4: image under 8 bytes, over S1's limit or not wholly lent; sums of numbers, which do not wrap
-abbrev pub badLent : (size : ℕ) → (e : List ℕ) → Bool
-badLent size e = ltb (lengthIn e) REGION-LEAST || (ltb STAGING-LIMIT (lengthIn e) || ltb size (offsetIn e + lengthIn e))
-
--- what W6 asks: the image bears its offer's version, all 32 bits of it, and its id
-abbrev pub bearsOffer : (m e : List ℕ) → Bool
-bearsOffer m e = eqb (imageVersion m .0) (versionAt 4 e .0) && eqb (imageId m) (idIn e)
-
--- what refuses one entry. W2: an offer that B5 refuses; W4; W5: CRC wrong; W6: image version or id not its offer's. W5 and W6 are tried where W4 refuses none,
--- so of images that are wholly lent
-abbrev pub breaks : EntryRule → (images e : List ℕ) → Bool
-breaks Offer images e = badOffer e
-breaks Lent images e = badLent (length images) e
-breaks Crc images e = not (isRight (imageAt images e))
-breaks Bears images e = not (bearsOffer (imageAt images e) e)
 
 -- the first entry that breaks a rule, or 0
 unfoldable pub firstBreaking : EntryRule → (list images : List ℕ) → ℕ

@@ -2,12 +2,13 @@
 // it.
 ghost use mathlib.Core.Path.{_≡_};
 ghost use Rattle.bundle_writer.specs.Answer.{told, makeOf};
-use crate::list::EntryRule;
 use crate::rows::WriteVerdict;
+use bundle_given::EntryRule;
+use bundle_given::bad_list;
 use bundle_layout::limits::BUNDLE_LIMIT;
 
 pub mod rows; // rows.rt: the verdict and its number
-mod list; // list.rt: the entries of the list, rows W1 to W6
+mod list; // list.rt: the entries of the list, and the first that a row names
 mod out; // out.rt: bytes go into the output
 mod body; // body.rt: the body of an image, its length and its bytes
 mod made; // made.rt: the bundle, its length and its bytes
@@ -34,7 +35,7 @@ fn refused(verdict: WriteVerdict, place: u8) -> WriteAnswer
 pub fn write(out: &mut [u8], list: &[u8], images: &[u8]) -> WriteAnswer
     ensures { λ r. ⌜ told r (now (out .exit)) ≡ makeOf (now (list .entry)) (now (images .entry)) (now (out .entry)) ⌝ }
 {
-    if list::bad_list(list) {
+    if bad_list(list) {
         return refused(WriteVerdict::W1, 0);
     }
     let offer = list::first_breaking(EntryRule::Offer, list, images);

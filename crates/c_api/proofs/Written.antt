@@ -9,7 +9,8 @@ use lib.Seq.{take-append-seam}
 use Rattle.bundle_layout.specs.Rows as rows
 use Rattle.bundle.specs.Contents.{checkOf}
 use Rattle.host_bytes.specs.Layout.{CONTENTS-SIZE}
-use Rattle.bundle_writer.specs.Given.{countOf, madeBundle}
+use Rattle.bundle_given.specs.Given.{countOf}
+use Rattle.bundle_writer.specs.Bundle.{madeBundle}
 use Rattle.bundle_writer.specs.Rows.{Row, served, W, writeRow}
 use Rattle.bundle_writer.specs.Answer.{madeBy, makeOf}
 use Rattle.bundle_writer.specs.Promises.{MadeBack}

@@ -22,7 +22,7 @@ use Rattle.c_types.specs.Lent.{Left}
 use Rattle.c_build.specs.Build.{buildVersionReplyCall, buildOfferCall, buildInformationCall, buildExtendedCall, buildOfferReplyCall, buildContentCall, buildContentReplyCall}
 use Rattle.c_read.specs.Read.{readVersionReplyCall, readOfferCall, readOfferReplyCall, readContentCall, readContentReplyCall}
 use Rattle.host_bytes.specs.Layout.{CONTENTS-SIZE}
-use Rattle.bundle_writer.specs.Given.{countOf}
+use Rattle.bundle_given.specs.Given.{countOf}
 use Rattle.c_host.specs.Check.{checkCall}
 use Rattle.c_writer.specs.Write.{writeCall}
 use Rattle.c_api.specs.Packets.{noOffer}

@@ -15,7 +15,8 @@ use Rattle.bundle_records.specs.Record.{Block}
 use Rattle.bundle_layout.specs.Layout.{entriesIn, offerIn, idIn}
 use Rattle.bundle.specs.Contents.{blocksIn}
 use Rattle.bundle_cut.specs.Cut.{CRC-SIZE, imageRecords}
-use Rattle.bundle_writer.specs.Given.{countOf, entriesOf, imageAt, madeBundle}
+use Rattle.bundle_given.specs.Given.{countOf, entriesOf, imageAt}
+use Rattle.bundle_writer.specs.Bundle.{madeBundle}
 use Rattle.bundle_writer.specs.Promises.{MadeBack}
 use Rattle.bundle_cut.proofs.Order.{image-inside}
 use Rattle.bundle_writer.proofs.Promises.{made-reads-back}

@@ -11,7 +11,8 @@ use Rattle.image.specs.Region.{regionBytes}
 use Rattle.device_component.specs.declared.list.Found.the-variants.{At}
 use Rattle.bundle_layout.specs.Layout.{idIn, lengthIn}
 use Rattle.bundle_cut.specs.Cut.{CRC-SIZE, imageRecords}
-use Rattle.bundle_writer.specs.Given.{countOf, entriesOf, imageAt, madeBundle}
+use Rattle.bundle_given.specs.Given.{countOf, entriesOf, imageAt}
+use Rattle.bundle_writer.specs.Bundle.{madeBundle}
 use Rattle.bundle_writer.specs.Rows as writer
 use Rattle.device.specs.Record.{FitsDevice, find, component}
 use Rattle.device.specs.Refusals.{breaksD1}

@@ -11,8 +11,8 @@ use Rattle.wire.proofs.Tests.{neither, equal}
 use Rattle.bundle_layout.specs.Layout.{OFFER-LIMIT, HEAD, ENTRY, entriesIn}
 use Rattle.bundle.proofs.Limits.{inside}
 use Rattle.bundle.proofs.Entries as table
-use Rattle.bundle_writer.specs.Given.{countOf, entriesOf}
-use Rattle.bundle_writer.specs.Rows.{badList}
+use Rattle.bundle_given.specs.Given.{countOf, entriesOf}
+use Rattle.bundle_given.specs.Entry.{badList}
 
 -- entry i of a list
 abbrev pub entryOf : List ℕ → ℕ → List ℕ

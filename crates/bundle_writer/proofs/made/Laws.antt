@@ -21,9 +21,11 @@ use Rattle.bundle.proofs.Accepted.{none-of}
 use Rattle.bundle.proofs.Layouts.{bodyOf}
 use Rattle.bundle_cut.specs.Cut.{crcPlace, imageBody}
 use Rattle.bundle_cut.proofs.Bounds.{body-bound}
-use Rattle.bundle_writer.specs.declared.list.EntryRule.the-variants.{Lent}
-use Rattle.bundle_writer.specs.Given.{countOf, entriesOf, imageAt, madePart, madeParts, madeBundle}
-use Rattle.bundle_writer.specs.Rows.{badLent, breaks, firstBreaking}
+use Rattle.bundle_given.specs.declared.EntryRule.the-variants.{Lent}
+use Rattle.bundle_given.specs.Given.{countOf, entriesOf, imageAt}
+use Rattle.bundle_writer.specs.Bundle.{madePart, madeParts, madeBundle}
+use Rattle.bundle_given.specs.Entry.{badLent, breaks}
+use Rattle.bundle_writer.specs.Rows.{firstBreaking}
 use Rattle.bundle_writer.specs.Answer.{over}
 use Rattle.bundle_writer.specs.Promises.{bodiesLength}
 use Rattle.bundle_writer.proofs.Puts.{put-on, put-apart, put-start}

@@ -9,10 +9,11 @@ use borrow.Author.Tests.{ne-eqb}
 use lib.ListN.{length}
 use Rattle.wire.specs.Checks.{firstOf}
 use Rattle.wire.proofs.Chain.{by}
-use Rattle.bundle_writer.specs.declared.list.EntryRule.{EntryRule}
-use Rattle.bundle_writer.specs.declared.list.EntryRule.the-variants.{Offer, Lent, Crc, Bears}
-use Rattle.bundle_writer.specs.Given.{madeBundle}
-use Rattle.bundle_writer.specs.Rows.{Row, badList, firstBreaking, rowW3, writeRow}
+use Rattle.bundle_given.specs.declared.EntryRule.{EntryRule}
+use Rattle.bundle_given.specs.declared.EntryRule.the-variants.{Offer, Lent, Crc, Bears}
+use Rattle.bundle_writer.specs.Bundle.{madeBundle}
+use Rattle.bundle_given.specs.Entry.{badList}
+use Rattle.bundle_writer.specs.Rows.{Row, firstBreaking, rowW3, writeRow}
 use Rattle.bundle_writer.specs.Answer.{makeOf}
 use Rattle.bundle_writer.proofs.Refusals.{refusal, sizeRows, from, rows-from, too-long, no-room, all-fits}
 use Rattle.bundle_writer.proofs.write.Statement.{statement}

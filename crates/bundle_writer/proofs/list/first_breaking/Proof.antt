@@ -7,8 +7,9 @@ use lib.ListN.{drop}
 use Rattle.bundle_layout.specs.Layout.{entriesIn}
 use Rattle.bundle_layout.specs.Rows.{firstEntry}
 use Rattle.bundle.proofs.Entries.{first-here, first-on, first-end}
-use Rattle.bundle_writer.specs.Given.{entriesOf}
-use Rattle.bundle_writer.specs.Rows.{breaks, firstBreaking}
+use Rattle.bundle_given.specs.Given.{entriesOf}
+use Rattle.bundle_given.specs.Entry.{breaks}
+use Rattle.bundle_writer.specs.Rows.{firstBreaking}
 use Rattle.bundle_writer.proofs.list.Laws.{headed, entry-headed, entry-in}
 use Rattle.bundle_writer.proofs.list.first_breaking.Statement.{statement}
 use Rattle.bundle_writer.proofs.list.first_breaking.Tie as tie

@@ -9,7 +9,7 @@ use lib.ListN.{take, drop}
 use Rattle.wire.specs.Checks.{any}
 use Rattle.bundle_layout.specs.Layout.{entriesIn, idIn}
 use Rattle.bundle.proofs.Entries.{some-here, some-on, some-end}
-use Rattle.bundle_writer.specs.Given.{entriesOf}
+use Rattle.bundle_given.specs.Given.{entriesOf}
 use Rattle.bundle_writer.proofs.list.Laws.{headed, entry-headed, entry-in}
 use Rattle.bundle_writer.proofs.list.is_used.Statement.{statement}
 use Rattle.bundle_writer.proofs.list.is_used.Tie as tie

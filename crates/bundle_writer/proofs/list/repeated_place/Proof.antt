@@ -7,7 +7,7 @@ use lib.ListN.{drop}
 use Rattle.bundle_layout.specs.Layout.{entriesIn}
 use Rattle.bundle_layout.specs.Rows.{repeated}
 use Rattle.bundle.proofs.Entries.{idsTo, repeated-here, repeated-on, repeated-end}
-use Rattle.bundle_writer.specs.Given.{entriesOf}
+use Rattle.bundle_given.specs.Given.{entriesOf}
 use Rattle.bundle_writer.specs.Rows.{rowW3}
 use Rattle.bundle_writer.proofs.list.Laws.{headed, entries-headed, entry-headed, entry-in}
 use Rattle.bundle_writer.proofs.list.repeated_place.Statement.{statement}

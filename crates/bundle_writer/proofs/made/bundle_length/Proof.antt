@@ -7,7 +7,8 @@ use lib.ListN.{length, drop}
 use Rattle.device_component.specs.Setup.{STAGING-LIMIT}
 use Rattle.bundle_layout.specs.Layout.{OFFER-LIMIT, tableEnd}
 use Rattle.bundle_cut.specs.Cut.{imageBody}
-use Rattle.bundle_writer.specs.Given.{countOf, entriesOf, imageAt, madeBundle}
+use Rattle.bundle_given.specs.Given.{countOf, entriesOf, imageAt}
+use Rattle.bundle_writer.specs.Bundle.{madeBundle}
 use Rattle.bundle_writer.specs.Promises.{bodiesLength}
 use Rattle.bundle_writer.proofs.Promises.{made-size}
 use Rattle.bundle_writer.proofs.list.Laws.{entryOf, good-list, entry-in}

@@ -8,7 +8,8 @@ use lib.ListN.{length, replicate}
 use Rattle.image.specs.Region.{put}
 use Rattle.image.proofs.region.Within.{put-length}
 use Rattle.bundle_cut.specs.Cut.{imageBody}
-use Rattle.bundle_writer.specs.Given.{countOf, imageAt, madeBundle}
+use Rattle.bundle_given.specs.Given.{countOf, imageAt}
+use Rattle.bundle_writer.specs.Bundle.{madeBundle}
 use Rattle.bundle_writer.proofs.Puts.{put-again, over-put}
 use Rattle.bundle_writer.proofs.Promises.{made-size}
 use Rattle.bundle_writer.proofs.list.Laws.{entryOf, entry-in, length-entry}

@@ -1,10 +1,10 @@
--- `list::image_at`: the part that is lent is the image, as far as the slice has it. Assumes nothing.
+-- `image_at`: the part that is lent is the image, as far as the slice has it. Assumes nothing.
 use Rattle.bundle_layout.specs.Layout.{offsetIn, lengthIn}
 use Rattle.image.proofs.region.Lent.{clamped}
-use Rattle.bundle_writer.specs.Given.{imageAt}
+use Rattle.bundle_given.specs.Given.{imageAt}
 use borrow.Author.Needs.{needs}
-use Rattle.bundle_writer.proofs.list.image_at.Statement.{statement}
-use Rattle.bundle_writer.proofs.list.image_at.Tie as tie
+use Rattle.bundle_given.proofs.image_at.Statement.{statement}
+use Rattle.bundle_given.proofs.image_at.Tie as tie
 
 returns : tie.Need-returns
 unfolding imageAt

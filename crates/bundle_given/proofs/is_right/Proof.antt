@@ -1,4 +1,4 @@
--- `list::is_right`: the CRC of an image is right where the image is not damaged. Assumes nothing.
+-- `is_right`: the CRC of an image is right where the image is not damaged. Assumes nothing.
 use mathlib.Core.Path.{_≡_, refl, sym, ap, _∙_}
 use mathlib.Core.Bool.{Bool, true, false, cond}
 use mathlib.Core.List.{List}
@@ -8,8 +8,8 @@ use Rattle.image.specs.Judge.{isRight, imageIn, imageId, imageVersion}
 use Rattle.image.specs.declared.judge.Image.{Image}
 use Rattle.image.specs.declared.judge.Image.the-variants.{Damaged, Foreign, Bears}
 use borrow.Author.Needs.{needs}
-use Rattle.bundle_writer.proofs.list.is_right.Statement.{statement}
-use Rattle.bundle_writer.proofs.list.is_right.Tie as tie
+use Rattle.bundle_given.proofs.is_right.Statement.{statement}
+use Rattle.bundle_given.proofs.is_right.Tie as tie
 
 abbrev isSound : Image → Bool
 isSound Damaged = false

@@ -1,8 +1,8 @@
--- `list::bad_lent`: the tests in another bracketing. Assumes nothing.
+-- `bad_lent`: the tests in another bracketing. Assumes nothing.
 use mathlib.Core.Bool.{or-assoc}
 use borrow.Author.Needs.{needs}
-use Rattle.bundle_writer.proofs.list.bad_lent.Statement.{statement}
-use Rattle.bundle_writer.proofs.list.bad_lent.Tie as tie
+use Rattle.bundle_given.proofs.bad_lent.Statement.{statement}
+use Rattle.bundle_given.proofs.bad_lent.Tie as tie
 
 returns : tie.Need-returns
 returns c = rw (c .offset-in .ensures, c .before .length-in .ensures) (simp or-assoc)

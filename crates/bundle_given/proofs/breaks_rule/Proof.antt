@@ -1,7 +1,7 @@
--- `list::breaks_rule`: each rule's test. Assumes nothing.
+-- `breaks_rule`: each rule's test. Assumes nothing.
 use borrow.Author.Needs.{needs}
-use Rattle.bundle_writer.proofs.list.breaks_rule.Statement.{statement}
-use Rattle.bundle_writer.proofs.list.breaks_rule.Tie as tie
+use Rattle.bundle_given.proofs.breaks_rule.Statement.{statement}
+use Rattle.bundle_given.proofs.breaks_rule.Tie as tie
 
 returns : tie.Need-returns
 returns c = rw (c .before .enum-told .given .1) (c .bad-offer .ensures)

@@ -1,7 +1,7 @@
--- `list::bears_offer`: the numbers of the two versions, and the two ids. Assumes nothing.
+-- `bears_offer`: the numbers of the two versions, and the two ids. Assumes nothing.
 use borrow.Author.Needs.{needs}
-use Rattle.bundle_writer.proofs.list.bears_offer.Statement.{statement}
-use Rattle.bundle_writer.proofs.list.bears_offer.Tie as tie
+use Rattle.bundle_given.proofs.bears_offer.Statement.{statement}
+use Rattle.bundle_given.proofs.bears_offer.Tie as tie
 
 returns : tie.Need-returns
 returns c =

@@ -4,6 +4,7 @@
 use std::hint::black_box;
 
 use cfu_updater::bundle::check as made_check;
+use cfu_updater::bundle_writer::write as made_write;
 use cfu_updater::device::answer::Channel;
 use cfu_updater::firmware::serve_lent;
 use cfu_updater::update::run as made_run;
@@ -156,6 +157,18 @@ fn bundle_for(record: &DeviceRecord, size: usize) -> Vec<u8> {
     bundle(&entries)
 }
 
+/// What the writer is given: a list of so many offers, and their images, each of so many bytes, of which only the first `used` and the CRC are not 0xFF.
+fn given(count: usize, length: usize, used: usize) -> (Vec<u8>, Vec<u8>) {
+    let (mut list, mut images) = (Vec::new(), Vec::new());
+    for id in 1..=count as u8 {
+        list.extend(offer_packet(id, NEW, [0; 4], 0x0042));
+        list.extend((images.len() as u32).to_le_bytes());
+        list.extend((length as u32).to_le_bytes());
+        images.extend(image(length, used, id));
+    }
+    (list, images)
+}
+
 /// An offer for the last component.
 fn offer_for(record: &DeviceRecord) -> [u8; SHORT_SIZE] {
     let id = record.listed().last().map_or(1, |component| component.id);
@@ -182,6 +195,28 @@ fn check_row(what: &str, bytes: &[u8]) -> Row {
             },
             &mut || {
                 black_box(second::bundle::check(black_box(bytes)).is_ok());
+            },
+        ],
+    )
+}
+
+fn write_row(what: &str, list: &[u8], images: &[u8]) -> Row {
+    let mut left = [vec![0; BUNDLE_LIMIT], vec![0; BUNDLE_LIMIT], vec![0; BUNDLE_LIMIT]];
+    let written = Library.write(list, images, &mut left[0]);
+    expect("bundle write", written.number == SERVED && written == made::Made.write(list, images, &mut left[1]));
+    expect("bundle write", written == other::Other.write(list, images, &mut left[2]) && left[0] == left[1] && left[1] == left[2]);
+    let [library, made, second] = &mut left;
+    measure(
+        format!("bundle write, {what}, {} bytes written", written.length),
+        &mut [
+            &mut || {
+                black_box(Library.write(black_box(list), images, library));
+            },
+            &mut || {
+                black_box(made_write(made, black_box(list), images));
+            },
+            &mut || {
+                black_box(second::maker::write(black_box(list), images, second).is_ok());
             },
         ],
     )
@@ -363,6 +398,15 @@ fn main() {
         let (length, count) = (bytes.len(), record.count);
         rows.push(check_row(&format!("{length} bytes, {count} offer{}, records of {size}", if count == 1 { "" } else { "s" }), &bytes));
     }
+    for (what, count, length, used) in [
+        ("1 image of 4096 bytes", 1, 4096, 4096),
+        ("1 image of 59750 bytes", 1, 59_750, 59_750),
+        ("1 image of 65536 bytes, half of it 0xFF", 1, STAGING_LIMIT, STAGING_LIMIT / 2),
+        ("7 images of 8192 bytes", OFFER_LIMIT, 8192, 8192),
+    ] {
+        let (list, images) = given(count, length, used);
+        rows.push(write_row(what, &list, &images));
+    }
     let packets = packet_rows();
     let mut sessions = vec![session_row("2 images of 64 bytes", &two, &small)];
     for (record, size) in [(device(1, 4096), DATA_SIZE), (device(1, 16_384), DATA_SIZE), (one, DATA_SIZE), (most, DATA_SIZE), (one, 1)] {
@@ -372,10 +416,10 @@ fn main() {
         sessions.push(session_row(&format!("{count} image{plural} of {length} bytes, records of {size}"), &record, &bytes));
     }
     println!("nanoseconds of the processor, least of {REPETITIONS}; a session is one bundle check and then the host's steps and the device's calls in turn:");
-    println!("  library: cfu_bundle_check, cfu_host_step_checked, cfu_device_offer and cfu_device_content");
-    println!("  crate:   bundle::check, Device::offer and Device::content; update::run for a session");
+    println!("  library: cfu_bundle_check, cfu_bundle_write, cfu_host_step_checked, cfu_device_offer and cfu_device_content");
+    println!("  crate:   bundle::check, bundle_writer::write, Device::offer and Device::content; update::run for a session");
     println!(
-        "  second:  the second implementation's check, device (row D1 at each packet) and host's step over the checked bundle (row N1 at each step)"
+        "  second:  the second implementation's check, maker, device (row D1 at each packet) and host's step over the checked bundle (row N1 at each step)"
     );
     println!("  firmware: firmware::serve_lent of the crate, the firmware's entry by value");
     println!();

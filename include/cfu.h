@@ -154,8 +154,8 @@ extern "C" {
 #define CFU_B8 0x4208
 
 /* Writer. W1: a list that is not 1 to CFU_OFFER_LIMIT whole entries. W2: an offer that B5 refuses. W3: an id that an earlier entry has. W4: an image under
- * CFU_REGION_LEAST or over CFU_STAGING_LIMIT bytes, or past the end of the images. W5: an image whose CRC is wrong. W6: an image that bears another version or
- * another id than its offer. W7: a bundle over CFU_BUNDLE_LIMIT bytes. W8: an output too short for the bundle. */
+ * CFU_REGION_LEAST or over CFU_STAGING_LIMIT bytes, or one that ends past the images. W5: an image whose CRC is wrong. W6: an image that bears another version
+ * or another id than its offer. W7: a bundle over CFU_BUNDLE_LIMIT bytes. W8: an output too short for the bundle. */
 #define CFU_W1 0x5701
 #define CFU_W2 0x5702
 #define CFU_W3 0x5703
@@ -386,12 +386,13 @@ uint32_t cfu_device_reset(uint8_t *device, size_t device_len);
 cfu_check cfu_bundle_check(const uint8_t *bundle, size_t bundle_len, uint8_t *contents, size_t contents_len);
 
 /*
- * Writes a bundle that the check accepts. list: for each offer, in the order of the bundle, CFU_BUNDLE_ENTRY_SIZE bytes: the offer (16, as cfu_build_offer
- * leaves it, with token 0), at 16 where its image starts in `images` (4), at 20 how long it is (4). An image is a whole region: bytes 0 to 3 its version, byte
- * 4 its id, the last two bytes the CRC of all before them, high byte first. Returns CFU_SERVED with the bundle's length: the bundle is at the start of `out`,
- * and every byte of `out` past it is as it was. Or returns the first of W1 to W8 that applies, each tried over the whole list before the next, with the entry
- * that it names, and `out` is as it was. Of an image the two CRC bytes are always the last record; of the bytes before them each longest run of 52 or more
- * bytes 0xFF is left out, since an erase restores it, and what is left is cut at 52 bytes. An output of CFU_BUNDLE_LIMIT bytes is never too short.
+ * Writes a bundle that the check accepts. list: for each offer, in the order of the bundle, CFU_BUNDLE_ENTRY_SIZE bytes: the offer (16), at 16 where its image
+ * starts in `images` (4), at 20 how long it is (4). The offer is as cfu_build_offer leaves it, with segment, I, V and token 0, protocol 2 and an id from 1 to
+ * CFU_ID_LIMIT. An image is a whole region: bytes 0 to 3 its version, byte 4 its id, the last two bytes the CRC of all before them, high byte first. Returns
+ * CFU_SERVED with the bundle's length: the bundle is at the start of `out`, and every byte of `out` past it is as it was. Or returns the first of W1 to W8 that
+ * applies, each tried over the whole list before the next, with the entry that it names, and `out` is as it was; never C1 to C3. Of an image the two CRC bytes
+ * are always the last record; of the bytes before them each longest run of 52 or more bytes 0xFF is left out, since an erase restores it, and what is left is
+ * cut at 52 bytes in rising address, anew after each run that is left out. An output of CFU_BUNDLE_LIMIT bytes is never too short.
  */
 cfu_written cfu_bundle_write(const uint8_t *list, size_t list_len, const uint8_t *images, size_t images_len, uint8_t *out, size_t out_len);
 

@@ -205,7 +205,7 @@ LAYOUTS = (
     (r"byte (\d+) \+ (\d+) i \+ (\d+) tells whether", "device_bytes", ["COMPONENTS_START", "COMPONENT_SIZE", "STAGED_AT"]),
     (r"the components of a version reply: CFU_COMPONENT_LIMIT times (\d+) ", "c_version", ["RUNNING_SIZE"]),
     (r"the 16 bytes of the bundle at (\d+) \+ (\d+) i", "bundle_layout", ["HEAD", "ENTRY"]),
-    (r"at (\d+) where its image starts in `images` \(4\), at (\d+) how long it is", "bundle_layout", ["SHORT_SIZE", "SHORT_SIZE + 4"]),
+    (r"at (\d+) where its image[ *\n]+starts in `images` \(4\), at (\d+) how long it is", "bundle_layout", ["SHORT_SIZE", "SHORT_SIZE + 4"]),
     (r"(\d+)  row \(1\): .*; (\d+) the entry that it names \(1\)", "host_bytes", ["ROW_AT", "ENTRY_AT"]),
     (r"(\d+)  count of offers \(1\)", "host_bytes", ["COUNT_AT"]),
     (r"(\d+)  CFU_OFFER_LIMIT times (\d+) bytes: body offset \(4\)", "host_bytes", ["BODIES_START", "BODY_SIZE"]),
@@ -220,7 +220,7 @@ LAYOUTS = (
 WIDTHS_OF = (
     (r"bytes: " + FIELDS + r"staged \((\d)\): .*; staged[ *\n]+version \((\d)\)", "device_component_bytes",
      ["RUNNING_AT", "REGION_AT", "REGION_LEN_AT", "STAGED_AT", "STAGED_VERSION_AT", "COMPONENT_SIZE"]),
-    (r"CFU_BUNDLE_ENTRY_SIZE bytes: the offer \((\d+),[^:]*starts in `images` \((\d)\), at \d+ how long it is \((\d)\)", "bundle_layout",
+    (r"CFU_BUNDLE_ENTRY_SIZE bytes: the offer \((\d+)\), at \d+ where its image[ *\n]+starts in `images` \((\d)\), at \d+ how long it is \((\d)\)", "bundle_layout",
      ["SHORT_SIZE", "SHORT_SIZE + 4", "ENTRY"]),
     (r"list: CFU_COMPONENT_LIMIT times " + FIELDS + "CFU_LIST_SIZE", "device_component_bytes", ["RUNNING_AT", "REGION_AT", "REGION_LEN_AT", "LISTED_SIZE"]),
 )

@@ -57,7 +57,7 @@ fn record_end(d: &[u8], at: usize) -> usize
     end
 }
 
-// The piece that begins at place `at`, where a walk from place 0 comes there. Over a whole walk each byte is looked at four times at most.
+// The piece that begins at place `at`, where a walk from place 0 comes there. Over a whole walk each byte is looked at four times at most (no contract says so).
 pub fn next_piece(d: &[u8], at: usize) -> Piece
     ensures { λ r. ⌜ r ≡ pieceAt (now (d .entry)) at ⌝ }
 {

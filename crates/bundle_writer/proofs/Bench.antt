@@ -16,4 +16,4 @@ use Rattle.bundle_writer.specs.Bench.{WriterBench}
 
 pub writer-bench : WriterBench
 unfolding flatten firstOf any bitStep bitSteps byteStep crcFrom crcOf written entriesFrom firstEntry repeated tableBytes bundleBytes leading reach pieceAt cutFrom entriesOf imageAt madeBundle firstBreaking rowW3 writeRow makeOf
-writer-bench = record { one = refl; two = refl; kept = refl; w1 = refl; w2 = refl; w3 = refl; w4 = refl; w5 = refl; w6 = refl; w8 = refl }
+writer-bench = record { one = refl; two = refl; kept = refl; cut-anew = refl; w1 = refl; w2 = refl; w3 = refl; w4 = refl; w5 = refl; w6-id = refl; w6-version = refl; w8 = refl }

@@ -1,5 +1,5 @@
--- Examples of the writer, in literal bytes: an image of 8 bytes, the shortest; an image with a run of 52 bytes 0xFF, which is left out, and with one of 51, which
--- is not; both in one bundle; and some refusals.
+-- Examples of the writer, in literal bytes: an image of 8 bytes, the shortest, alone; the same beside one that has a run of 52 bytes 0xFF, which is left out; one
+-- with a run of 51, which is not; one whose bytes after a run that is left out are cut anew; and some refusals.
 use Prim.Native.Nat.{ℕ}
 use mathlib.Core.Path.{_≡_}
 use mathlib.Core.List.{List, [], _∷_, _++_}
@@ -17,6 +17,10 @@ long = 0x00 ∷ 0x02 ∷ 0x00 ∷ 0x01 ∷ 2 ∷ replicate 52 0xFF ++ 0x11 ∷ 0
 
 abbrev pub short : List ℕ
 short = 0x00 ∷ 0x02 ∷ 0x00 ∷ 0x01 ∷ 2 ∷ replicate 51 0xFF ++ 0x11 ∷ 0x22 ∷ 0x33 ∷ 0x16 ∷ 0xB8 ∷ []
+
+-- 20 bytes, a run of 52, 58 bytes, CRC
+abbrev pub anew : List ℕ
+anew = 0x00 ∷ 0x02 ∷ 0x00 ∷ 0x01 ∷ 2 ∷ replicate 15 0x44 ++ replicate 52 0xFF ++ replicate 58 0x55 ++ 0x1A ∷ 0xF6 ∷ []
 
 -- their offers
 abbrev pub offerOne : List ℕ
@@ -67,11 +71,24 @@ pub record WriterBench : Type 0 where
             1 ∷ 1 ∷ replicate 6 0 ++ (given offerTwo 32 76 ++ (
             record8 0 52 (0x00 ∷ 0x02 ∷ 0x00 ∷ 0x01 ∷ 2 ∷ replicate 47 0xFF) ++ (record8 52 7 (replicate 4 0xFF ++ 0x11 ∷ 0x22 ∷ 0x33 ∷ []) ++ record8 59 2 (0x16 ∷ 0xB8 ∷ []))));
       }
-  -- no entry; an offer with a token; the same id again; an image past the images; a wrong CRC; another component's image; an output of 49 bytes
+  -- the count starts anew after the run: records at 0 of 20 bytes, at 72 of 52, at 124 of 6, and the CRC at 130
+  pub cut-anew : makeOf (given offerTwo 0 132) anew (replicate 132 9)
+      ≡ record {
+        row = served;
+        place = 0;
+        length = 132;
+        out =
+            1 ∷ 1 ∷ replicate 6 0 ++ (given offerTwo 32 100 ++ (
+            record8 0 20 (0x00 ∷ 0x02 ∷ 0x00 ∷ 0x01 ∷ 2 ∷ replicate 15 0x44) ++ (record8 72 52 (replicate 52 0x55) ++ (
+            record8 124 6 (replicate 6 0x55) ++ record8 130 2 (0x1A ∷ 0xF6 ∷ [])))));
+      }
+  -- no entry; an offer with a token; the same id again; an image that ends past the images; a wrong CRC; another component's image; an image of another variant;
+  -- an output of 49 bytes
   pub w1 : makeOf [] eight (replicate 3 9) ≡ refusedBy 1 0 (replicate 3 9)
   pub w2 : makeOf (set (given offerOne 0 8) 3 1) eight (replicate 50 9) ≡ refusedBy 2 1 (replicate 50 9)
   pub w3 : makeOf (given offerOne 0 8 ++ given offerOne 0 8) eight (replicate 50 9) ≡ refusedBy 3 2 (replicate 50 9)
   pub w4 : makeOf (given offerOne 0 9) eight (replicate 50 9) ≡ refusedBy 4 1 (replicate 50 9)
   pub w5 : makeOf (given offerOne 0 8) (set eight 5 8) (replicate 50 9) ≡ refusedBy 5 1 (replicate 50 9)
-  pub w6 : makeOf (given offerTwo 0 8) eight (replicate 50 9) ≡ refusedBy 6 1 (replicate 50 9)
+  pub w6-id : makeOf (set (given offerOne 0 8) 2 2) eight (replicate 50 9) ≡ refusedBy 6 1 (replicate 50 9)
+  pub w6-version : makeOf (set (given offerOne 0 8) 4 1) eight (replicate 50 9) ≡ refusedBy 6 1 (replicate 50 9)
   pub w8 : makeOf (given offerOne 0 8) eight (replicate 49 9) ≡ refusedBy 8 0 (replicate 49 9)

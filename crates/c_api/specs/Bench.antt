@@ -30,7 +30,7 @@ use Rattle.c_types.specs.Numbers.{SERVED, filledTo}
 use Rattle.c_types.specs.Lent.{leaves}
 use Rattle.c_device.specs.Device.{setUpCall, versionsCall, resetCall}
 use Rattle.c_device_packet.specs.Packet.{REPLIES-SIZE, offerCall, contentCall, contentCallStaging}
-use Rattle.bundle_writer.specs.Bench.{eight, offerOne, offerTwo, given, record8}
+use Rattle.bundle_writer.specs.Bench.{eight, offerOne, given, record8}
 use Rattle.c_host.specs.Check.{checkCall}
 use Rattle.c_writer.specs.Write.{writeCall}
 use Rattle.c_host.specs.Host.{freshCall, reportCall}
@@ -227,7 +227,7 @@ pub record CallsHold : Type 0 where
         written = record { number = SERVED; entry = 0; length = 50 };
         out = 1 ∷ 1 ∷ replicate 6 0 ++ (given offerOne 32 18 ++ (record8 0 6 (0x00 ∷ 0x03 ∷ 0x00 ∷ 0x01 ∷ 1 ∷ 7 ∷ []) ++ (record8 6 2 (0x9A ∷ 0x34 ∷ []) ++ (9 ∷ 9 ∷ []))));
       }
-  pub makes-none : writeCall (given offerTwo 0 8) eight (replicate 50 9) ≡ record { written = record { number = 0x5706; entry = 1; length = 0 }; out = replicate 50 9 }
+  pub makes-none : writeCall (set (given offerOne 0 8) 2 2) eight (replicate 50 9) ≡ record { written = record { number = 0x5706; entry = 1; length = 0 }; out = replicate 50 9 }
   pub starts : freshCall (replicate HOST-SIZE 9) 0xA5 ≡ leaves SERVED freshOne
   pub begins : stepCall freshOne small [] (replicate LONG-SIZE 9) ≡ begun
   pub begins-checked : stepCheckedCall freshOne smallContents small [] (replicate LONG-SIZE 9) ≡ begun

@@ -1,5 +1,5 @@
 -- What C builds, C reads back (document 01, "Packets"), for all values of the types: where a build is served, the call that reads such packets tells the same
--- fields of the packet that it left. Unused data and components past the count are read as zero. And what C writes as a bundle, C's check accepts.
+-- fields of the packet that it left. Unused data and components past the count are read as zero. And what C writes as a bundle, C's check accepts (document 02, A3).
 use Prim.Native.Nat.{ℕ, _*_, _^_, _<_}
 use mathlib.Core.Path.{_≡_}
 use mathlib.Core.List.{List}
@@ -100,8 +100,8 @@ ExtendedCallsReadBack =
     → ReadsBack (buildExtendedCall (s .code) (s .token) packet) readOfferCall
     (record { number = SERVED; kind = KIND-EXTENDED; offer = noOffer; signal = record { code = s .code; token = s .token } })
 
--- cfu_bundle_write and cfu_bundle_check: where the write was served, the check of as many bytes of the output as it answered is served, with as many offers as
--- the list has entries
+-- cfu_bundle_write and cfu_bundle_check (document 02, A3): where the write was served, the check of as many bytes of the output as it answered, into contents of
+-- their size, is served, with as many offers as the list has entries
 abbrev pub WrittenChecks : Type 0
 WrittenChecks =
     (list images out contents : List ℕ) → Bytes list → Bytes images → length contents ≡ CONTENTS-SIZE

@@ -1,5 +1,6 @@
 /*
- * cfu.h: the C interface of the proved CFU updater (library libcfu.a, crates crates/c_*).
+ * cfu.h: the C interface of the proved CFU updater (crates crates/c_*). Two libraries libcfu serve it: the one of tools/library, for x86-64 Linux, proved down
+ * to the source that it is compiled from, and the one of tools/c_library, for any target of rustc, whose source is made from the proved one.
  *
  * The device end, the host end, the check of a bundle and its writing, and the building and reading of each packet of CFU, Microsoft's Component Firmware
  * Update protocol.
@@ -21,10 +22,10 @@
  *   - the number of a refusal. Refusals are rows of the updater's build document (docs/RULES.md restates them): a letter and a number, here the letter's
  *     ASCII code times 256 plus the number, so that D1 is 0x4401 ('D' is 0x44).
  *
- * A refusal leaves every record, the staging buffer and the contents that are lent to a step as they were, and every other field of a returned struct is 0,
+ * A refusal leaves every record, the staging buffer, the list and the contents that are lent as they were, and every other field of a returned struct is 0,
  * except the entry that a B or W row names and the fields of a report with N1, which are those of the record as it is read. What it leaves in a buffer for
- * output is said at each call. The first row that applies is returned: C1, C2, C3, then the others in the order of their numbers, B rows before N1. C1 to C3
- * are this interface's own: with one of them nothing at all is changed.
+ * output is said at each call. The first row that applies is returned: C1, C2, C3, then the others in the order of their numbers, B rows before N1, and C4 last.
+ * C1 to C4 are this interface's own: with one of them nothing at all is changed. cfu_words.h has words for the numbers.
  *
  * CFU_SERVED says that the call was carried out, not that the peer agreed: REJECT, SKIP, BUSY and the errors of a block stand in the packets, and how a host
  * ended stands in its report.
@@ -38,14 +39,32 @@
 #include <stddef.h>
 #include <stdint.h>
 
-/* The library is built for x86-64. For another target take the Rust crate that tools/rust_crate makes. */
-#if SIZE_MAX != 0xFFFFFFFFFFFFFFFF
-#error "libcfu.a has a size_t of 64 bits"
+/* A bundle can have 65,536 bytes, which a size_t of 16 bits does not count. */
+#if defined(SIZE_MAX) && SIZE_MAX < 0xFFFFFFFF
+#error "libcfu has a size_t of 32 bits or more"
 #endif
 
 #ifdef __cplusplus
 extern "C" {
 #endif
+
+/* ---- The version of this interface ---- */
+
+/* The major counts changes that a program must follow, the minor what was only added. */
+#define CFU_INTERFACE_MAJOR 1
+#define CFU_INTERFACE_MINOR 0
+
+/* ---- Versions of firmware ---- */
+
+/* A version as its 32-bit number, which its four lent bytes are; and the least version of a need, without the variant, as cfu_offer.least has it. The parts are
+ * not judged: a minor is under 65,536, the others are under 256. */
+#define CFU_VERSION(major, minor, variant) ((uint32_t)(major) << 24 | (uint32_t)(minor) << 8 | (uint32_t)(variant))
+#define CFU_VERSION_MAJOR(number) ((uint8_t)((number) >> 24))
+#define CFU_VERSION_MINOR(number) ((uint16_t)((number) >> 8))
+#define CFU_VERSION_VARIANT(number) ((uint8_t)(number))
+#define CFU_LEAST(major, minor) ((uint32_t)(major) << 16 | (uint32_t)(minor))
+#define CFU_LEAST_MAJOR(least) ((uint8_t)((least) >> 16))
+#define CFU_LEAST_MINOR(least) ((uint16_t)(least))
 
 /* ---- Sizes of lent buffers, in bytes ---- */
 
@@ -110,11 +129,12 @@ extern "C" {
 
 #define CFU_SERVED 0
 
-/* A lent buffer is not of its size. C1: a record or contents; also contents with a row over that of CFU_B8, or with no row and a count of offers that is not 1
- * to CFU_OFFER_LIMIT. C2: a list or data that is read. C3: a buffer for what comes out. */
+/* A lent buffer is not of its size, or has not the place that is asked for. C1: a record or contents; also contents with a row over that of CFU_B8, or with no row and a count of offers that is not 1
+ * to CFU_OFFER_LIMIT. C2: a list or data that is read. C3: a buffer for what comes out. C4: a place that the list, the device or the bundle does not have. */
 #define CFU_C1 0x4301
 #define CFU_C2 0x4302
 #define CFU_C3 0x4303
+#define CFU_C4 0x4304
 
 /* Set-up: staging over 65,536 bytes; a count not 1 to CFU_COMPONENT_LIMIT; an id outside 1 to 0xDF or repeated; a region under 8 bytes, past the buffer or over
  * another. */
@@ -168,7 +188,7 @@ extern "C" {
 /* ---- How far a host is (cfu_report.ending) ---- */
 
 #define CFU_RUNNING 0
-#define CFU_DONE 1
+#define CFU_DONE 1    /* the host came to its end; cfu_report.completed says how many offers the device took, which may be none */
 #define CFU_H1 0x4801 /* a content status other than 0; cfu_report.status has it */
 #define CFU_H2 0x4802 /* a reply that is not 16 bytes, or whose token or sequence is not the host's */
 #define CFU_H3 0x4803 /* a reply that the table of steps has no step for */
@@ -310,6 +330,32 @@ typedef struct cfu_report {
     uint32_t status; /* the content status of H1, otherwise 0 */
 } cfu_report;
 
+/* A component of the list that set-up takes: id, running version, and the region's base and length. */
+typedef struct cfu_listed {
+    uint8_t id;
+    cfu_version running;
+    uint32_t base;
+    uint32_t length;
+} cfu_listed;
+
+typedef struct cfu_component {
+    uint32_t number;
+    uint8_t id;
+    cfu_version running;
+    uint32_t base;
+    uint32_t length;
+    uint8_t pending;    /* 1 where a version is staged, which a reset makes the running one, otherwise 0 */
+    cfu_version staged; /* that version, zero where none is staged */
+} cfu_component;
+
+typedef struct cfu_entry {
+    uint32_t number;
+    uint32_t entry; /* the entry that a bundle's row names */
+    uint32_t offset;
+    uint32_t length; /* of the body, which stands at that offset in the bundle */
+    uint32_t records;
+} cfu_entry;
+
 /*
  * ---- The device ----
  *
@@ -322,7 +368,7 @@ typedef struct cfu_report {
  *    12  owed ready-reply (1): 0 none, 1 owed; 13 its token (1)
  *    14  CFU_COMPONENT_LIMIT times 18 bytes: id (1), running version (4), region base (4), region length (4), staged (1): 0 nothing, 1 pending; staged
  *        version (4)
- * Only these calls need to write one; byte 14 + 18 i + 13 tells whether component i is pending. Fields that the stage does not have, the token where none is
+ * Only these calls need to write one, and cfu_device_component reads a component. Fields that the stage does not have, the token where none is
  * owed and the staged version where nothing is staged are not looked at, whatever stands there; a call that writes the session or the component writes zero
  * there. A served offer call writes the session anew, a served content call the session and the component that it was on (the first while it was idle), set-up
  * and a reset the whole record; so a packet that changes nothing of the record may still put zeros for bytes that are not looked at. Bytes with another stage,
@@ -331,12 +377,24 @@ typedef struct cfu_report {
  */
 
 /*
+ * Puts a component into the list that set-up takes, at a place counted from 0; the other places stay. Zero the list first. Nothing of the component is judged
+ * here: set-up does that. Returns CFU_SERVED, C2 (list) or C4 (a place that is not under CFU_COMPONENT_LIMIT).
+ */
+uint32_t cfu_list_put(uint8_t *list, size_t list_len, uint32_t place, cfu_listed component);
+
+/*
  * Makes the record of a device that is idle, with nothing staged and nothing owed. list: CFU_COMPONENT_LIMIT times id (1), running version (4), region base
  * (4), region length (4), CFU_LIST_SIZE bytes, of which the first `count` are used; all are copied into the record. Of the staging buffer, plain memory, only
  * the length counts, which later calls must lend again. Returns CFU_SERVED, C1 (device), C2 (list) or S1 to S4. A refusal leaves the record as it was.
  */
 uint32_t cfu_device_set_up(uint8_t *device, size_t device_len, uint16_t platform, const uint8_t *list, size_t list_len, uint8_t count,
                            const uint8_t *staging, size_t staging_len);
+
+/*
+ * The component at a place of the list that set-up took, counted from 0: what runs, its region, and the version that is staged. Returns CFU_SERVED, C1 (device),
+ * D1, or C4 (a place that is not under the count of components).
+ */
+cfu_component cfu_device_component(const uint8_t *device, size_t device_len, uint32_t place);
 
 /*
  * Writes the version reply, CFU_LONG_SIZE bytes. Returns CFU_SERVED, C1 (device), C3 (packet), or D1 with the packet zeroed.
@@ -386,11 +444,18 @@ uint32_t cfu_device_reset(uint8_t *device, size_t device_len);
 cfu_check cfu_bundle_check(const uint8_t *bundle, size_t bundle_len, uint8_t *contents, size_t contents_len);
 
 /*
+ * The entry at a place of a checked bundle, counted from 0: where its body stands and how many records it has. Returns CFU_SERVED, C1 (contents), the B row that
+ * the contents keep with its entry, or C4 (a place that is not under the count of offers). Required of the caller, as for cfu_host_step_checked: the contents are
+ * those that a check left. Of others only what stands there is told, which may lie outside of the bundle.
+ */
+cfu_entry cfu_contents_entry(const uint8_t *contents, size_t contents_len, uint32_t place);
+
+/*
  * Writes a bundle that the check accepts. list: for each offer, in the order of the bundle, CFU_BUNDLE_ENTRY_SIZE bytes: the offer (16), at 16 where its image
  * starts in `images` (4), at 20 how long it is (4). The offer is as cfu_build_offer leaves it, with segment, I, V and token 0, protocol 2 and an id from 1 to
  * CFU_ID_LIMIT. An image is a whole region: bytes 0 to 3 its version, byte 4 its id, the last two bytes the CRC of all before them, high byte first. Returns
  * CFU_SERVED with the bundle's length: the bundle is at the start of `out`, and every byte of `out` past it is as it was. Or returns the first of W1 to W8 that
- * applies, each tried over the whole list before the next, with the entry that it names, and `out` is as it was; never C1 to C3. Of an image the two CRC bytes
+ * applies, each tried over the whole list before the next, with the entry that it names, and `out` is as it was; never C1 to C4. Of an image the two CRC bytes
  * are always the last record; of the bytes before them each longest run of 52 or more bytes 0xFF is left out, since an erase restores it, and what is left is
  * cut at 52 bytes in rising address, anew after each run that is left out. An output of CFU_BUNDLE_LIMIT bytes is never too short.
  */

@@ -8,9 +8,10 @@
  *     0  the bundle is written
  *     1  the writer refuses (W1 to W7); nothing is written
  *     2  the command line is wrong
- *     3  a file cannot be read or written, or an offer file has not 16 bytes
+ *     3  a file cannot be read or written, an offer file has not 16 bytes, or what was printed is lost
  */
 #include "cfu.h"
+#include "cfu_words.h"
 
 #include <errno.h>
 #include <stdbool.h>
@@ -35,29 +36,17 @@ static const char USAGE[] =
     "  0  the bundle is written\n"
     "  1  the writer refuses (W1 to W7); nothing is written\n"
     "  2  the command line is wrong\n"
-    "  3  a file cannot be read or written, or an offer file has not " TEXT(CFU_SHORT_SIZE) " bytes\n";
+    "  3  a file cannot be read or written, an offer file has not " TEXT(CFU_SHORT_SIZE) " bytes, or what was printed is lost\n";
 
-/* ---- Words for rows ---- */
-
-/* The rows W1 to W8. */
-static const char *const ROWS[] = {
-    "a bundle has 1 to " TEXT(CFU_OFFER_LIMIT) " offers",
-    "the offer's bytes 0, 1, 3 and 13 must be zero, byte 12 must be 2, and the id 1 to 223",
-    "an earlier offer is for the same component",
-    "an image has " TEXT(CFU_REGION_LEAST) " to 65,536 bytes",
-    "the image's CRC is wrong",
-    "the image is of another version or for another component than its offer",
-    "the bundle is over 65,536 bytes",
-    "the output is too short for the bundle",
-};
+/* ---- Refusals ---- */
 
 static int refused(cfu_written w)
 {
-    printf("refused W%u %u\n", (unsigned)(w.number & 0xFF), (unsigned)w.entry);
+    printf("refused %s %u\n", cfu_name(CFU_OF_CALL, w.number), (unsigned)w.entry);
     fprintf(stderr, "bundle: ");
     if (w.entry != 0)
         fprintf(stderr, "entry %u: ", (unsigned)w.entry);
-    fprintf(stderr, "%s\n", ROWS[w.number - CFU_W1]);
+    fprintf(stderr, "%s\n", cfu_sentence(CFU_OF_CALL, w.number));
     return REFUSED;
 }
 
@@ -155,12 +144,21 @@ static int run(const char *out, char **files, int count)
     return WRITTEN;
 }
 
+/* The status, unless what was printed is lost. */
+static int ended(int status)
+{
+    if (fflush(stdout) == 0 && !ferror(stdout))
+        return status;
+    failed("standard output", strerror(errno));
+    return NO_FILE;
+}
+
 int main(int count, char **words)
 {
     for (int i = 1; i < count; i++) {
         if (strcmp(words[i], "--help") == 0) {
             printf("%s", USAGE);
-            return 0;
+            return ended(WRITTEN);
         }
         if (strncmp(words[i], "--", 2) == 0)
             return wrong("no such option");
@@ -169,5 +167,5 @@ int main(int count, char **words)
         return wrong(count < 2 ? "no file for the bundle" : "no offer with its image");
     if (count % 2 != 0)
         return wrong("an offer without its image");
-    return run(words[1], words + 2, count - 2);
+    return ended(run(words[1], words + 2, count - 2));
 }

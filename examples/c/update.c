@@ -12,11 +12,13 @@
  *     4  the bundle is refused (B1 to B8)
  *     5  the device is refused at set-up (S1 to S4)
  *     6  the host ended the update (H1 to H4)
- *     7  a call refused what this program lent to it (C1 to C3, D1 to D3, N1, P1, P2)
+ *     7  a call refused what this program lent to it (C1 to C4, D1 to D3, N1, P1, P2)
+ *     8  what was printed is lost
  */
 #define _POSIX_C_SOURCE 200809L /* isatty, fileno */
 
 #include "cfu.h"
+#include "cfu_words.h"
 
 #include <errno.h>
 #include <stdarg.h>
@@ -26,7 +28,7 @@
 #include <string.h>
 #include <unistd.h>
 
-enum status { ALL_COMPLETED, NOT_ALL_TAKEN, WRONG_COMMAND, NO_FILE, BUNDLE_REFUSED, SET_UP_REFUSED, UPDATE_ENDED, CALL_REFUSED };
+enum status { ALL_COMPLETED, NOT_ALL_TAKEN, WRONG_COMMAND, NO_FILE, BUNDLE_REFUSED, SET_UP_REFUSED, UPDATE_ENDED, CALL_REFUSED, OUTPUT_LOST };
 
 /* A number of cfu.h as text. */
 #define TEXT_OF(number) #number
@@ -53,128 +55,18 @@ static const char USAGE[] =
     "  4  the bundle is refused (B1 to B8)\n"
     "  5  the device is refused at set-up (S1 to S4)\n"
     "  6  the host ended the update (H1 to H4)\n"
-    "  7  a call refused what this program lent to it (C1 to C3, D1 to D3, N1, P1, P2)\n";
+    "  7  a call refused what this program lent to it (C1 to C4, D1 to D3, N1, P1, P2)\n"
+    "  8  what was printed is lost\n";
 
-/* ---- Words for numbers ---- */
-
-struct words {
-    uint32_t number;
-    const char *words;
-};
-
-/* The rows of the build document. */
-static const struct words ROWS[] = {
-    {CFU_C1, "a record is not of its size"},
-    {CFU_C2, "a list or data to be read is not of its size"},
-    {CFU_C3, "a buffer for what comes out is not of its size"},
-    {CFU_S1, "the staging memory is over 65,536 bytes"},
-    {CFU_S2, "a device has 1 to " TEXT(CFU_COMPONENT_LIMIT) " components"},
-    {CFU_S3, "a component's id is not 1 to 223, or two have the same"},
-    {CFU_S4, "a region is under " TEXT(CFU_REGION_LEAST) " bytes, reaches past the staging memory, or overlaps another"},
-    {CFU_D1, "the device's record breaks its rules"},
-    {CFU_D2, "the staging memory has not the length that it had at set-up"},
-    {CFU_D3, "the packet has not the length of its kind"},
-    {CFU_P1, "the packet has not the length of its kind"},
-    {CFU_P2, "a value does not fit its field"},
-    {CFU_N1, "the host's record does not fit the bundle"},
-    {CFU_B1, "a bundle has 8 to 65,536 bytes"},
-    {CFU_B2, "the head is not that of a bundle: byte 1 must be 1, bytes 2 to 7 zero"},
-    {CFU_B3, "a bundle has 1 to " TEXT(CFU_OFFER_LIMIT) " offers"},
-    {CFU_B4, "the file ends inside the table of offers"},
-    {CFU_B5, "the offer's bytes 0, 1, 3 and 13 must be zero, byte 12 must be 2, and the id 1 to 223"},
-    {CFU_B6, "an earlier entry offers the same component"},
-    {CFU_B7, "the body does not start where the one before it ends, or the last does not end with the file"},
-    {CFU_B8, "the body is empty, or has a record that is cut, empty or over 52 bytes"},
-    {CFU_H1, "the device refused a block"},
-    {CFU_H2, "the reply is not 16 bytes, or answers another packet"},
-    {CFU_H3, "the reply has a status that does not answer what was sent"},
-    {CFU_H4, "the device was busy nine times for one offer"},
-};
-
-static const struct words OFFER_STATUS[] = {
-    {CFU_OFFER_SKIP, "SKIP"},   {CFU_OFFER_ACCEPT, "ACCEPT"}, {CFU_OFFER_REJECT, "REJECT"},
-    {CFU_OFFER_BUSY, "BUSY"},   {CFU_OFFER_READY, "READY"},   {CFU_OFFER_UNSUPPORTED, "unsupported"},
-};
-
-static const struct words REASONS[] = {
-    {CFU_REJECT_OLD_FW, "what runs is not older"},
-    {CFU_REJECT_INV_COMPONENT, "no such component on this platform"},
-    {CFU_REJECT_SWAP_PENDING, "the component awaits a reset"},
-    {CFU_REJECT_WRONG_PROTOCOL, "the protocol is not 2"},
-    {CFU_REJECT_WRONG_SEGMENT, "the segment is not 0"},
-    {CFU_REJECT_WRONG_VARIANT, "another variant runs"},
-};
-
-static const struct words CONTENT_STATUS[] = {
-    {CFU_SUCCESS, "taken"},
-    {CFU_ERROR_VERIFY, "the image is for another component"},
-    {CFU_ERROR_CRC, "the image's CRC is wrong"},
-    {CFU_ERROR_VERSION, "the image is of another variant than what runs, or older"},
-    {CFU_ERROR_INVALID_ADDR, "the block reaches past the region"},
-    {CFU_ERROR_NO_OFFER, "no offer was accepted"},
-    {CFU_ERROR_INVALID, "the block's length, flags or sequence are wrong"},
-};
-
-static const struct words INFORMATION[] = {
-    {CFU_INFO_START_ENTIRE_TRANSACTION, "start entire transaction"},
-    {CFU_INFO_START_OFFER_LIST, "start offer list"},
-    {CFU_INFO_END_OFFER_LIST, "end offer list"},
-};
-
-#define WORDS(table, number) words_for(table, sizeof(table) / sizeof(table)[0], number)
-
-static const char *words_for(const struct words *table, size_t count, uint32_t number)
-{
-    for (size_t i = 0; i < count; i++)
-        if (table[i].number == number)
-            return table[i].words;
-    return "unknown";
-}
-
-/* The row's own name: a letter and a number. */
-static void print_row(FILE *out, uint32_t number)
-{
-    fprintf(out, "%c%u", (int)(number >> 8), (unsigned)(number & 0xFF));
-}
+/* ---- Refusals ---- */
 
 static int refused(uint32_t number, uint32_t entry, int status)
 {
-    printf("refused ");
-    print_row(stdout, number);
+    printf("refused %s", cfu_name(CFU_OF_CALL, number));
     if (entry != 0)
         printf(", entry %u", (unsigned)entry);
-    printf(": %s\n", WORDS(ROWS, number));
+    printf(": %s\n", cfu_sentence(CFU_OF_CALL, number));
     return status;
-}
-
-/* ---- Versions and numbers in bytes ---- */
-
-static uint32_t number_in(const uint8_t *bytes, unsigned size)
-{
-    uint32_t number = 0;
-    while (size-- > 0)
-        number = number << 8 | bytes[size];
-    return number;
-}
-
-static void put_number(uint8_t *bytes, unsigned size, uint32_t number)
-{
-    for (unsigned i = 0; i < size; i++)
-        bytes[i] = (uint8_t)(number >> 8 * i);
-}
-
-/* A version in bytes: variant, minor (2), major. */
-static void put_version(uint8_t *bytes, cfu_version v)
-{
-    bytes[0] = v.variant;
-    put_number(bytes + 1, 2, v.minor);
-    bytes[3] = v.major;
-}
-
-static cfu_version version_in(const uint8_t *bytes)
-{
-    cfu_version v = {bytes[3], (uint16_t)number_in(bytes + 1, 2), bytes[0]};
-    return v;
 }
 
 static void print_version(cfu_version v)
@@ -184,16 +76,10 @@ static void print_version(cfu_version v)
 
 /* ---- The device ---- */
 
-struct component {
-    uint8_t id;
-    cfu_version running;
-    uint32_t base, length;
-};
-
 struct device {
     uint16_t platform;
     uint8_t count;
-    struct component list[CFU_COMPONENT_LIMIT];
+    cfu_listed list[CFU_COMPONENT_LIMIT];
     uint8_t record[CFU_DEVICE_SIZE];
     uint8_t *staging;
     size_t staging_len;
@@ -203,37 +89,29 @@ static uint32_t set_up(struct device *d)
 {
     uint8_t list[CFU_LIST_SIZE] = {0};
     for (uint8_t i = 0; i < d->count; i++) {
-        uint8_t *at = list + CFU_LISTED_SIZE * i;
-        at[0] = d->list[i].id;
-        put_version(at + CFU_COMPONENT_RUNNING_AT, d->list[i].running);
-        put_number(at + CFU_COMPONENT_REGION_AT, 4, d->list[i].base);
-        put_number(at + CFU_COMPONENT_REGION_AT + 4, 4, d->list[i].length);
+        uint32_t number = cfu_list_put(list, sizeof list, i, d->list[i]);
+        if (number != CFU_SERVED)
+            return number;
     }
     memset(d->record, 0, sizeof d->record);
     return cfu_device_set_up(d->record, sizeof d->record, d->platform, list, sizeof list, d->count, d->staging, d->staging_len);
 }
 
-/* What runs is in the version reply; what is pending is in the device's record only. */
+/* What runs and what is pending, of each component up to the first place that has none. */
 static uint32_t show_device(const struct device *d)
 {
-    uint8_t packet[CFU_LONG_SIZE], components[CFU_COMPONENTS_SIZE];
-    uint32_t number = cfu_device_version_reply(d->record, sizeof d->record, packet, sizeof packet);
-    if (number != CFU_SERVED)
-        return number;
-    cfu_version_reply reply = cfu_read_version_reply(packet, sizeof packet, components, sizeof components);
-    if (reply.number != CFU_SERVED)
-        return reply.number;
-    for (unsigned i = 0; i < reply.count; i++) {
-        const uint8_t *running = components + CFU_RUNNING_SIZE * i, *own = d->record + CFU_DEVICE_COMPONENTS_AT + CFU_COMPONENT_SIZE * i;
-        printf("  component %u runs ", (unsigned)running[CFU_RUNNING_ID_AT]);
-        print_version(version_in(running));
-        if (own[CFU_COMPONENT_STAGED_AT] == 1) {
+    for (uint32_t place = 0;; place++) {
+        cfu_component c = cfu_device_component(d->record, sizeof d->record, place);
+        if (c.number != CFU_SERVED)
+            return c.number == CFU_C4 ? CFU_SERVED : c.number;
+        printf("  component %u runs ", (unsigned)c.id);
+        print_version(c.running);
+        if (c.pending) {
             printf(", pending ");
-            print_version(version_in(own + CFU_COMPONENT_STAGED_AT + 1));
+            print_version(c.staged);
         }
         printf("\n");
     }
-    return CFU_SERVED;
 }
 
 /*
@@ -281,10 +159,10 @@ static cfu_offer offer_of(const struct bundle *b, uint32_t entry)
     return cfu_read_offer(b->bytes + CFU_BUNDLE_HEAD_SIZE + CFU_BUNDLE_ENTRY_SIZE * (entry - 1), CFU_SHORT_SIZE).offer;
 }
 
-/* The count of records that the check wrote into the contents. */
+/* How many records the check found in an entry. */
 static uint32_t records_of(const struct bundle *b, uint32_t entry)
 {
-    return number_in(b->contents + CFU_CONTENTS_BODIES_AT + CFU_BODY_SIZE * (entry - 1) + CFU_BODY_RECORDS_AT, 4);
+    return cfu_contents_entry(b->contents, sizeof b->contents, entry - 1).records;
 }
 
 static void show_bundle(const char *name, const struct bundle *b)
@@ -295,7 +173,7 @@ static void show_bundle(const char *name, const struct bundle *b)
         printf("  offer %u: component %u to ", (unsigned)i, (unsigned)o.id);
         print_version(o.version);
         if (o.need != 0)
-            printf(", needs component %u at %u.%u", (unsigned)o.need, (unsigned)(o.least >> 16), (unsigned)(o.least & 0xFFFF));
+            printf(", needs component %u at %u.%u", (unsigned)o.need, (unsigned)CFU_LEAST_MAJOR(o.least), (unsigned)CFU_LEAST_MINOR(o.least));
         printf(", platform 0x%04X, records %u\n", (unsigned)o.platform, (unsigned)records_of(b, i));
     }
 }
@@ -329,7 +207,7 @@ static void tell_offer_packet(struct progress *p, const struct bundle *b, const 
 {
     cfu_offer_packet sent = cfu_read_offer(packet, CFU_SHORT_SIZE);
     cfu_offer_reply got = cfu_read_offer_reply(reply, reply_len);
-    const char *answer = got.number == CFU_SERVED ? WORDS(OFFER_STATUS, got.status) : "no reply";
+    const char *answer = got.number == CFU_SERVED ? cfu_name(CFU_OF_OFFER_STATUS, got.status) : "no reply";
     if (sent.kind == CFU_KIND_INFORMATION && sent.signal.code == CFU_INFO_START_OFFER_LIST) {
         end_line(p);
         printf("pass %u\n", (unsigned)pass);
@@ -339,9 +217,9 @@ static void tell_offer_packet(struct progress *p, const struct bundle *b, const 
         if (sent.kind == CFU_KIND_OFFER)
             printf("offer for component %u\n", (unsigned)sent.offer.id);
         else if (sent.kind == CFU_KIND_INFORMATION)
-            printf("information: %s\n", WORDS(INFORMATION, sent.signal.code));
+            printf("information: %s\n", cfu_sentence(CFU_OF_INFORMATION, sent.signal.code));
         else
-            printf("extended: notify on ready\n");
+            printf("extended: %s\n", cfu_sentence(CFU_OF_EXTENDED, sent.signal.code));
         print_bytes("<-", reply, reply_len);
         printf("%s\n", answer);
     }
@@ -352,9 +230,9 @@ static void tell_offer_packet(struct progress *p, const struct bundle *b, const 
     end_line(p);
     printf("  offer %u: %s", (unsigned)p->entry, answer);
     if (got.number == CFU_SERVED && got.status == CFU_OFFER_SKIP)
-        printf(": what it needs is not there");
+        printf(": %s", cfu_sentence(CFU_OF_OFFER_STATUS, got.status));
     if (got.status == CFU_OFFER_REJECT)
-        printf(": %s", WORDS(REASONS, got.reason));
+        printf(": %s", cfu_sentence(CFU_OF_REASON, got.reason));
     printf("\n");
 }
 
@@ -369,7 +247,7 @@ static void tell_content_packet(struct progress *p, const struct bundle *b, cons
         print_bytes("->", packet, CFU_LONG_SIZE);
         printf("content: block %u, bytes %u at address %u\n", block, (unsigned)sent.length, (unsigned)sent.address);
         print_bytes("<-", reply, reply_len);
-        printf("%s\n", got.number == CFU_SERVED ? WORDS(CONTENT_STATUS, got.status) : "no reply");
+        printf("%s\n", got.number == CFU_SERVED ? cfu_sentence(CFU_OF_CONTENT_STATUS, got.status) : "no reply");
     } else if (p->terminal) {
         printf("\r  offer %u: block %u of %u, %u %%", (unsigned)p->entry, block, blocks, 100 * block / blocks);
         fflush(stdout);
@@ -390,11 +268,9 @@ static int show_report(const struct bundle *b, cfu_report r)
         printf("done\n");
         status = r.completed == b->count ? ALL_COMPLETED : NOT_ALL_TAKEN;
     } else {
-        printf("ended ");
-        print_row(stdout, r.ending);
-        printf(": %s", WORDS(ROWS, r.ending));
+        printf("ended %s: %s", cfu_name(CFU_OF_ENDING, r.ending), cfu_sentence(CFU_OF_ENDING, r.ending));
         if (r.ending == CFU_H1)
-            printf(" with status 0x%02X: %s", (unsigned)r.status, WORDS(CONTENT_STATUS, r.status));
+            printf(" with status 0x%02X: %s", (unsigned)r.status, cfu_sentence(CFU_OF_CONTENT_STATUS, r.status));
         printf("\n");
     }
     printf("report: completed %u of %u, packets %u, passes %u\n", (unsigned)r.completed, (unsigned)b->count, (unsigned)r.packets, (unsigned)r.passes);
@@ -459,7 +335,7 @@ static const char *take_number(const char *text, uint32_t limit, char behind, ui
     return behind == '\0' ? end : end + 1;
 }
 
-static bool take_component(const char *text, struct component *c)
+static bool take_component(const char *text, cfu_listed *c)
 {
     uint32_t id, major, minor, variant;
     if ((text = take_number(text, 0xFF, ':', &id)) == NULL || (text = take_number(text, 0xFF, '.', &major)) == NULL ||
@@ -504,7 +380,7 @@ static int take_option(const char *name, const char *value, struct device *d, st
 /* The bench device of document 01. */
 static void take_bench(struct device *d)
 {
-    const struct component first = {1, {1, 2, 0}, 0, 64}, second = {2, {1, 1, 0}, 64, 64};
+    const cfu_listed first = {1, {1, 2, 0}, 0, 64}, second = {2, {1, 1, 0}, 64, 64};
     d->list[0] = first;
     d->list[1] = second;
     d->count = 2;
@@ -582,6 +458,15 @@ static int run(struct device *d, const struct options *o)
     return status;
 }
 
+/* The status, unless what was printed is lost: a full disk, or an output that was closed. */
+static int ended(int status)
+{
+    if (fflush(stdout) == 0 && !ferror(stdout))
+        return status;
+    fprintf(stderr, "update: standard output: %s\n", strerror(errno));
+    return OUTPUT_LOST;
+}
+
 int main(int count, char **words)
 {
     static struct device d = {.platform = 0x0042};
@@ -589,7 +474,7 @@ int main(int count, char **words)
     for (int i = 1; i < count; i++)
         if (strcmp(words[i], "--help") == 0) {
             printf("%s", USAGE);
-            return 0;
+            return ended(ALL_COMPLETED);
         }
     int status = take_options(count, words, &d, &o);
     if (status != 0)
@@ -600,5 +485,5 @@ int main(int count, char **words)
     memset(d.staging, 0xFF, d.staging_len);
     status = run(&d, &o);
     free(d.staging);
-    return status;
+    return ended(status);
 }

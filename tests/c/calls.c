@@ -1,10 +1,11 @@
 /*
  * calls.c: each function of include/cfu.h, called from C on the values of document 01 (E1 to E10, E13, and a case of each row that the interface gives) and of
- * document 02, A3. The bytes around each lent buffer are checked: no call writes there.
+ * document 02, A3; and the words and macros of the headers. The bytes around each lent buffer are checked: no call writes there.
  *
  * usage: calls BUNDLE, where BUNDLE is examples/e12.bundle
  */
 #include "cfu.h"
+#include "cfu_words.h"
 
 #include <stdio.h>
 #include <string.h>
@@ -791,6 +792,131 @@ static void writer_calls(void)
     writer_rows();
 }
 
+/* ---- One part of lent bytes ---- */
+
+static int is_version(cfu_version v, uint8_t major, uint16_t minor, uint8_t variant)
+{
+    return v.major == major && v.minor == minor && v.variant == variant;
+}
+
+/* A refused call tells of no component. */
+static int no_component(cfu_component c, uint32_t number)
+{
+    return c.number == number && c.id == 0 && is_version(c.running, 0, 0, 0) && c.base == 0 && c.length == 0 && c.pending == 0 && is_version(c.staged, 0, 0, 0);
+}
+
+static int is_entry(cfu_entry e, uint32_t number, uint32_t entry, uint32_t offset, uint32_t length, uint32_t records)
+{
+    return e.number == number && e.entry == entry && e.offset == offset && e.length == length && e.records == records;
+}
+
+static void list_calls(void)
+{
+    const cfu_listed one = {1, {1, 2, 0}, 0, 64}, two = {2, {1, 1, 0}, 64, 64}, odd = {0xFF, {0x11, 0x2233, 0x44}, 0x55667788, 0x99AABBCC};
+    /* the bench's list, in any order of the places */
+    CLEAR(list, 0);
+    CHECK(cfu_list_put(AT(list), 1, two) == CFU_SERVED);
+    CHECK(cfu_list_put(AT(list), 0, one) == CFU_SERVED);
+    CHECK(memcmp(list + EDGE, BENCH, sizeof BENCH) == 0);
+    EDGES(list);
+    /* nothing of the component is judged, and the other places stay */
+    CLEAR(list, 0x33);
+    CHECK(cfu_list_put(AT(list), CFU_COMPONENT_LIMIT - 1, odd) == CFU_SERVED);
+    const uint8_t last[CFU_LISTED_SIZE] = {0xFF, 0x44, 0x33, 0x22, 0x11, 0x88, 0x77, 0x66, 0x55, 0xCC, 0xBB, 0xAA, 0x99};
+    CHECK(memcmp(list + EDGE + CFU_LIST_SIZE - CFU_LISTED_SIZE, last, sizeof last) == 0);
+    for (size_t i = 0; i < CFU_LIST_SIZE - CFU_LISTED_SIZE; i++)
+        CHECK(list[EDGE + i] == 0x33);
+    EDGES(list);
+    /* C2 before C4, and the list stays */
+    CLEAR(list, 0x33);
+    CHECK(cfu_list_put(AT(list), CFU_COMPONENT_LIMIT, one) == CFU_C4);
+    CHECK(cfu_list_put(AT(list), 0xFFFFFFFF, one) == CFU_C4);
+    CHECK(cfu_list_put(list + EDGE, CFU_LIST_SIZE - 1, 0, one) == CFU_C2);
+    CHECK(cfu_list_put(list + EDGE, CFU_LIST_SIZE - 1, CFU_COMPONENT_LIMIT, one) == CFU_C2);
+    CHECK(cfu_list_put(list + EDGE, 0, 0, one) == CFU_C2);
+    CHECK(FILLED(list, 0x33));
+    EDGES(list);
+}
+
+static void component_calls(void)
+{
+    bench();
+    cfu_component c = cfu_device_component(AT(device), 1);
+    CHECK(c.number == CFU_SERVED && c.id == 2 && is_version(c.running, 1, 1, 0) && c.base == 64 && c.length == 64 && c.pending == 0);
+    CHECK(is_version(c.staged, 0, 0, 0));
+    /* a staged version, and what is not looked at where none is staged */
+    const uint8_t pending[] = {1, 0, 3, 0, 1};
+    memcpy(device + EDGE + STAGED(0), pending, sizeof pending);
+    memset(device + EDGE + STAGED(1) + 1, 0x99, 4);
+    c = cfu_device_component(AT(device), 0);
+    CHECK(c.number == CFU_SERVED && c.id == 1 && is_version(c.running, 1, 2, 0) && c.base == 0 && c.length == 64 && c.pending == 1);
+    CHECK(is_version(c.staged, 1, 3, 0));
+    c = cfu_device_component(AT(device), 1);
+    CHECK(c.number == CFU_SERVED && c.pending == 0 && is_version(c.staged, 0, 0, 0));
+    /* C1, D1, C4, in this order */
+    CHECK(no_component(cfu_device_component(AT(device), 2), CFU_C4));
+    CHECK(no_component(cfu_device_component(AT(device), 256), CFU_C4));
+    CHECK(no_component(cfu_device_component(AT(device), 0xFFFFFFFF), CFU_C4));
+    CHECK(no_component(cfu_device_component(device + EDGE, CFU_DEVICE_SIZE - 1, 0), CFU_C1));
+    device[EDGE + STAGED(CFU_COMPONENT_LIMIT - 1)] = 2;
+    CHECK(no_component(cfu_device_component(AT(device), 0), CFU_D1));
+    CHECK(no_component(cfu_device_component(AT(device), 2), CFU_D1));
+    CHECK(no_component(cfu_device_component(device + EDGE, 0, 2), CFU_C1));
+    EDGES(device);
+}
+
+static void entry_calls(const uint8_t *bundle, size_t length)
+{
+    CHECK(cfu_bundle_check(bundle, length, AT(contents)).number == CFU_SERVED);
+    CHECK(is_entry(cfu_contents_entry(AT(contents), 0), CFU_SERVED, 0, 56, 74, 2));
+    CHECK(is_entry(cfu_contents_entry(AT(contents), 1), CFU_SERVED, 0, 130, 74, 2));
+    CHECK(is_entry(cfu_contents_entry(AT(contents), 2), CFU_C4, 0, 0, 0, 0));
+    CHECK(is_entry(cfu_contents_entry(AT(contents), 0xFFFFFFFF), CFU_C4, 0, 0, 0, 0));
+    CHECK(is_entry(cfu_contents_entry(contents + EDGE, CFU_CONTENTS_SIZE - 1, 0), CFU_C1, 0, 0, 0, 0));
+    /* the row that a check left, with its entry */
+    uint8_t bad[204];
+    memcpy(bad, bundle, sizeof bad);
+    bad[CFU_BUNDLE_HEAD_SIZE + CFU_BUNDLE_ENTRY_SIZE] = 1;
+    CHECK(cfu_bundle_check(bad, sizeof bad, AT(contents)).number == CFU_B5);
+    CHECK(is_entry(cfu_contents_entry(AT(contents), 0), CFU_B5, 2, 0, 0, 0));
+    CHECK(is_entry(cfu_contents_entry(AT(contents), 9), CFU_B5, 2, 0, 0, 0));
+    CHECK(cfu_bundle_check(bad, 7, AT(contents)).number == CFU_B1);
+    CHECK(is_entry(cfu_contents_entry(AT(contents), 0), CFU_B1, 0, 0, 0, 0));
+    CLEAR(contents, 0);
+    CHECK(is_entry(cfu_contents_entry(AT(contents), 0), CFU_C1, 0, 0, 0, 0));
+    EDGES(contents);
+}
+
+/* ---- Words and macros ---- */
+
+static int says(uint32_t kind, uint32_t number, const char *name, const char *sentence)
+{
+    return strcmp(cfu_name(kind, number), name) == 0 && strcmp(cfu_sentence(kind, number), sentence) == 0;
+}
+
+static void words_and_macros(void)
+{
+    CHECK(says(CFU_OF_CALL, CFU_B6, "B6", "an earlier entry offers the same component"));
+    CHECK(says(CFU_OF_CALL, CFU_S1, "S1", "the staging memory is over 65,536 bytes"));
+    CHECK(says(CFU_OF_ENDING, CFU_H1, "H1", "the device refused a block or its image"));
+    CHECK(says(CFU_OF_OFFER_STATUS, CFU_OFFER_SKIP, "SKIP", "what it needs is not there"));
+    CHECK(says(CFU_OF_REASON, CFU_REJECT_SWAP_PENDING, "SWAP_PENDING", "the component awaits a reset"));
+    CHECK(says(CFU_OF_CONTENT_STATUS, CFU_ERROR_VERIFY, "ERROR_VERIFY", "the image is for another component"));
+    CHECK(says(CFU_OF_INFORMATION, CFU_INFO_END_OFFER_LIST, "END_OFFER_LIST", "end offer list"));
+    CHECK(says(CFU_OF_EXTENDED, CFU_NOTIFY_ON_READY, "NOTIFY_ON_READY", "notify on ready"));
+    CHECK(says(CFU_OF_CALL, 0x4209, "unknown", "unknown") && says(99, CFU_B6, "unknown", "unknown"));
+    /* one number, four kinds */
+    CHECK(strcmp(cfu_name(CFU_OF_CALL, 0), "SERVED") == 0 && strcmp(cfu_name(CFU_OF_ENDING, 0), "RUNNING") == 0);
+    CHECK(strcmp(cfu_name(CFU_OF_REASON, 0), "OLD_FW") == 0 && strcmp(cfu_name(CFU_OF_CONTENT_STATUS, 0), "SUCCESS") == 0);
+    CHECK(CFU_VERSION(1, 0x0203, 4) == 0x01020304 && CFU_VERSION(255, 65535, 255) == 0xFFFFFFFF);
+    CHECK(CFU_VERSION_MAJOR(0x01020304u) == 1 && CFU_VERSION_MINOR(0x01020304u) == 0x0203 && CFU_VERSION_VARIANT(0x01020304u) == 4);
+    CHECK(CFU_LEAST(1, 0x0203) == 0x010203 && CFU_LEAST_MAJOR(0x010203u) == 1 && CFU_LEAST_MINOR(0x010203u) == 0x0203);
+    /* a version's number is what its lent bytes are, and a need's least what an offer has */
+    cfu_offer o = cfu_read_offer((const uint8_t[CFU_SHORT_SIZE]){0, 0, 1, 0xA5, 4, 3, 2, 1, 2, 7, 6, 5, 2, 0, 0x42, 0}, CFU_SHORT_SIZE).offer;
+    CHECK(is_version(o.version, CFU_VERSION_MAJOR(0x01020304u), CFU_VERSION_MINOR(0x01020304u), CFU_VERSION_VARIANT(0x01020304u)));
+    CHECK(o.least == CFU_LEAST(5, 0x0607));
+}
+
 int main(int count, char **words)
 {
     static uint8_t bundle[CFU_BUNDLE_LIMIT];
@@ -807,6 +933,10 @@ int main(int count, char **words)
     packet_calls();
     host_calls(bundle, length);
     writer_calls();
+    list_calls();
+    component_calls();
+    entry_calls(bundle, length);
+    words_and_macros();
     printf("%u passed, %u failed\n", passed, failed);
     return failed == 0 && passed > 0 ? 0 : 1;
 }

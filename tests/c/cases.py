@@ -185,7 +185,7 @@ def main():
              "  offer 2: completed, blocks 2", "done", report(2, 2, 9, 1), *BOTH_NEW)
         case("E13 packet by packet", E12, ALL, *E13_PACKETS, "done", report(2, 2, 13, 2), *BOTH_NEW, args=["--packets"])
         case("a wrong CRC", one(2, V120, with_bad_crc(2, V120)), ENDED,
-             "ended H1: the device refused a block with status 0x05: the image's CRC is wrong", report(0, 1, 5, 1), *BOTH_OLD)
+             "ended H1: the device refused a block or its image with status 0x05: the image's CRC is wrong", report(0, 1, 5, 1), *BOTH_OLD)
         if not few:
             further(command, work, case, refusal, report)
     print(f"{passed} passed, {len(failures)} failed: {' '.join(command)}")
@@ -214,12 +214,12 @@ def further(command, work, case, refusal, report):
 
     # images that the device refuses, by judgement and by content check 5
     case("an image for another component", one(2, V120, body(image(1, V120))), ENDED,
-         "ended H1: the device refused a block with status 0x04: the image is for another component", report(0, 1, 5, 1), *BOTH_OLD)
-    old_image = "ended H1: the device refused a block with status 0x07: the image is of another variant than what runs, or older"
+         "ended H1: the device refused a block or its image with status 0x04: the image is for another component", report(0, 1, 5, 1), *BOTH_OLD)
+    old_image = "ended H1: the device refused a block or its image with status 0x07: the image is of another variant than what runs, or older"
     case("an older image", one(2, V120, body(image(2, version(1, 0, 0)))), ENDED, old_image, report(0, 1, 5, 1), *BOTH_OLD)
     case("an image of another variant", one(2, V120, body(image(2, version(1, 2, 1)))), ENDED, old_image, report(0, 1, 5, 1), *BOTH_OLD)
     case("a block past the region", one(2, V120, body_record(13, bytes(52))), ENDED,
-         "ended H1: the device refused a block with status 0x09: the block reaches past the region", report(0, 1, 4, 1), *BOTH_OLD)
+         "ended H1: the device refused a block or its image with status 0x09: the block reaches past the region", report(0, 1, 4, 1), *BOTH_OLD)
 
     # devices that set-up refuses
     refusal("S1", E12, SET_UP, "refused S1", args=["--staging", "65537"])

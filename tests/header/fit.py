@@ -1,8 +1,8 @@
 #!/usr/bin/env python3
 """Checks include/cfu.h against what is proved: each function against crates/c_*/src, each struct against crates/c_types/src, each number against the constants
-of specs/ and src/.
+of specs/ and src/; and against the wrappers for C that tools/rust_crate makes, whose structs are those of its crate.
 
-fit.py [HEADER]    HEADER is include/cfu.h unless it is given
+fit.py [--made CRATE] [HEADER]    HEADER is include/cfu.h unless it is given; CRATE is a crate of tools/rust_crate
 
 Prints each misfit and ends with status 1; ends with status 0 and one line where everything fits. What the header declares and this test does not
 expect is a misfit too, so nothing in it stands unchecked.
@@ -159,7 +159,7 @@ def expected_numbers():
     lent = constants("specs", *LENT)
     for name in ("DEVICE_SIZE", "LIST_SIZE", "HOST_SIZE", "CONTENTS_SIZE", "REPLIES_SIZE", "COMPONENTS_SIZE", "SERVED"):
         say(name, "specs", lent[name])
-    own = {"C1": "WRONG_RECORD", "C2": "WRONG_LIST", "C3": "WRONG_OUTPUT"}
+    own = {"C1": "WRONG_RECORD", "C2": "WRONG_LIST", "C3": "WRONG_OUTPUT", "C4": "WRONG_PLACE"}
     for name, theirs in own.items():
         say(name, f"specs, {theirs}", lent[theirs])
     for name, number in row_numbers().items():
@@ -202,7 +202,6 @@ LAYOUTS = (
      ["SESSION_START + SLOT_AT", "SESSION_START + TOKEN_AT", "SESSION_START + NEXT_AT"]),
     (r"(\d+)  owed ready-reply \(1\): .*; (\d+) its token \(1\)", "device_bytes", ["SESSION_START + OWED_AT", "SESSION_START + OWED_TOKEN_AT"]),
     (r"(\d+)  CFU_COMPONENT_LIMIT times (\d+) bytes: id \(1\), running version", "device_bytes", ["COMPONENTS_START", "COMPONENT_SIZE"]),
-    (r"byte (\d+) \+ (\d+) i \+ (\d+) tells whether", "device_bytes", ["COMPONENTS_START", "COMPONENT_SIZE", "STAGED_AT"]),
     (r"the components of a version reply: CFU_COMPONENT_LIMIT times (\d+) ", "c_version", ["RUNNING_SIZE"]),
     (r"the 16 bytes of the bundle at (\d+) \+ (\d+) i", "bundle_layout", ["HEAD", "ENTRY"]),
     (r"at (\d+) where its image[ *\n]+starts in `images` \(4\), at (\d+) how long it is", "bundle_layout", ["SHORT_SIZE", "SHORT_SIZE + 4"]),
@@ -260,6 +259,19 @@ def c_parameter(text):
     return [(c_type(kind), name)]
 
 
+def structs_in(text):
+    """The structs that cross, as C has them."""
+    structs = {}
+    text = re.sub(r"//[^\n]*|#\[derive\([^)]*\)\]", "", text)
+    for c_layout, name, fields in re.findall(r"(#\[repr\(C\)\]\s+)?pub struct (C\w+) \{(.*?)\}", text, re.S):
+        if not c_layout:
+            misfit(f"{name}: crosses without repr(C)")
+        structs[c_type(name)] = [(c_type(kind), field) for field, kind in re.findall(r"pub (\w+): (\w+)", fields)]
+        if len(structs[c_type(name)]) != fields.count(":"):
+            misfit(f"{name}: a field that this test does not read")
+    return structs
+
+
 def exported():
     text = re.sub(r"//[^\n]*", "", files("c_*/src/*.rt"))
     functions = {}
@@ -269,26 +281,49 @@ def exported():
         functions[name] = (c_type(result), [p for part in parameters.split(",") if part.strip() for p in c_parameter(part)])
     if len(functions) != len(re.findall(r'extern "C"', text)):
         misfit("crates/c_*/src: an exported function that this test does not read")
-    structs = {}
-    text = re.sub(r"//[^\n]*", "", files("c_types/src/types.rt"))
-    for c_layout, name, fields in re.findall(r"(#\[repr\(C\)\]\s+)?pub struct (C\w+) \{(.*?)\}", text, re.S):
-        if not c_layout:
-            misfit(f"{name}: crosses without repr(C)")
-        structs[c_type(name)] = [(c_type(kind), field) for field, kind in re.findall(r"pub (\w+): (\w+)", fields)]
-        if len(structs[c_type(name)]) != fields.count(":"):
-            misfit(f"{name}: a field that this test does not read")
-    return functions, structs
+    return functions, structs_in(files("c_types/src/types.rt"))
+
+
+POINTERS = {"*const u8": "const uint8_t *", "*mut u8": "uint8_t *"}
+
+
+def wrapped(crate):
+    """The wrappers for C of a made crate, and its structs."""
+    def read(*path):
+        with open(os.path.join(crate, *path), encoding="utf-8") as file:
+            return file.read()
+
+    text, functions = re.sub(r"//[^\n]*", "", read("c", "src", "lib.rs")), {}
+    for mangle, name, parameters, result in re.findall(r'(#\[no_mangle\]\s+)?pub unsafe extern "C" fn (\w+)\((.*?)\) -> ([\w:]+)', text):
+        if not mangle:
+            misfit(f"{name}: wrapped without no_mangle")
+        pairs = [part.strip().split(": ", 1) for part in parameters.split(",")]
+        functions[name] = (c_type(result.split("::")[-1]), [(POINTERS.get(kind) or c_type(kind.split("::")[-1]), each) for each, kind in pairs])
+    if len(functions) != len(re.findall(r'extern "C"', text)):
+        misfit("the made wrappers: a function that this test does not read")
+    if len(re.findall(r"from_raw_parts", text)) != 2:
+        misfit("the made wrappers: slices of pointers are not made in the one place")
+    return functions, structs_in(read("src", "c_types", "types.rs"))
+
+
+# Macros with parameters, which tests/c/calls.c tries; and the header's own numbers, which the made crate bears as its version.
+MACROS = {"VERSION", "VERSION_MAJOR", "VERSION_MINOR", "VERSION_VARIANT", "LEAST", "LEAST_MAJOR", "LEAST_MINOR"}
+OWN = {"INTERFACE_MAJOR", "INTERFACE_MINOR"}
 
 
 def declared(text):
     text = re.sub(r"/\*.*?\*/", " ", text, flags=re.S)
+    macros = re.findall(r"^#define CFU_(\w+)\([\w, ]*\) .*$", text, re.M)
+    if sorted(macros) != sorted(MACROS):
+        misfit(f"the macros with parameters are {sorted(macros)}")
+    text = re.sub(r"^#define CFU_\w+\(.*$", "", text, flags=re.M)
     numbers = {}
     for name, number in re.findall(r"^#define CFU_(\w+) +(\S+)\s*$", text, re.M):
         if name in numbers:
             misfit(f"CFU_{name} is defined twice")
         numbers[name] = int(number, 0)
     for line in re.findall(r"^#.*$", text, re.M):
-        if not re.fullmatch(r"#define CFU_\w+ +\S+\s*|#define CFU_H|#ifndef CFU_H|#ifdef __cplusplus|#endif|#include <std(def|int)\.h>|#if SIZE_MAX != 0xF{16}|#error \".*\"", line.strip()):
+        if not re.fullmatch(r"#define CFU_\w+ +\S+\s*|#define CFU_H|#ifndef CFU_H|#ifdef __cplusplus|#endif|#include <std(def|int)\.h>|#if defined\(SIZE_MAX\) && SIZE_MAX < 0xF{8}|#error \".*\"", line.strip()):
             misfit(f"a line that this test does not know: {line}")
     text = re.sub(r"^#.*$", "", text, flags=re.M)
     structs = {}
@@ -330,7 +365,10 @@ def hold(what, ours, theirs):
 
 
 def main():
-    header = sys.argv[1] if len(sys.argv) > 1 else os.path.join(TOP, "include", "cfu.h")
+    words = sys.argv[1:]
+    made = words[1] if words[:1] == ["--made"] else None
+    words = words[2:] if made else words
+    header = words[0] if words else os.path.join(TOP, "include", "cfu.h")
     text = open(header, encoding="utf-8").read()
     numbers, structs, functions = declared(text)
     hold_layouts(text)
@@ -339,6 +377,10 @@ def main():
     hold("struct", structs, their_structs)
     if list(structs) != list(their_structs):
         misfit("the structs stand in another order than in crates/c_types/src/types.rt")
+    if made:
+        made_functions, made_structs = wrapped(made)
+        hold("made function", functions, made_functions)
+        hold("made struct", structs, made_structs)
     expected = expected_numbers()
     for name, places in expected.items():
         for place, number in places:
@@ -347,7 +389,7 @@ def main():
             elif numbers[name] != number:
                 misfit(f"CFU_{name}: the header has {numbers[name]:#x}, {place} has {number:#x}")
     for name in numbers:
-        if name not in expected:
+        if name not in expected and name not in OWN:
             misfit(f"CFU_{name}: only in the header")
     for text in misfits:
         print(f"misfit: {text}")

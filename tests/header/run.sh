@@ -1,6 +1,7 @@
 #!/usr/bin/env bash
-# include/cfu.h says what the crates c_* export: fit.py checks the one against the other, and finds each of the slips below; the header compiles alone, as C99
-# and as C++.
+# include/cfu.h says what the crates c_* export and what the wrappers of the made crate do: fit.py checks the one against the other, and finds each of the slips
+# below. Both libraries define the header's functions and no other of its names; the words of include/cfu_words.h are those of the table; both headers compile
+# alone, as C99 and as C++.
 set -u
 cd "$(dirname "$0")/../.." || exit 1
 
@@ -9,11 +10,26 @@ fail() {
     exit 1
 }
 
-for tool in python3 gcc g++ sed; do
+for tool in python3 rt cargo gcc g++ nm sed; do
     command -v "$tool" >/dev/null 2>&1 || fail "$tool is not installed"
 done
 
-python3 tests/header/fit.py || fail "the header does not fit"
+crate=target/rust/cfu_updater
+tools/library || fail "the proved library is not made"
+tools/c_library >/dev/null || fail "the library of the made crate is not made"
+python3 tests/header/fit.py --made $crate || fail "the header does not fit"
+
+# The names that a library defines for C.
+names() {
+    nm "$@" 2>/dev/null | sed -n 's/.* T \(cfu_\w*\)$/\1/p' | sort -u
+}
+grep -o '\bcfu_[a-z_]*(' include/cfu.h | tr -d '(' | sort -u >target/header.names
+[ -s target/header.names ] || fail "the header names no function"
+for library in target/staticlib/libcfu.a target/c_library/libcfu.a "-D target/c_library/libcfu.so"; do
+    # shellcheck disable=SC2086  # an option and a path
+    names $library | cmp -s - target/header.names || fail "$library defines other functions than the header: $(names $library | diff - target/header.names)"
+done
+echo "three libraries define the $(wc -l <target/header.names) functions"
 
 made=$(mktemp -d) || fail "no temporary directory"
 trap 'rm -rf "$made"' EXIT
@@ -59,10 +75,30 @@ slip "a number left out" '/^#define CFU_ERROR_CRC /d' CFU_ERROR_CRC
 slip "a number that nothing has" 's/^#define CFU_SERVED 0/&\n#define CFU_B9 0x4209/' CFU_B9
 slip "a row that the writer lacks" 's/^#define CFU_SERVED 0/&\n#define CFU_W9 0x5709/' CFU_W9
 slip "a declaration that nothing has" 's/^uint32_t cfu_host_fresh(/int spare;\n&/' "int spare"
+slip "a macro left out" '/^#define CFU_LEAST_MINOR(/d' macros
+slip "a component's field left out" '/^    uint8_t pending;/d' cfu_component
+
+# A slip in the wrappers of the made crate: what it is, the edit, and what the misfit must name.
+wrapped() {
+    rm -rf "$made/crate"
+    mkdir -p "$made/crate/c/src" "$made/crate/src/c_types"
+    cp "$crate/src/c_types/types.rs" "$made/crate/src/c_types/"
+    sed "$2" $crate/c/src/lib.rs >"$made/crate/c/src/lib.rs"
+    cmp -s $crate/c/src/lib.rs "$made/crate/c/src/lib.rs" && fail "$1: the edit changes nothing"
+    python3 tests/header/fit.py --made "$made/crate" >"$made/said" && fail "$1: goes unseen"
+    grep -q "^misfit: .*\\b$3\\b" "$made/said" || fail "$1: $(cat "$made/said")"
+    slips=$((slips + 1))
+}
+wrapped "a wrapper that lends for writing what is read" 's/cfu_host_report(host: \*const u8/cfu_host_report(host: *mut u8/' cfu_host_report
+wrapped "a wrapper with two parameters exchanged" 's/cfu_build_information(code: u8, token: u8,/cfu_build_information(token: u8, code: u8,/' cfu_build_information
+wrapped "a wrapper left out" 's/pub unsafe extern "C" fn cfu_device_reset(/pub unsafe fn cfu_device_reset(/' cfu_device_reset
+wrapped "a slice of a pointer outside of its place" 's/^    cfu_updater::c_device::cfu_device_reset(.*$/    core::slice::from_raw_parts(device, 1);/' slices
 echo "$slips slips seen"
 
-printf '#include "cfu.h"\n#include "cfu.h"\n' >"$made/alone.c"
+python3 tests/header/table.py || fail "the words"
+
+printf '#include "cfu.h"\n#include "cfu.h"\n#include "cfu_words.h"\n#include "cfu_words.h"\n' >"$made/alone.c"
 cp "$made/alone.c" "$made/alone.cpp"
-gcc -std=c99 -Wall -Wextra -Wpedantic -Werror -fsyntax-only -I include "$made/alone.c" || fail "the header alone, as C99"
-g++ -std=c++11 -Wall -Wextra -Wpedantic -Werror -fsyntax-only -I include "$made/alone.cpp" || fail "the header alone, as C++"
-echo "the header compiles alone, as C99 and as C++"
+gcc -std=c99 -Wall -Wextra -Wpedantic -Werror -fsyntax-only -I include "$made/alone.c" || fail "the headers alone, as C99"
+g++ -std=c++11 -Wall -Wextra -Wpedantic -Werror -fsyntax-only -I include "$made/alone.cpp" || fail "the headers alone, as C++"
+echo "the headers compile alone, as C99 and as C++"

@@ -1,11 +1,10 @@
 #!/bin/sh
-# Runs the proved program `inspect` on every bundle of make.py and compares what it prints; and tools/split_bundle.py on some of them (split.py).
+# Runs the proved program `inspect` on every bundle of make.py and compares what it prints.
 # First: rt check inspect
 top=$(cd "$(dirname "$0")/../.." && pwd)
 work=$(mktemp -d)
 trap 'rm -rf "$work"' EXIT
 python3 "$top/tests/inspect/make.py" "$work" || exit 1
-python3 "$top/tests/inspect/split.py" || exit 1
 passed=0
 failed=0
 for bundle in "$work"/*.bundle; do

@@ -8,7 +8,9 @@ import subprocess
 import sys
 import tempfile
 
-SCRIPT = os.path.join(os.path.dirname(os.path.abspath(__file__)), '..', '..', 'tools', 'rust_crate')
+TOP = os.path.join(os.path.dirname(os.path.abspath(__file__)), '..', '..')
+# The script, and what it takes beside the crates.
+NEEDED = ('tools/rust_crate', 'tools/words.py', 'include/words.txt', 'include/cfu.h')
 
 CRATES = '# crates\nlow:\nhigh: low\n\n# programs, and what they print with\nrun_print: io\ntool: run_print high low io\n\n# measured\nspeed_low: low\n'
 LOW = '''// The low crate: [brackets] and <signs> in words, `a[0]` as code.
@@ -39,6 +41,16 @@ PART = '''// A module whose name the high crate has too.
 use crate::Found;
 use crate::Pair;
 use std::num::wrapping_sub_u8;
+
+// For C, with bytes and a struct.
+#[no_mangle]
+pub extern "C" fn lent(read: &[u8], p: Pair, written: &mut [u8]) -> Pair {
+    if read.len() == 0 {
+        return p;
+    }
+    written[0] = read[0];
+    Pair { left: 1, right: p.left }
+}
 
 // For C.
 #[no_mangle]
@@ -105,11 +117,15 @@ SOURCES = {
 
 # What must stand in the made crate.
 MADE = {
-    'src/lib.rs': ['pub mod low;\npub mod high;\n'],
+    'src/lib.rs': ['pub mod low;\npub mod high;\npub mod words;\n'],
+    'src/words.rs': ['(Kind::OfferStatus, 0x2) => "REJECT",', '(Kind::Call, 0x4206) => "an earlier entry offers the same component",'],
+    'c/src/lib.rs': ['fn next(a: u16) -> u16 {\n    cfu_updater::low::part::next(a)\n}',
+                     'pub unsafe extern "C" fn lent(read: *const u8, read_len: usize, p: cfu_updater::low::Pair, written: *mut u8, written_len: usize) -> '
+                     'cfu_updater::low::Pair {\n    cfu_updater::low::part::lent(lent::read(read, read_len), p, lent::write(written, written_len))\n}'],
     'src/low/mod.rs': ['//! The low crate: \\[brackets\\] and \\<signs\\> in words, `a[0]` as code.\npub mod part; // part.rt: a module\n',
                        '/// A pair.\n#[repr(C)]\n#[derive(Clone, Copy, Debug, PartialEq, Eq)]\npub struct Pair {\n    /// The left one.\n',
                        '#[derive(Debug, PartialEq, Eq)]\npub struct Lent', '    /// Nothing.\n    Nothing,\n'],
-    'src/low/part.rs': ['use crate::low::Pair;\n\n/// For C.\n#[inline]\npub fn next(a: u16) -> u16 {\n    u16::wrapping_add(a, 1)\n}\n',
+    'src/low/part.rs': ['/// For C.\n#[inline]\npub fn next(a: u16) -> u16 {\n    u16::wrapping_add(a, 1)\n}\n',
                         '#[inline]\npub(in crate::low) fn before(a: u8) -> u8 {\n    u8::wrapping_sub(a, b', '    // Not documentation.\n',
                         '    /// The left one, whatever b is.\n    #[inline]\n    #[allow(unused_variables)] // only the contract names b\n    pub fn left_of(self, b'],
     'src/high/mod.rs': ['use crate::low::Pair;\nuse crate::low::part as below;\n', '= crate::low::part::next(p.left);\n    part::kept(left) + below::next('],
@@ -117,7 +133,7 @@ MADE = {
 
 # And what must stand there beside it where what is measured is asked for.
 MEASURED = {
-    'src/lib.rs': ['pub mod low;\npub mod high;\npub mod speed_low;\n'],
+    'src/lib.rs': ['pub mod low;\npub mod high;\npub mod speed_low;\npub mod words;\n'],
     'src/speed_low/mod.rs': ['    crate::low::part::next(crate::low::part::next(a))\n'],
 }
 
@@ -131,6 +147,7 @@ UNKNOWN = [
     ('pub fn', 'use io::print;\npub fn', 'crates/high/src/part.rt:2: `use io`'),
     ('pub fn', '#[cold]\npub fn', 'crates/high/src/part.rt:2: an attribute'),
     ('pub fn', 'extern "C" {}\npub fn', 'crates/high/src/part.rt:2: a function of C'),
+    ('pub fn', '#[no_mangle]\npub extern "C" fn c(a: u8) -> u8 {\n    a\n}\n\npub fn', 'crates/high/src/part.rt:3: a function for C in a private module'),
     ('pub fn', 'ghost let x = 1;\npub fn', 'crates/high/src/part.rt:2: `ghost`'),
     ('≤ 7 ⌝ }', '≤ 7 ⌝', 'crates/high/src/part.rt:3: a clause whose brace is not closed'),
     ('a: u16', 'a: f32', 'crates/high/src/part.rt:2: a float'),
@@ -143,8 +160,9 @@ def run(files, top, *options):
     for part, text in files.items():
         os.makedirs(os.path.dirname(os.path.join(top, part)), exist_ok=True)
         open(os.path.join(top, part), 'w', encoding='utf-8').write(text)
-    os.makedirs(os.path.join(top, 'tools'))
-    shutil.copy(SCRIPT, os.path.join(top, 'tools'))
+    for part in NEEDED:
+        os.makedirs(os.path.dirname(os.path.join(top, part)), exist_ok=True)
+        shutil.copy(os.path.join(TOP, part), os.path.join(top, part))
     done = subprocess.run([sys.executable, 'tools/rust_crate', *options, 'out'], cwd=top, capture_output=True, text=True)
     return done.stdout + done.stderr, done.returncode
 
@@ -172,18 +190,21 @@ def main():
         if fault:
             print(f'forms: {fault}')
             return 1
-        built = subprocess.run(['cargo', 'build', '--offline', '--quiet'], cwd=os.path.join(top, 'out'),
-                               env=dict(os.environ, RUSTFLAGS='-D warnings', CARGO_TARGET_DIR=os.path.join(top, 'build')))
-        if built.returncode != 0:
-            print('forms: the crate does not build')
-            return 1
-        opened = ('crates/high/src/lib.rt', 'mod part;', 'pub mod part;', 'crates/high/src/part.rt:3: a `requires` on a public function')
-        for path, old, new, expected in [('crates/high/src/part.rt', *case) for case in UNKNOWN] + [opened]:
+        for folder in ('out', 'out/c'):
+            built = subprocess.run(['cargo', 'build', '--offline', '--quiet'], cwd=os.path.join(top, folder),
+                                   env=dict(os.environ, RUSTFLAGS='-D warnings', CARGO_TARGET_DIR=os.path.join(top, 'build')))
+            if built.returncode != 0:
+                print(f'forms: the crate {folder} does not build')
+                return 1
+        others = [('crates/high/src/lib.rt', 'mod part;', 'pub mod part;', 'crates/high/src/part.rt:3: a `requires` on a public function'),
+                  ('crates/low/src/part.rt', 'p: Pair, written', 'p: Found, q: Other, written', 'crates/low/src/part.rt:8: `Other` in a function for C'),
+                  ('crates/low/src/part.rt', 'next(a: u16) -> u16', 'next(a: u16)', 'crates/low/src/part.rt:18: a function for C whose signature')]
+        for path, old, new, expected in [('crates/high/src/part.rt', *case) for case in UNKNOWN] + others:
             told, status = run({**SOURCES, path: SOURCES[path].replace(old, new)}, top)
             if status != 1 or not told.startswith(f'tools/rust_crate: {expected}') or os.path.exists(os.path.join(top, 'out')):
                 print(f'forms: expected {expected}\nand came {told}')
                 return 1
-    print(f'forms: a crate of {len(MADE)} files as expected, {len(UNKNOWN) + 1} unknown things named')
+    print(f'forms: a crate of {len(MADE)} files as expected, {len(UNKNOWN) + len(others)} unknown things named')
     return 0
 
 

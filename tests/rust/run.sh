@@ -1,6 +1,6 @@
 #!/usr/bin/env bash
 # The Rust crate is made afresh from the proved source, builds with overflow checks and without a warning, its documentation too, and its tests
-# pass: the examples and rows of document 01, run through rustc.
+# pass: the examples and rows of document 01, run through rustc. The crate with its wrappers for C builds so too, with the standard library and without.
 set -u
 cd "$(dirname "$0")/../.." || exit 1
 
@@ -25,3 +25,8 @@ cd "$crate" || exit 1
 cargo build --offline --quiet || fail "the crate does not build"
 cargo doc --offline --quiet --no-deps || fail "its documentation does not build"
 cargo test --offline --quiet || fail "its tests"
+cd c || exit 1
+cargo build --offline --quiet || fail "the wrappers for C do not build"
+cargo build --release --offline --quiet || fail "the wrappers for C do not build for release"
+cargo rustc --release --offline --quiet --no-default-features --crate-type staticlib || fail "the wrappers for C do not build without the standard library"
+cargo doc --offline --quiet --no-deps || fail "the wrappers' documentation does not build"

@@ -18,7 +18,7 @@ use Rattle.device.specs.Refusals.{refusalOf}
 use Rattle.device.specs.Offer.{offerEntry}
 use Rattle.device.specs.Content.{contentEntry, contentStaging}
 use Rattle.device.specs.Entries.{setUpOf, versionEntry, resetEntry}
-use Rattle.device_bytes.specs.Layout.{componentsBytes, deviceBytes, componentsIn, deviceIn, stagedFit, isRecord, readDevice, withSessionBytes, withComponentBytes, listIn}
+use Rattle.device_bytes.specs.Layout.{componentsBytes, deviceBytes, componentsIn, deviceIn, stagedFit, isRecord, readDevice, withSessionBytes, withComponentBytes, listIn, withListedBytes}
 use Rattle.bundle_records.specs.Record.{headIn}
 use Rattle.bundle_records.specs.Parse.{parse}
 use Rattle.bundle_records.specs.Walk.{nextOf, tallyOf}
@@ -31,12 +31,13 @@ use Rattle.host_decide.specs.Decide.{act, hears, decideIn, decisionOf}
 use Rattle.host_packet.specs.Made.{laidOf, writtenOf}
 use Rattle.host.specs.Step.{breaksN1, packetOf, stepOn, stepOf}
 use Rattle.host.specs.Inner.{innerOf}
-use Rattle.host_bytes.specs.Layout.{hostBytes, hostIn, flagsFit, readHost, bodiesBytes, contentsBytes, contentsIn}
+use Rattle.host_bytes.specs.Layout.{hostBytes, hostIn, flagsFit, readHost, bodiesBytes, contentsBytes, bodiesIn, contentsIn, bodyRead}
 use Rattle.c_device.specs.Device.{setUpCall, versionsCall, resetCall}
 use Rattle.c_device_packet.specs.Packet.{offerCall, contentCall, contentCallStaging}
 use Rattle.c_host.specs.Check.{checkCall}
 use Rattle.c_host.specs.Host.{freshCall, reportCall}
 use Rattle.c_host_step.specs.Step.{stepCall, stepCheckedCall, stepCheckedContents}
+use Rattle.c_access.specs.Access.{listCall, componentCall, entryCall}
 use Rattle.c_build.specs.Build.{buildOfferCall}
 use Rattle.c_read.specs.Read.{readOfferCall}
 use Rattle.bundle_writer.proofs.Bench.{writer-bench}
@@ -46,7 +47,7 @@ use Rattle.c_api.proofs.Layouts.{layouts-hold}
 use Rattle.c_api.proofs.Packets.{packets-hold}
 
 pub calls-hold : CallsHold
-unfolding flatten same firstOf any pairs offerBytes fieldsIn buildOf kindIn readOf flat replyBytes within blank put eraseOf writeOf firstFrom find badIds badRegions setupVerdict breaksD1 refusalOf rejections needUnmet offerVerdict onOffer offerEntry contentVerdict takeBlock onBlock contentEntry setUpOf versionEntry componentsBytes deviceBytes componentsIn deviceIn stagedFit isRecord readDevice withSessionBytes withComponentBytes listIn bundleRow checkOf innerOf hostBytes hostIn readHost bodiesBytes contentsBytes contentsIn setUpCall versionsCall offerCall contentCall checkCall headIn parse nextOf tallyOf entriesFrom entriesIn bodyIn firstEntry rowB5 repeated rowB6 gap rowB7 rowB8 table ones reportOf act hears decideIn decisionOf laidOf writtenOf breaksN1 packetOf stepOn stepOf contentStaging resetEntry resetCall contentCallStaging freshCall reportCall stepCall stepCheckedCall stepCheckedContents buildOfferCall readOfferCall writeCall flagsFit
+unfolding flatten same firstOf any pairs offerBytes fieldsIn buildOf kindIn readOf flat replyBytes within blank put eraseOf writeOf firstFrom find badIds badRegions setupVerdict breaksD1 refusalOf rejections needUnmet offerVerdict onOffer offerEntry contentVerdict takeBlock onBlock contentEntry setUpOf versionEntry componentsBytes deviceBytes componentsIn deviceIn stagedFit isRecord readDevice withSessionBytes withComponentBytes listIn bundleRow checkOf innerOf hostBytes hostIn readHost bodiesBytes contentsBytes contentsIn setUpCall versionsCall offerCall contentCall checkCall headIn parse nextOf tallyOf entriesFrom entriesIn bodyIn firstEntry rowB5 repeated rowB6 gap rowB7 rowB8 table ones reportOf act hears decideIn decisionOf laidOf writtenOf breaksN1 packetOf stepOn stepOf contentStaging resetEntry resetCall contentCallStaging freshCall reportCall stepCall stepCheckedCall stepCheckedContents buildOfferCall readOfferCall writeCall flagsFit withListedBytes bodiesIn bodyRead listCall componentCall entryCall
 calls-hold = record {
   records = λ session. refl;
   idle-session = refl;
@@ -80,6 +81,16 @@ calls-hold = record {
   reads = refl;
   builds-other = refl;
   reads-other = refl;
+  lists-one = refl;
+  lists-two = refl;
+  lists-no-more = refl;
+  tells-two = refl;
+  tells-staged = refl;
+  tells-no-more = refl;
+  tells-of-none = refl;
+  enters = refl;
+  enters-no-more = refl;
+  enters-refused = refl;
   layouts = layouts-hold;
   packets = packets-hold;
 }

@@ -8,7 +8,6 @@ use borrow.Author.Tests.{eq-eqb, eqb-true, leb-true}
 use lib.Dec.{eqb, leb}
 use lib.ListN.{length, replicate}
 use Rattle.wire.specs.Rows.{Row, served, P, Told}
-use Rattle.wire.specs.Version.{versionOf}
 use Rattle.wire.proofs.Tests.{both, served-true}
 use Rattle.wire.proofs.version.Laws.{minor-of}
 use Rattle.wire.specs.Codes.{SHORT-SIZE, LONG-SIZE, DATA-SIZE, COMPONENT-LIMIT}
@@ -29,10 +28,11 @@ use Rattle.c_version.specs.Layout.{RUNNING-SIZE, COMPONENTS-SIZE, componentsIn}
 use Rattle.c_version.proofs.Back.{components-write-back, components-all, components-fit, components-first}
 use Rattle.c_types.specs.declared.types.CVersion.{CVersion}
 use Rattle.c_types.specs.declared.types.COffer.{COffer}
+use Rattle.c_types.specs.Version.{partsOf, versionIn}
 use Rattle.c_types.specs.Numbers.{SERVED, WRONG-LIST, WRONG-OUTPUT, packetNumber, sized}
 use Rattle.c_types.specs.Lent.{Left, leaves}
 use Rattle.c_build.specs.Build.{built, isSet, fieldsOf, flagsFit, buildOfferCall, buildInformationCall, buildExtendedCall, buildOfferReplyCall, buildContentCall, buildContentReplyCall, buildVersionReplyCall}
-use Rattle.c_read.specs.Read.{partsOf, flagOf, offerOf, contentBy, versionsBy, readVersionReplyCall, readOfferCall, readOfferReplyCall, readContentCall, readContentReplyCall}
+use Rattle.c_read.specs.Read.{flagOf, offerOf, contentBy, versionsBy, readVersionReplyCall, readOfferCall, readOfferReplyCall, readContentCall, readContentReplyCall}
 use Rattle.c_api.specs.ReadBack.{FitsCVersion, FitsCOffer, OfferCallsReadBack, ContentCallsReadBack, VersionReplyCallsReadBack, OfferReplyCallsReadBack, ContentReplyCallsReadBack, InformationCallsReadBack, ExtendedCallsReadBack}
 
 -- a call that is served had a buffer of its size, and leaves what it leaves for one
@@ -68,7 +68,7 @@ flag-back (suc zero) h = refl
 flag-back (suc (suc f)) h = absurd (omega (arith, leb-true (suc (suc f)) 1 h))
 
 -- the parts of a version read back
-parts-back : (v : CVersion) → FitsCVersion v → partsOf (versionOf (v .major) (v .minor) (v .variant)) ≡ v
+parts-back : (v : CVersion) → FitsCVersion v → partsOf (versionIn v) ≡ v
 parts-back v f =
     let n = v .variant + v .minor * 256 + v .major * 16777216 in
     let a : n / 16777216 ≡ v .major = omega arith in

@@ -25,7 +25,9 @@ use Rattle.host_record.specs.declared.record.Host.{Host}
 use Rattle.host_record.specs.declared.record.HostStage.the-variants.{Sending, Ended}
 use Rattle.host_record.specs.declared.record.End.the-variants as end
 use Rattle.host_bytes.specs.Layout.{HOST-SIZE, BODY-SIZE, CONTENTS-SIZE, hostBytes, noPlace, contentsBytes}
+use Rattle.c_types.specs.declared.types.CVersion.{CVersion}
 use Rattle.c_types.specs.declared.types.COffer.{COffer}
+use Rattle.c_types.specs.declared.types.CListed.{CListed}
 use Rattle.c_types.specs.Numbers.{SERVED, filledTo}
 use Rattle.c_types.specs.Lent.{leaves}
 use Rattle.c_device.specs.Device.{setUpCall, versionsCall, resetCall}
@@ -35,6 +37,7 @@ use Rattle.c_host.specs.Check.{checkCall}
 use Rattle.c_writer.specs.Write.{writeCall}
 use Rattle.c_host.specs.Host.{freshCall, reportCall}
 use Rattle.c_host_step.specs.Step.{StepLeft, refusedStep, stepCall, stepCheckedCall, stepCheckedContents}
+use Rattle.c_access.specs.Access.{noVersion, noComponent, noEntry, listCall, componentCall, entryCall}
 use Rattle.c_build.specs.Build.{buildOfferCall}
 use Rattle.c_read.specs.Read.{readOfferCall}
 use Rattle.c_api.specs.Layouts.{LayoutsHold}
@@ -50,9 +53,23 @@ two = 2 ∷ 0x00 ∷ 0x01 ∷ 0x00 ∷ 0x01 ∷ 64 ∷ 0 ∷ 0 ∷ 0 ∷ 64 ∷ 
 abbrev pub list : List ℕ
 list = filledTo LIST-SIZE (one ++ two)
 
+-- a version 1.n.0, and the two components by their numbers
+abbrev pub minorOne : (n : ℕ) → CVersion
+minorOne n = record { major = 1; minor = n; variant = 0 }
+
+abbrev pub listedOne : CListed
+listedOne = record { id = 1; running = minorOne 2; base = 0; length = 64 }
+
+abbrev pub listedTwo : CListed
+listedTwo = record { id = 2; running = minorOne 1; base = 64; length = 64 }
+
 -- the components of a record, with nothing staged
 abbrev pub components : List ℕ
 components = filledTo (COMPONENT-LIMIT * COMPONENT-SIZE) (one ++ (replicate 5 0 ++ two))
+
+-- .. and with 1.3.0 staged for the first
+abbrev pub stagedComponents : List ℕ
+stagedComponents = filledTo (COMPONENT-LIMIT * COMPONENT-SIZE) (one ++ (1 ∷ 0x00 ∷ 0x03 ∷ 0x00 ∷ 0x01 ∷ two))
 
 -- what stands before the session: platform, staging length, count
 abbrev pub head : List ℕ
@@ -243,5 +260,17 @@ pub record CallsHold : Type 0 where
   pub builds-other : buildOfferCall otherFields (replicate SHORT-SIZE 9) ≡ leaves SERVED (set fieldsPacket 1 0x80)
   pub reads-other : readOfferCall (set fieldsPacket 1 0x80)
       ≡ record { number = SERVED; kind = 1; offer = otherFields; signal = record { code = 0; token = 0 } }
+  pub lists-one : listCall (replicate LIST-SIZE 0) 0 listedOne ≡ leaves SERVED (filledTo LIST-SIZE one)
+  pub lists-two : listCall (filledTo LIST-SIZE one) 1 listedTwo ≡ leaves SERVED list
+  pub lists-no-more : listCall list COMPONENT-LIMIT listedTwo ≡ leaves 0x4304 list
+  pub tells-two : componentCall (deviceBytes (benchIn idle)) 1
+      ≡ record { number = SERVED; id = 2; running = minorOne 1; base = 64; length = 64; pending = 0; staged = noVersion }
+  pub tells-staged : componentCall (head ++ (replicate 7 0 ++ stagedComponents)) 0
+      ≡ record { number = SERVED; id = 1; running = minorOne 2; base = 0; length = 64; pending = 1; staged = minorOne 3 }
+  pub tells-no-more : componentCall (deviceBytes (benchIn idle)) 2 ≡ noComponent 0x4304
+  pub tells-of-none : componentCall (replicate DEVICE-SIZE 0) 0 ≡ noComponent 0x4401
+  pub enters : entryCall (contentsBytes contents noPlace 0) 0 ≡ record { number = SERVED; entry = 0; offset = 56; length = 74; records = 2 }
+  pub enters-no-more : entryCall (contentsBytes contents noPlace 0) 2 ≡ noEntry 0x4304 0
+  pub enters-refused : entryCall (contentsBytes refusedContents noPlace 0) 0 ≡ noEntry 0x4205 2
   pub layouts : LayoutsHold
   pub packets : PacketsHold

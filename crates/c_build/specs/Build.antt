@@ -4,7 +4,6 @@ use mathlib.Core.Bool.{Bool, cond, _&&_}
 use mathlib.Core.List.{List}
 use lib.Dec.{eqb, leb}
 use lib.ListN.{replicate}
-use Rattle.wire.specs.Version.{versionOf}
 use Rattle.wire.specs.Rows.{P, Told}
 use Rattle.wire.specs.Codes.{SHORT-SIZE, LONG-SIZE, DATA-SIZE, COMPONENT-LIMIT}
 use Rattle.wire_offer.specs.Offer as offer
@@ -16,6 +15,7 @@ use Rattle.wire_content.specs.Reply as contentReply
 use Rattle.wire_version.specs.Reply as versions
 use Rattle.c_version.specs.Layout.{COMPONENTS-SIZE, componentsIn}
 use Rattle.c_types.specs.declared.types.COffer.{COffer}
+use Rattle.c_types.specs.Version.{versionIn}
 use Rattle.c_types.specs.Numbers.{SERVED, WRONG-LIST, WRONG-OUTPUT, packetNumber, sized}
 use Rattle.c_types.specs.Lent.{Left, leaves}
 
@@ -34,7 +34,7 @@ fieldsOf o = record {
   «force_ignore_version» = isSet (o .«force_ignore_version»);
   id = o .id;
   token = o .token;
-  version = versionOf (o .version .major) (o .version .minor) (o .version .variant);
+  version = versionIn (o .version);
   need = o .need;
   least = o .least;
   protocol = o .protocol;

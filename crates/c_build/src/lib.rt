@@ -12,13 +12,13 @@ use c_types::numbers::SERVED;
 use c_types::numbers::WRONG_LIST;
 use c_types::numbers::packet_number;
 use c_types::types::COffer;
+use c_types::version::version_in;
 use c_version::COMPONENTS_SIZE;
 use c_version::read_components;
 use wire::address::RegionAddress;
 use wire::codes::DATA_SIZE;
 use wire::codes::SHORT_SIZE;
 use wire::verdict::Verdict;
-use wire::version::Version;
 use wire::words;
 use wire_content::content::ContentFields;
 use wire_content::content::build_content;
@@ -45,7 +45,7 @@ fn fields(o: COffer) -> OfferFields
         force_ignore_version: o.force_ignore_version == 1,
         id: o.id,
         token: o.token,
-        version: Version::new(v.major, v.minor, v.variant),
+        version: version_in(v),
         need: o.need,
         least: o.least,
         protocol: o.protocol,

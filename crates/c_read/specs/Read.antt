@@ -2,9 +2,7 @@
 use Prim.Native.Nat.{ℕ}
 use mathlib.Core.Bool.{Bool, true, false}
 use mathlib.Core.List.{List}
-use Rattle.wire.specs.Version.{majorOf, minorOf, variantOf}
 use Rattle.wire.specs.Rows.{Row, P, Told}
-use Rattle.wire.specs.declared.version.Version.{Version}
 use Rattle.wire.specs.Codes.{DATA-SIZE}
 use Rattle.wire_offer.specs.Offer as offer
 use Rattle.wire_offer.specs.Kind as kind
@@ -19,7 +17,6 @@ use Rattle.wire_content.specs.declared.reply.ContentReply.{ContentReply}
 use Rattle.wire_version.specs.Reply as versions
 use Rattle.wire_version.specs.declared.VersionReply.{VersionReply}
 use Rattle.c_version.specs.Layout.{COMPONENTS-SIZE, componentsBytes}
-use Rattle.c_types.specs.declared.types.CVersion.{CVersion}
 use Rattle.c_types.specs.declared.types.COffer.{COffer}
 use Rattle.c_types.specs.declared.types.CSignal.{CSignal}
 use Rattle.c_types.specs.declared.types.COfferPacket.{COfferPacket}
@@ -27,12 +24,10 @@ use Rattle.c_types.specs.declared.types.COfferReply.{COfferReply}
 use Rattle.c_types.specs.declared.types.CContent.{CContent}
 use Rattle.c_types.specs.declared.types.CContentReply.{CContentReply}
 use Rattle.c_types.specs.declared.types.CVersionReply.{CVersionReply}
+use Rattle.c_types.specs.Version.{partsOf}
 use Rattle.c_types.specs.Numbers.{SERVED, WRONG-OUTPUT, KIND-NONE, KIND-OFFER, KIND-INFORMATION, KIND-EXTENDED, packetNumber, sized}
 
 -- what reading tells
-abbrev pub partsOf : Version → CVersion
-partsOf v = record { major = majorOf v; minor = minorOf v; variant = variantOf v }
-
 abbrev pub flagOf : Bool → ℕ
 flagOf true = 1
 flagOf false = 0

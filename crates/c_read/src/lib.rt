@@ -2,7 +2,7 @@
 ghost use mathlib.Core.Path.{_≡_};
 ghost use Rattle.wire_offer.specs.Offer.{blankOffer};
 ghost use Rattle.wire_offer.specs.Kind.{toldRead};
-ghost use Rattle.c_read.specs.Read.{toldVersions, readVersionReplyCall, partsOf, flagOf, offerOf, noSignal, signalOf, packetOf, readOfferCall, readOfferReplyCall, toldContent, readContentCall, readContentReplyCall};
+ghost use Rattle.c_read.specs.Read.{toldVersions, readVersionReplyCall, flagOf, offerOf, noSignal, signalOf, packetOf, readOfferCall, readOfferReplyCall, toldContent, readContentCall, readContentReplyCall};
 use c_types::numbers::KIND_EXTENDED;
 use c_types::numbers::KIND_INFORMATION;
 use c_types::numbers::KIND_NONE;
@@ -18,11 +18,11 @@ use c_types::types::COfferReply;
 use c_types::types::CSignal;
 use c_types::types::CVersion;
 use c_types::types::CVersionReply;
+use c_types::version::parts;
 use c_version::COMPONENTS_SIZE;
 use c_version::components_bytes;
 use wire::codes::DATA_SIZE;
 use wire::verdict::Verdict;
-use wire::version::Version;
 use wire::words;
 use wire_content::content::read_content;
 use wire_content::reply::read_content_reply;
@@ -55,16 +55,6 @@ pub extern "C" fn cfu_read_version_reply(packet: &[u8], components: &mut [u8]) -
         number: packet_number(verdict),
         count: reply.count,
         protocol: reply.protocol,
-    }
-}
-
-fn parts(v: Version) -> CVersion
-    ensures { λ r. ⌜ r ≡ partsOf v ⌝ }
-{
-    CVersion {
-        major: v.major(),
-        minor: v.minor(),
-        variant: v.variant(),
     }
 }
 

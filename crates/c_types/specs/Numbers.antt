@@ -1,4 +1,4 @@
--- The numbers that cross to C: 0, or a row of documents 01 and 02 as its letter's code, times 256, and its number; and the rows C1 to C3 of the calls
+-- The numbers that cross to C: 0, or a row of documents 01 and 02 as its letter's code, times 256, and its number; and the rows C1 to C4 of the calls
 -- themselves. The other rows have their numbers with the calls that answer them.
 use Prim.Native.Nat.{ℕ, _+_, _-_}
 use mathlib.Core.Bool.{Bool, cond}
@@ -22,6 +22,10 @@ WRONG-LIST = 0x4302
 -- C3: a buffer for what comes out is not of its size
 abbrev pub WRONG-OUTPUT : ℕ
 WRONG-OUTPUT = 0x4303
+
+-- C4: a place that the list, the device or the bundle does not have
+abbrev pub WRONG-PLACE : ℕ
+WRONG-PLACE = 0x4304
 
 -- the letters of the rows, above a row's number
 abbrev pub ROW-P : ℕ

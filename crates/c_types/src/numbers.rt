@@ -1,4 +1,4 @@
-// The numbers that cross to C (rows of documents 01 and 02 as a letter's code, times 256, and a number; rows C1 to C3 of these crates), and the sizes of lent buffers.
+// The numbers that cross to C: rows of documents 01 and 02 as a letter's code, times 256, and a number; rows C1 to C4 of these crates.
 ghost use mathlib.Core.Path.{_≡_};
 ghost use Rattle.wire.specs.Rows.{rowOf};
 ghost use Rattle.c_types.specs.Numbers.{letteredOf, packetNumber};
@@ -15,6 +15,9 @@ pub const WRONG_LIST: u32 = 0x4302;
 
 // C3: a buffer for what comes out is not of its size.
 pub const WRONG_OUTPUT: u32 = 0x4303;
+
+// C4: a place that the list, the device or the bundle does not have.
+pub const WRONG_PLACE: u32 = 0x4304;
 
 // The letters of the rows, above a row's number.
 pub const ROW_P: u16 = 0x5000;

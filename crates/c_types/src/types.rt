@@ -114,3 +114,34 @@ pub struct CReport {
     pub ending: u32,
     pub status: u32,
 }
+
+// A component of the list that set-up takes.
+#[repr(C)]
+pub struct CListed {
+    pub id: u8,
+    pub running: CVersion,
+    pub base: u32,
+    pub length: u32,
+}
+
+// A component of a device: what runs, its region, whether a version is staged, 0 or 1, and that version, zero where none is.
+#[repr(C)]
+pub struct CComponent {
+    pub number: u32,
+    pub id: u8,
+    pub running: CVersion,
+    pub base: u32,
+    pub length: u32,
+    pub pending: u8,
+    pub staged: CVersion,
+}
+
+// An entry of a checked bundle: where its body stands, how long it is and how many records it has; `entry` is the one that a bundle's row names.
+#[repr(C)]
+pub struct CEntry {
+    pub number: u32,
+    pub entry: u32,
+    pub offset: u32,
+    pub length: u32,
+    pub records: u32,
+}

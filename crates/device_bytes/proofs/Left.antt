@@ -12,7 +12,6 @@ use lib.Seq.{getD-drop, take-at, drop-at, take-add, drop-drop, set-out, set-getD
 use Rattle.wire.specs.Bytes.{bytesAt}
 use Rattle.wire.specs.Codes.{COMPONENT-LIMIT}
 use Rattle.wire.proofs.Tests.{both}
-use Rattle.wire.proofs.words.Laws.{split}
 use Rattle.device_component.specs.Record.{FitsComponent, blankComponent}
 use Rattle.device_component.specs.declared.record.Component.{Component}
 use Rattle.device_component_bytes.specs.Layout.{COMPONENT-SIZE, componentBytes, componentIn, stagedFlagFits}
@@ -27,11 +26,8 @@ use Rattle.device.specs.declared.record.Device.{Device}
 use Rattle.device_bytes.specs.Layout.{SESSION-START, COMPONENTS-START, DEVICE-SIZE, componentStart, componentsBytes, headBytes, deviceBytes, componentsIn, sessionIn, deviceIn, stagedFit, isRecord, withSessionBytes, withComponentBytes}
 use Rattle.device_bytes.proofs.Back.{session-back, record-back}
 use Rattle.device_bytes.proofs.Flags.{record-sized, record-flags, is-record}
+use Rattle.device_bytes.proofs.Spliced.{first, spliced, spliced-next}
 use Rattle.device_bytes.proofs.Record.{head-sized, components-full, components-sized, device-length}
-
--- the first k bytes, each by its place
-first : (k : ℕ) (b : List ℕ) → length (bytesAt k 0 b) ≡ k → k ≤ length b → take k b ≡ bytesAt k 0 b
-first k b e h = ap (take k) (split k b h) ∙ take-at (bytesAt k 0 b) (drop k b) k e
 
 -- a session that is stored reads back, and all else stays
 pub session-read : (t : Session) (b : List ℕ) → isRecord b ≡ true → FitsSession t
@@ -47,18 +43,12 @@ session-read t b h f =
     (is-record (bytesAt SESSION-START 0 b ++ (sessionBytes t ++ q)) n (session-back b q t f .1 ∙ staged), record-back b q t f)
 
 -- the bytes of components with those of another component from place m on
-abbrev spliced : ℕ → Component → List ℕ → List ℕ
-spliced m c q = take m q ++ (componentBytes c ++ drop (COMPONENT-SIZE + m) q)
-
-spliced-next : (m : ℕ) (c : Component) (q : List ℕ) → COMPONENT-SIZE ≤ length q → spliced (COMPONENT-SIZE + m) c q ≡ bytesAt COMPONENT-SIZE 0 q ++ spliced m c (drop COMPONENT-SIZE q)
-spliced-next m c q h =
-    let r = drop COMPONENT-SIZE q in
-    ap₂ (λ (u v : List ℕ). u ++ (componentBytes c ++ v)) (take-add COMPONENT-SIZE m q ∙ ap (λ (l : List ℕ). l ++ take m r) (first COMPONENT-SIZE q refl h)) (sym (drop-drop (COMPONENT-SIZE + m) COMPONENT-SIZE q))
-    ∙ append-assoc (bytesAt COMPONENT-SIZE 0 q) (take m r) (componentBytes c ++ drop (COMPONENT-SIZE + m) r)
+abbrev withPart : ℕ → Component → List ℕ → List ℕ
+withPart m c q = spliced COMPONENT-SIZE m (componentBytes c) q
 
 -- it reads back in its slot, and the others stay
 spliced-read : (n k m : ℕ) (c : Component) (q : List ℕ) → m ≡ k * COMPONENT-SIZE → k < n → n * COMPONENT-SIZE ≤ length q → FitsComponent c
-    → (componentsIn n (spliced m c q) ≡ set (componentsIn n q) k c) × (stagedFit n q ≡ true → stagedFit n (spliced m c q) ≡ true)
+    → (componentsIn n (withPart m c q) ≡ set (componentsIn n q) k c) × (stagedFit n q ≡ true → stagedFit n (withPart m c q) ≡ true)
 unfolding componentsIn stagedFit
 spliced-read zero k m c q e h l f = absurd (not-suc-le-zero h)
 spliced-read (suc n) zero m c q e h l f =
@@ -73,7 +63,7 @@ spliced-read (suc n) (suc k) m c q e h l f =
     let i : m ≡ COMPONENT-SIZE + j = omega arith in
     let r = drop COMPONENT-SIZE q in
     let a = spliced-read n k j c r refl (le-of-suc-le-suc h) (omega (arith, length-drop COMPONENT-SIZE q)) f in
-    let s = ap (λ (x : ℕ). spliced x c q) i ∙ spliced-next j c q (omega arith) in (
+    let s = ap (λ (x : ℕ). withPart x c q) i ∙ spliced-next COMPONENT-SIZE j (componentBytes c) q refl (omega arith) in (
       ap (componentsIn (suc n)) s ∙ ap (λ (t : List Component). componentIn q ∷ t) (a .0),
       λ g.
           let b = both (stagedFlagFits q) (stagedFit n r) g in
@@ -86,7 +76,7 @@ session-first b r = (simp getD-drop, simp getD-drop)
 
 -- a component that is stored reads back, and all else stays
 module _ (slot : ℕ) (c : Component) (b : List ℕ) (h : isRecord b ≡ true) (f : FitsComponent c) where
-  stored-form : take (componentStart slot) b ++ (componentBytes c ++ drop (componentStart slot + COMPONENT-SIZE) b) ≡ bytesAt COMPONENTS-START 0 b ++ spliced (slot * COMPONENT-SIZE) c (drop COMPONENTS-START b)
+  stored-form : take (componentStart slot) b ++ (componentBytes c ++ drop (componentStart slot + COMPONENT-SIZE) b) ≡ bytesAt COMPONENTS-START 0 b ++ withPart (slot * COMPONENT-SIZE) c (drop COMPONENTS-START b)
   stored-form =
       let m = slot * COMPONENT-SIZE in
       let i : componentStart slot + COMPONENT-SIZE ≡ COMPONENTS-START + (COMPONENT-SIZE + m) = omega arith in
@@ -107,11 +97,11 @@ module _ (slot : ℕ) (c : Component) (b : List ℕ) (h : isRecord b ≡ true) (
           let k = ltb-true slot COMPONENT-LIMIT e in
           let l : length q ≡ COMPONENT-LIMIT * COMPONENT-SIZE = length-drop COMPONENTS-START b ∙ omega (arith, record-sized b h) in
           let a = spliced-read COMPONENT-LIMIT slot m c q refl k (omega arith) f in
-          let n : length (spliced m c q) ≡ COMPONENT-LIMIT * COMPONENT-SIZE = simp (length-append, length-take, length-drop) (omega (arith, component-sized c, record-sized b h)) in
+          let n : length (withPart m c q) ≡ COMPONENT-LIMIT * COMPONENT-SIZE = simp (length-append, length-take, length-drop) (omega (arith, component-sized c, record-sized b h)) in
           let x = both (sessionFlagsFit (drop SESSION-START b)) (stagedFit COMPONENT-LIMIT q) (record-flags b h) in
           rw (eq-eqb (length b) DEVICE-SIZE (record-sized b h), e, stored-form) (
-            is-record (bytesAt COMPONENTS-START 0 b ++ spliced m c q) (length-append (bytesAt COMPONENTS-START 0 b) (spliced m c q) ∙ ap (λ (j : ℕ). COMPONENTS-START + j) n) (rw (session-first b (spliced m c q) .1, x .0) (a .1 (x .1))),
-            ap₂ (λ (t : List Component) (s : Session). withSession (deviceIn b) t s) (a .0) (session-first b (spliced m c q) .0),
+            is-record (bytesAt COMPONENTS-START 0 b ++ withPart m c q) (length-append (bytesAt COMPONENTS-START 0 b) (withPart m c q) ∙ ap (λ (j : ℕ). COMPONENTS-START + j) n) (rw (session-first b (withPart m c q) .1, x .0) (a .1 (x .1))),
+            ap₂ (λ (t : List Component) (s : Session). withSession (deviceIn b) t s) (a .0) (session-first b (withPart m c q) .0),
           )
       go false e =
           rw (eq-eqb (length b) DEVICE-SIZE (record-sized b h), e)

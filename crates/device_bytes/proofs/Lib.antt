@@ -3,4 +3,5 @@ pub mod Stored
 pub mod Record
 pub mod Fields
 pub mod Back
+pub mod Spliced
 pub mod Left

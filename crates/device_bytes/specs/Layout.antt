@@ -9,7 +9,7 @@ use Rattle.wire.specs.Codes.{COMPONENT-LIMIT}
 use Rattle.device_component.specs.Record.{blankComponent}
 use Rattle.device_component.specs.declared.record.Component.{Component}
 use Rattle.device_component.specs.declared.record.Listed.{Listed}
-use Rattle.device_component_bytes.specs.Layout.{COMPONENT-SIZE, LISTED-SIZE, componentBytes, componentIn, listedIn, stagedFlagFits}
+use Rattle.device_component_bytes.specs.Layout.{COMPONENT-SIZE, LISTED-SIZE, componentBytes, listedBytes, componentIn, listedIn, stagedFlagFits}
 use Rattle.device.specs.declared.record.Device.{Device}
 use Rattle.device_session.specs.declared.effect.Session.{Session}
 use Rattle.device_session_bytes.specs.Layout.{SESSION-SIZE, sessionBytes, sessionFlagsFit}
@@ -121,3 +121,12 @@ LIST-SIZE = COMPONENT-LIMIT * LISTED-SIZE
 unfoldable pub listIn : ℕ → List ℕ → List Listed
 listIn zero q = []
 listIn (suc n) q = listedIn q ∷ listIn n (drop LISTED-SIZE q)
+
+-- the component of the list at a place stands from here on
+abbrev pub listedStart : (place : ℕ) → ℕ
+listedStart place = place * LISTED-SIZE
+
+-- the list with another component at a place; past the last place, and in bytes of another length, nothing changes
+unfoldable pub withListedBytes : (place : ℕ) → Listed → List ℕ → List ℕ
+withListedBytes place l b =
+    cond (eqb (length b) LIST-SIZE && ltb place COMPONENT-LIMIT) (take (listedStart place) b ++ (listedBytes l ++ drop (listedStart place + LISTED-SIZE) b)) b

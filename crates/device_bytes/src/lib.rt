@@ -25,6 +25,7 @@ use wire::words;
 
 pub mod component; // component.rt: a component
 pub mod session; // session.rt: the session
+pub mod list; // list.rt: a component of the list that set-up takes
 
 // Where the parts of a record stand: the platform, the length of the staging buffer, the count, the session, the components.
 pub const PLATFORM_AT: usize = 0;

@@ -1,4 +1,4 @@
--- A component is bytes and reads back, its flag fits, and what is read of bytes fits. Assumes nothing.
+-- A component is bytes and reads back, also one of the list, its flag fits, and what is read of bytes fits. Assumes nothing.
 use mathlib.Core.Path.{_≡_, refl}
 use mathlib.Core.Bool.{Bool, true, false, cond}
 use mathlib.Core.List.{List, _++_}
@@ -12,11 +12,12 @@ use Rattle.wire.specs.declared.version.Version.{Version}
 use Rattle.wire.proofs.Bounds.{cons-bytes, join-bytes, word-bytes, version-bytes, word-fits, version-fits}
 use Rattle.wire.proofs.version.Laws.{parts}
 use Rattle.wire.proofs.words.Laws.{round}
-use Rattle.device_component.specs.Record.{FitsStaged, FitsComponent}
+use Rattle.device_component.specs.Record.{FitsStaged, FitsComponent, listed}
 use Rattle.device_component.specs.declared.record.Component.{Component}
+use Rattle.device_component.specs.declared.record.Listed.{Listed}
 use Rattle.device_component.specs.declared.record.Staged.{Staged}
 use Rattle.device_component.specs.declared.record.Staged.the-variants.{Nothing, Pending}
-use Rattle.device_component_bytes.specs.Layout.{WORD-SIZE, VERSION-SIZE, RUNNING-AT, REGION-AT, REGION-LEN-AT, STAGED-AT, STAGED-VERSION-AT, stagedBytes, regionBytes, componentBytes, componentIn, stagedFlagFits}
+use Rattle.device_component_bytes.specs.Layout.{WORD-SIZE, VERSION-SIZE, RUNNING-AT, REGION-AT, REGION-LEN-AT, STAGED-AT, STAGED-VERSION-AT, stagedBytes, regionBytes, componentBytes, listedBytes, componentIn, listedIn, stagedFlagFits}
 
 -- what is staged is bytes, and so is a component
 staged-bytes : (s : Staged) → FitsStaged s → Bytes (stagedBytes s)
@@ -39,7 +40,12 @@ component-back c rest f = go (c .staged)
     go Nothing = simp (parts (c .running), round WORD-SIZE (c .fixed .region .base .0) (f .fixed .region .base), round WORD-SIZE (c .fixed .region .len) (f .fixed .region .len))
     go (Pending w) = simp (parts (c .running), parts w, round WORD-SIZE (c .fixed .region .base .0) (f .fixed .region .base), round WORD-SIZE (c .fixed .region .len) (f .fixed .region .len))
 
--- and its flag fits
+-- so does one of the list
+pub listed-back : (l : Listed) (rest : List ℕ) → FitsComponent (listed l) → listedIn (listedBytes l ++ rest) ≡ l
+listed-back l rest f =
+    simp (parts (l .running), round WORD-SIZE (l .fixed .region .base .0) (f .fixed .region .base), round WORD-SIZE (l .fixed .region .len) (f .fixed .region .len))
+
+-- the flag of a component fits
 pub component-flag : (c : Component) (rest : List ℕ) → stagedFlagFits (componentBytes c ++ rest) ≡ true
 component-flag c rest = go (c .staged)
   where

@@ -8,7 +8,8 @@ use Rattle.wire.specs.Bytes.{bytesOf, bytesAt}
 use Rattle.device_component.specs.declared.record.Staged.{Staged}
 use Rattle.device_component.specs.declared.record.Staged.the-variants.{Nothing, Pending}
 use Rattle.device_component.specs.declared.record.Component.{Component}
-use Rattle.device_component_bytes.specs.Layout.{WORD-SIZE, VERSION-SIZE, STAGED-SIZE, COMPONENT-SIZE, stagedBytes, componentBytes}
+use Rattle.device_component.specs.declared.record.Listed.{Listed}
+use Rattle.device_component_bytes.specs.Layout.{WORD-SIZE, VERSION-SIZE, STAGED-SIZE, COMPONENT-SIZE, stagedBytes, componentBytes, listedBytes}
 
 -- what is staged is so many bytes, each by its place
 staged-each : (s : Staged) → bytesAt STAGED-SIZE 0 (stagedBytes s) ≡ stagedBytes s
@@ -31,3 +32,8 @@ component-of c v b l s e f g h =
     rw (e, f, g)
     (ap (λ (t : List ℕ). c .fixed .id ∷ versionBytes (c .running) ++ (bytesOf WORD-SIZE (c .fixed .region .base .0) ++ (bytesOf WORD-SIZE (c .fixed .region .len) ++ t)))
     (ap (bytesAt STAGED-SIZE 0) h ∙ staged-each (c .staged)))
+
+-- a component of the list, from the bytes of each field
+pub listed-of : (x : Listed) (v b l : List ℕ) → v ≡ versionBytes (x .running) → b ≡ bytesOf WORD-SIZE (x .fixed .region .base .0) → l ≡ bytesOf WORD-SIZE (x .fixed .region .len)
+    → x .fixed .id ∷ bytesAt VERSION-SIZE 0 v ++ (bytesAt WORD-SIZE 0 b ++ bytesAt WORD-SIZE 0 l) ≡ listedBytes x
+listed-of x v b l e f g = rw (e, f, g)

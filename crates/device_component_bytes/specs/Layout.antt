@@ -63,6 +63,10 @@ regionBytes r = bytesOf WORD-SIZE (r .base .0) ++ bytesOf WORD-SIZE (r .len)
 abbrev pub componentBytes : Component → List ℕ
 componentBytes c = c .fixed .id ∷ versionBytes (c .running) ++ (regionBytes (c .fixed .region) ++ stagedBytes (c .staged))
 
+-- a component of the list: id, running version, region
+abbrev pub listedBytes : Listed → List ℕ
+listedBytes l = l .fixed .id ∷ versionBytes (l .running) ++ regionBytes (l .fixed .region)
+
 -- the fields that stand in bytes, unjudged; a version that the flag rules out is not looked at
 abbrev pub regionIn : List ℕ → Region
 regionIn q = record { base = record { 0 = number (bytesAt WORD-SIZE REGION-AT q) }; len = number (bytesAt WORD-SIZE REGION-LEN-AT q) }

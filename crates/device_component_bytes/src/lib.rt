@@ -4,7 +4,7 @@ ghost use mathlib.Core.Path.{_≡_};
 ghost use mathlib.Core.Bool.{cond};
 ghost use lib.Dec.{eqb};
 ghost use Rattle.device_component.specs.declared.record.Staged.the-variants.{Nothing, Pending};
-ghost use Rattle.device_component_bytes.specs.Layout.{stagedBytes, componentBytes, fixedIn, componentIn, listedIn, stagedFlagFits};
+ghost use Rattle.device_component_bytes.specs.Layout.{stagedBytes, componentBytes, listedBytes, fixedIn, componentIn, listedIn, stagedFlagFits};
 use device_component::record::Component;
 use device_component::record::Fixed;
 use device_component::record::Listed;
@@ -79,6 +79,31 @@ pub fn component_bytes(c: Component) -> [u8; COMPONENT_SIZE]
         s[2],
         s[3],
         s[4],
+    ]
+}
+
+// A component of the list that set-up takes.
+pub fn listed_bytes(l: Listed) -> [u8; LISTED_SIZE]
+    ensures { λ r. ⌜ r ≡ listedBytes l ⌝ }
+{
+    let running = l.running;
+    let v = running.bytes();
+    let b = words::bytes32(l.fixed.region.base.number());
+    let n = words::bytes32(l.fixed.region.len);
+    [
+        l.fixed.id,
+        v[0],
+        v[1],
+        v[2],
+        v[3],
+        b[0],
+        b[1],
+        b[2],
+        b[3],
+        n[0],
+        n[1],
+        n[2],
+        n[3],
     ]
 }
 

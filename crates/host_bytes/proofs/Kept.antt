@@ -189,10 +189,10 @@ module _ (b q : List ℕ) (bytes : Bytes b) (k : Keeps b q) where
   sized : length q ≡ CONTENTS-SIZE
   sized = ap length (k .contents) ∙ contents-sized (checkOf b) (check-written b bytes) (placeIn q) (cursorIn q)
 
-  contents-are : contentsIn q ≡ bare (checkOf b)
+  pub contents-are : contentsIn q ≡ bare (checkOf b)
   contents-are = ap contentsIn (k .contents) ∙ contents-back (checkOf b) (check-written b bytes) (placeIn q) (cursorIn q)
 
-  body-are : (i : ℕ) → bodyRead q i ≡ bodyOf (checkOf b) i
+  pub body-are : (i : ℕ) → bodyRead q i ≡ bodyOf (checkOf b) i
   body-are i = body-read q i sized ∙ ap (λ (c : Contents). bodyOf c i) contents-are ∙ body-bare (checkOf b) i
 
   -- the kept cursor is right for its block, and a walk finds that of any other

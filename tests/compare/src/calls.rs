@@ -6,13 +6,16 @@ pub trait Calls: Sync {
     /// What a difference calls it.
     fn name(&self) -> &'static str;
 
+    fn list_put(&self, list: &mut [u8], place: u32, component: Listed) -> u32;
     fn set_up(&self, device: &mut [u8], platform: u16, list: &[u8], count: u8, staging: &[u8]) -> u32;
+    fn device_component(&self, device: &[u8], place: u32) -> ToldComponent;
     fn version_reply(&self, device: &[u8], packet: &mut [u8]) -> u32;
     fn offer(&self, device: &mut [u8], staging: &[u8], report: &[u8], replies: &mut [u8]) -> Replies;
     fn content(&self, device: &mut [u8], staging: &mut [u8], report: &[u8], replies: &mut [u8]) -> Replies;
     fn reset(&self, device: &mut [u8]) -> u32;
 
     fn check(&self, bundle: &[u8], contents: &mut [u8]) -> Check;
+    fn contents_entry(&self, contents: &[u8], place: u32) -> ToldEntry;
     fn write(&self, list: &[u8], images: &[u8], out: &mut [u8]) -> Written;
 
     fn fresh(&self, host: &mut [u8], token: u8) -> u32;

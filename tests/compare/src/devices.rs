@@ -6,6 +6,7 @@ use crate::demand;
 use crate::layout::*;
 use crate::lent::Lent;
 use crate::other;
+use crate::parts;
 use crate::random::Random;
 use crate::tally::{self, Tally};
 use crate::ALL;
@@ -649,7 +650,7 @@ pub fn run_script(case: &Case, tally: &mut Tally) -> Outcome {
             count_left(tally, *what, given, first.device.bytes(), &passed);
         }
     }
-    Ok(())
+    parts::components_left(&sides.iter().map(|side| &side.device).collect::<Vec<_>>(), tally)
 }
 
 /// What the first call of a script does with bytes that are passed over and are not zero.

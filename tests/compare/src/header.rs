@@ -125,7 +125,41 @@ pub struct Report {
     pub status: u32,
 }
 
+#[repr(C)]
+#[derive(Clone, Copy, Debug, Default, PartialEq, Eq)]
+pub struct Listed {
+    pub id: u8,
+    pub running: Version,
+    pub base: u32,
+    pub length: u32,
+}
+
+/// A component of a device, as a call tells it.
+#[repr(C)]
+#[derive(Clone, Copy, Debug, Default, PartialEq, Eq)]
+pub struct ToldComponent {
+    pub number: u32,
+    pub id: u8,
+    pub running: Version,
+    pub base: u32,
+    pub length: u32,
+    pub pending: u8,
+    pub staged: Version,
+}
+
+/// An entry of a checked bundle, as a call tells it.
+#[repr(C)]
+#[derive(Clone, Copy, Debug, Default, PartialEq, Eq)]
+pub struct ToldEntry {
+    pub number: u32,
+    pub entry: u32,
+    pub offset: u32,
+    pub length: u32,
+    pub records: u32,
+}
+
 extern "C" {
+    pub fn cfu_list_put(list: *mut u8, list_len: usize, place: u32, component: Listed) -> u32;
     pub fn cfu_device_set_up(
         device: *mut u8,
         device_len: usize,
@@ -136,6 +170,7 @@ extern "C" {
         staging: *const u8,
         staging_len: usize,
     ) -> u32;
+    pub fn cfu_device_component(device: *const u8, device_len: usize, place: u32) -> ToldComponent;
     pub fn cfu_device_version_reply(device: *const u8, device_len: usize, packet: *mut u8, packet_len: usize) -> u32;
     pub fn cfu_device_offer(
         device: *mut u8,
@@ -159,6 +194,7 @@ extern "C" {
     ) -> Replies;
     pub fn cfu_device_reset(device: *mut u8, device_len: usize) -> u32;
     pub fn cfu_bundle_check(bundle: *const u8, bundle_len: usize, contents: *mut u8, contents_len: usize) -> Check;
+    pub fn cfu_contents_entry(contents: *const u8, contents_len: usize, place: u32) -> ToldEntry;
     pub fn cfu_bundle_write(list: *const u8, list_len: usize, images: *const u8, images_len: usize, out: *mut u8, out_len: usize) -> Written;
     pub fn cfu_host_fresh(host: *mut u8, host_len: usize, token: u8) -> u32;
     pub fn cfu_host_step(

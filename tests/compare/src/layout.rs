@@ -7,6 +7,9 @@ use std::ops::Range;
 
 // ---------------------------------------------------------------- the header's numbers
 
+pub const INTERFACE_MAJOR: u32 = 1;
+pub const INTERFACE_MINOR: u32 = 0;
+
 pub const DEVICE_SIZE: usize = 140;
 pub const LIST_SIZE: usize = 91;
 pub const HOST_SIZE: usize = 24;
@@ -53,6 +56,7 @@ pub const SERVED: u32 = 0;
 pub const C1: u32 = 0x4301;
 pub const C2: u32 = 0x4302;
 pub const C3: u32 = 0x4303;
+pub const C4: u32 = 0x4304;
 pub const S1: u32 = 0x5301;
 pub const S2: u32 = 0x5302;
 pub const S3: u32 = 0x5303;

@@ -13,7 +13,7 @@ use crate::tally::{self, Tally};
 use crate::ALL;
 
 /// The calls that judge a length, each with the rows that it can answer.
-const CALLS: [(&str, &[&str]); 19] = [
+const CALLS: [(&str, &[&str]); 22] = [
     ("set-up", &["set-up: C1", "set-up: C2"]),
     ("version reply", &["version reply: C1", "version reply: C3"]),
     ("offer", &["offer: C1", "offer: C3"]),
@@ -33,6 +33,9 @@ const CALLS: [(&str, &[&str]); 19] = [
     ("build content reply", &["build content reply: C3"]),
     ("read version reply", &["read version reply: C3"]),
     ("read content", &["read content: C3"]),
+    ("list_put", &["list_put: C2"]),
+    ("device_component", &["device_component: C1"]),
+    ("contents_entry", &["contents_entry: C1"]),
 ];
 
 /// What has to be met: each row of each call.
@@ -79,7 +82,10 @@ pub fn make(r: &mut Random) -> Case {
         11..=14 | 16 => vec![perhaps(r, &short)],
         15 => vec![perhaps(r, &[7; DATA_SIZE]), perhaps(r, &long)],
         17 => vec![r.bytes(LONG_SIZE), perhaps(r, &[0x5A; COMPONENTS_SIZE])],
-        _ => vec![r.bytes(LONG_SIZE), perhaps(r, &[0x5A; DATA_SIZE])],
+        18 => vec![r.bytes(LONG_SIZE), perhaps(r, &[0x5A; DATA_SIZE])],
+        19 => vec![perhaps(r, &list)],
+        20 => vec![perhaps(r, &device)],
+        _ => vec![perhaps(r, &contents)],
     };
     if function == 17 {
         put(&mut buffers[0], version_reply_at::COUNT, &[3, 0, 0, PROTOCOL]);
@@ -160,8 +166,17 @@ fn call(calls: &dyn Calls, name: &str, count: u8, lent: &mut [Lent]) -> (u32, St
             let told = calls.read_version_reply(a.bytes(), b.lend());
             (told.number, format!("{told:?}"))
         }
-        _ => {
+        "read content" => {
             let told = calls.read_content(a.bytes(), b.lend());
+            (told.number, format!("{told:?}"))
+        }
+        "list_put" => plain(calls.list_put(a.lend(), 3, Listed { id: 5, base: 6, length: 7, ..Default::default() })),
+        "device_component" => {
+            let told = calls.device_component(a.bytes(), 0);
+            (told.number, format!("{told:?}"))
+        }
+        _ => {
+            let told = calls.contents_entry(a.bytes(), 0);
             (told.number, format!("{told:?}"))
         }
     }

@@ -14,6 +14,7 @@ pub mod library;
 pub mod made;
 pub mod other;
 pub mod packets;
+pub mod parts;
 pub mod random;
 pub mod runs;
 pub mod tally;

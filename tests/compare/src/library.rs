@@ -12,8 +12,16 @@ impl Calls for Library {
         "library"
     }
 
+    fn list_put(&self, list: &mut [u8], place: u32, component: Listed) -> u32 {
+        unsafe { cfu_list_put(list.as_mut_ptr(), list.len(), place, component) }
+    }
+
     fn set_up(&self, device: &mut [u8], platform: u16, list: &[u8], count: u8, staging: &[u8]) -> u32 {
         unsafe { cfu_device_set_up(device.as_mut_ptr(), device.len(), platform, list.as_ptr(), list.len(), count, staging.as_ptr(), staging.len()) }
+    }
+
+    fn device_component(&self, device: &[u8], place: u32) -> ToldComponent {
+        unsafe { cfu_device_component(device.as_ptr(), device.len(), place) }
     }
 
     fn version_reply(&self, device: &[u8], packet: &mut [u8]) -> u32 {
@@ -59,6 +67,10 @@ impl Calls for Library {
     #[inline]
     fn check(&self, bundle: &[u8], contents: &mut [u8]) -> Check {
         unsafe { cfu_bundle_check(bundle.as_ptr(), bundle.len(), contents.as_mut_ptr(), contents.len()) }
+    }
+
+    fn contents_entry(&self, contents: &[u8], place: u32) -> ToldEntry {
+        unsafe { cfu_contents_entry(contents.as_ptr(), contents.len(), place) }
     }
 
     fn write(&self, list: &[u8], images: &[u8], out: &mut [u8]) -> Written {

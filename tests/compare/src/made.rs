@@ -1,12 +1,15 @@
-//! The crate that tools/rust_crate makes from the proved source. Rows C1 to C3 and bytes that are no record are judged here, as include/cfu.h says.
+//! The crate that tools/rust_crate makes from the proved source. Rows C1 to C3 and bytes that are no record are judged here, as include/cfu.h says; the
+//! writer and the calls for one part of lent bytes are the crate's own calls.
 
 use cfu_updater::bundle;
 use cfu_updater::bundle_layout::{self, verdict_of, BundleVerdict, Checked};
+use cfu_updater::c_access::{cfu_contents_entry, cfu_device_component, cfu_list_put};
+use cfu_updater::c_types::types::{CListed, CVersion};
 use cfu_updater::c_writer::cfu_bundle_write;
 use cfu_updater::device::answer::{Answer, Refusal};
 use cfu_updater::device::record::Device;
 use cfu_updater::device::setup::set_up;
-use cfu_updater::device_component::record::{Component as MadeComponent, Fixed, Listed, Staged};
+use cfu_updater::device_component::record::{Component as MadeComponent, Fixed, Listed as MadeListed, Staged};
 use cfu_updater::device_component::setup::SetupVerdict;
 use cfu_updater::device_session::effect::Session as DeviceSession;
 use cfu_updater::device_session::owed::Owed;
@@ -98,8 +101,8 @@ pub fn record_of(device: &Device) -> DeviceRecord {
 }
 
 /// A component as it is given to the crate's set-up.
-fn listed_of(component: &ListedComponent) -> Listed {
-    Listed { fixed: fixed(component.id, component.base, component.length), running: version(component.running) }
+fn listed_of(component: &ListedComponent) -> MadeListed {
+    MadeListed { fixed: fixed(component.id, component.base, component.length), running: version(component.running) }
 }
 
 /// The device in these bytes; bytes that are no record stand for the blank one, which every entry refuses.
@@ -260,9 +263,19 @@ fn parts(version: MadeVersion) -> Version {
     Version { major: version.major(), minor: version.minor(), variant: version.variant() }
 }
 
+fn told_version(version: CVersion) -> Version {
+    Version { major: version.major, minor: version.minor, variant: version.variant }
+}
+
 impl Calls for Made {
     fn name(&self) -> &'static str {
         "made crate"
+    }
+
+    fn list_put(&self, list: &mut [u8], place: u32, component: Listed) -> u32 {
+        let Version { major, minor, variant } = component.running;
+        let running = CVersion { major, minor, variant };
+        cfu_list_put(list, place, CListed { id: component.id, running, base: component.base, length: component.length })
     }
 
     fn set_up(&self, device: &mut [u8], platform: u16, list: &[u8], count: u8, staging: &[u8]) -> u32 {
@@ -283,6 +296,19 @@ impl Calls for Made {
             SetupVerdict::S2 => S2,
             SetupVerdict::S3 => S3,
             SetupVerdict::S4 => S4,
+        }
+    }
+
+    fn device_component(&self, device: &[u8], place: u32) -> ToldComponent {
+        let told = cfu_device_component(device, place);
+        ToldComponent {
+            number: told.number,
+            id: told.id,
+            running: told_version(told.running),
+            base: told.base,
+            length: told.length,
+            pending: told.pending,
+            staged: told_version(told.staged),
         }
     }
 
@@ -339,6 +365,11 @@ impl Calls for Made {
         let checked = bundle::check(bytes);
         contents.copy_from_slice(&contents_of(&checked).bytes());
         Check { number: bundle_number(checked.verdict), entry: checked.place as u32, count: checked.count as u32 }
+    }
+
+    fn contents_entry(&self, contents: &[u8], place: u32) -> ToldEntry {
+        let told = cfu_contents_entry(contents, place);
+        ToldEntry { number: told.number, entry: told.entry, offset: told.offset, length: told.length, records: told.records }
     }
 
     fn write(&self, list: &[u8], images: &[u8], out: &mut [u8]) -> Written {

@@ -13,7 +13,7 @@ use std::time::Instant;
 use compare::case::{shrink, Case, Outcome, Run};
 use compare::random::Random;
 use compare::tally::{Tally, REQUIRED};
-use compare::{bundles, devices, hosts, lengths, packets, runs, writers};
+use compare::{bundles, devices, hosts, lengths, packets, parts, runs, writers};
 
 /// The gate's seed.
 const SEED: u64 = 20_190_711;
@@ -27,7 +27,7 @@ struct Kind {
     gate: u64,
 }
 
-const KINDS: [Kind; 10] = [
+const KINDS: [Kind; 13] = [
     Kind { name: "set-up", make: devices::make_setup, run: devices::run_setup, unit: "calls: set-up", gate: 100_000 },
     Kind { name: "packets", make: devices::make_script, run: devices::run_script, unit: "packets to the device", gate: 3_000_000 },
     Kind { name: "build", make: packets::make_build, run: packets::run_build, unit: "packets built", gate: 100_000 },
@@ -38,6 +38,9 @@ const KINDS: [Kind; 10] = [
     Kind { name: "lengths", make: lengths::make, run: lengths::run, unit: "calls with buffers of any length", gate: 60_000 },
     Kind { name: "runs", make: runs::make_run, run: runs::run_run, unit: "whole runs", gate: 60_000 },
     Kind { name: "write", make: writers::make_write, run: writers::run_write, unit: "calls: write", gate: 200_000 },
+    Kind { name: "list_put", make: parts::make_list, run: parts::run_list, unit: "calls: list_put", gate: 200_000 },
+    Kind { name: "device_component", make: parts::make_component, run: parts::run_component, unit: "calls: device_component", gate: 400_000 },
+    Kind { name: "contents_entry", make: parts::make_entry, run: parts::run_entry, unit: "calls: contents_entry", gate: 400_000 },
 ];
 
 struct Options {
@@ -110,8 +113,21 @@ fn run_by<const K: usize>(case: &Case, tally: &mut Tally) -> Outcome {
     tried(KINDS[K].run, case, tally)
 }
 
-const CAUGHT: [Run; 10] =
-    [run_by::<0>, run_by::<1>, run_by::<2>, run_by::<3>, run_by::<4>, run_by::<5>, run_by::<6>, run_by::<7>, run_by::<8>, run_by::<9>];
+const CAUGHT: [Run; 13] = [
+    run_by::<0>,
+    run_by::<1>,
+    run_by::<2>,
+    run_by::<3>,
+    run_by::<4>,
+    run_by::<5>,
+    run_by::<6>,
+    run_by::<7>,
+    run_by::<8>,
+    run_by::<9>,
+    run_by::<10>,
+    run_by::<11>,
+    run_by::<12>,
+];
 
 fn one_kind(place: usize, options: &Options, tally: &mut Tally) -> Result<(), String> {
     let kind = &KINDS[place];
@@ -155,7 +171,7 @@ fn one_kind(place: usize, options: &Options, tally: &mut Tally) -> Result<(), St
 fn unmet(tally: &Tally) -> Vec<&'static str> {
     let all = REQUIRED.iter().chain(&devices::BROKEN).chain(&devices::PASSED).chain(&devices::LEFT).chain(&devices::SETUP).chain(&devices::LENGTHS);
     let all = all.chain(&hosts::BROKEN).chain(&hosts::PASSED).chain(&runs::RUNS).chain(&writers::WRITTEN);
-    all.copied().chain(lengths::required()).filter(|name| tally.of(name) == 0).collect()
+    all.copied().chain(lengths::required()).chain(parts::required()).filter(|name| tally.of(name) == 0).collect()
 }
 
 fn main() {

@@ -2,9 +2,13 @@
 //!
 //! It has no step over contents: that call is answered by its step over the bundle, with the place after the record in hand as the cursor. So it says
 //! nothing about contents that no check of this bundle left.
+//!
+//! The papers have no call for one part of lent bytes: those are answered here, by the layouts of layout.rs, and row D1 by its version reply.
 
 use second::bundle::{check, Bundle, Fault};
-use second::device::{set_up, Answer, Component as SecondComponent, Device, Listed, Offered, Receiving, Region, Stage as DeviceStage, StagingOffset};
+use second::device::{
+    set_up, Answer, Component as SecondComponent, Device, Listed as SecondListed, Offered, Receiving, Region, Stage as DeviceStage, StagingOffset,
+};
 use second::host::{End, Host, Packet, Stage as HostStage, Stepped};
 use second::maker;
 use second::packets;
@@ -70,7 +74,7 @@ fn read_device(bytes: &[u8]) -> Device {
     device_of(&DeviceRecord::read(bytes).unwrap_or_default())
 }
 
-fn row_number(row: Refusal) -> u32 {
+pub fn row_number(row: Refusal) -> u32 {
     match row {
         Refusal::S1 => S1,
         Refusal::S2 => S2,
@@ -225,6 +229,19 @@ impl Calls for Other {
         "second"
     }
 
+    fn list_put(&self, list: &mut [u8], place: u32, component: Listed) -> u32 {
+        if list.len() != LIST_SIZE {
+            return C2;
+        }
+        let mut listed = read_list(list);
+        let Some(own) = listed.get_mut(place as usize) else { return C4 };
+        let Version { major, minor, variant } = component.running;
+        let running = SecondVersion::from_parts(major, minor, variant).0;
+        *own = ListedComponent { id: component.id, running, base: component.base, length: component.length };
+        list.copy_from_slice(&list_bytes(&listed));
+        SERVED
+    }
+
     fn set_up(&self, device: &mut [u8], platform: u16, list: &[u8], count: u8, staging: &[u8]) -> u32 {
         if device.len() != DEVICE_SIZE {
             return C1;
@@ -233,7 +250,7 @@ impl Calls for Other {
             return C2;
         }
         let list = read_list(list);
-        let listed = list.map(|l| Listed { id: l.id, running: SecondVersion(l.running), region: region(l.base, l.length) });
+        let listed = list.map(|l| SecondListed { id: l.id, running: SecondVersion(l.running), region: region(l.base, l.length) });
         let answer = set_up(platform, &listed, count, staging);
         if answer.refused.is_none() {
             let mut record = record_of(&answer.value);
@@ -244,6 +261,27 @@ impl Calls for Other {
             device.copy_from_slice(&record.bytes());
         }
         number_of(answer.refused)
+    }
+
+    fn device_component(&self, device: &[u8], place: u32) -> ToldComponent {
+        let refused = |number: u32| ToldComponent { number, ..Default::default() };
+        if device.len() != DEVICE_SIZE {
+            return refused(C1);
+        }
+        let device = read_device(device);
+        if let Some(row) = device.version_reply().refused {
+            return refused(row_number(row));
+        }
+        let Some(own) = device.listed().get(place as usize) else { return refused(C4) };
+        ToldComponent {
+            number: SERVED,
+            id: own.id,
+            running: parts(own.running),
+            base: own.region.base.0,
+            length: own.region.length,
+            pending: own.pending() as u8,
+            staged: own.staged.map_or(Version::default(), parts),
+        }
     }
 
     fn version_reply(&self, device: &[u8], packet: &mut [u8]) -> u32 {
@@ -312,6 +350,17 @@ impl Calls for Other {
         };
         contents.copy_from_slice(&left.bytes());
         answer
+    }
+
+    fn contents_entry(&self, contents: &[u8], place: u32) -> ToldEntry {
+        let refused = |number: u32, entry: u32| ToldEntry { number, entry, ..Default::default() };
+        let Some(kept) = Contents::read(contents) else { return refused(C1, 0) };
+        let rows = [B1, B2, B3, B4, B5, B6, B7, B8];
+        if kept.row != 0 {
+            return refused(rows[kept.row as usize - 1], kept.place as u32);
+        }
+        let Some(own) = kept.bodies[..kept.count as usize].get(place as usize) else { return refused(C4, 0) };
+        ToldEntry { number: SERVED, entry: 0, offset: own.offset, length: own.length, records: own.records }
     }
 
     fn write(&self, list: &[u8], images: &[u8], out: &mut [u8]) -> Written {

@@ -43,6 +43,7 @@ pub fn row(number: u32) -> &'static str {
         C1 => "row: C1",
         C2 => "row: C2",
         C3 => "row: C3",
+        C4 => "row: C4",
         S1 => "row: S1",
         S2 => "row: S2",
         S3 => "row: S3",
@@ -117,11 +118,12 @@ pub fn content_status(reply: &[u8]) -> &'static str {
 }
 
 /// What the gate's run has to have met at least once.
-pub const REQUIRED: [&str; 55] = [
+pub const REQUIRED: [&str; 60] = [
     "row: served",
     "row: C1",
     "row: C2",
     "row: C3",
+    "row: C4",
     "row: S1",
     "row: S2",
     "row: S3",
@@ -173,4 +175,8 @@ pub const REQUIRED: [&str; 55] = [
     "content reply: 0x09",
     "content reply: 0x0A",
     "content reply: 0x0B",
+    "list_put: served",
+    "device_component: served",
+    "device_component: pending told",
+    "contents_entry: served",
 ];

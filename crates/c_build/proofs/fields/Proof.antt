@@ -4,7 +4,7 @@ use Rattle.c_build.proofs.fields.Statement.{statement}
 use Rattle.c_build.proofs.fields.Tie as tie
 
 returns : tie.Need-returns
-returns c = simp (c .new .ensures)
+returns c = simp (c .version-in .ensures)
 
 pub fields-spec : {M : Type 1} → statement M
 fields-spec = tie.close (tie.spec (λ c κs. search needs) returns)

@@ -1,7 +1,7 @@
--- `parts` meets its contract: each part of the version. Assumes nothing.
+-- `version::parts` meets its contract: each part of the version. Assumes nothing.
 use borrow.Author.Needs.{needs}
-use Rattle.c_read.proofs.parts.Statement.{statement}
-use Rattle.c_read.proofs.parts.Tie as tie
+use Rattle.c_types.proofs.version.parts.Statement.{statement}
+use Rattle.c_types.proofs.version.parts.Tie as tie
 
 returns : tie.Need-returns
 returns c = rw (c .before .before .major .ensures, c .before .minor .ensures, c .variant .ensures)

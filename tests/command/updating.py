@@ -1,0 +1,160 @@
+"""`cfu update`: E13, devices and images that refuse, bundles that are refused, and the progress line of a terminal."""
+import errno
+import re
+
+from common import COLOUR, OneOf, TOP, as_told, case, check, fresh, no_file, on_terminal, save, terminal, wrong_line
+from model import BENCH, Component, SENTENCE, inspected, known_answer, page_block, refusal, update_text, version_words
+import cfu
+from cfu import COMPONENT_LIMIT, body, body_record, bundle, image, offer, version, written_body
+from make import E12, E12_OFFERS
+
+V100, V110, V120, V130 = version(1, 0), version(1, 1), version(1, 2), version(1, 3)
+OTHER_ORDER = bundle(E12_OFFERS[::-1])
+
+
+def one(component, number, data, **fields):
+    return bundle([(offer(component, number, **fields), data)])
+
+
+def bad_crc(component, number):
+    data = bytearray(image(component, number))
+    data[20] ^= 1
+    return body(bytes(data))
+
+
+def words_of(components=None, staging=None, platform=None, token=None, packets=False):
+    """The options for a device and a host."""
+    words = []
+    for it in components or ():
+        words += ["--component", f"{it.id}:{version_words(it.running)}:{it.base}:{it.length}"]
+    for name, value in (("--staging", staging), ("--platform", platform), ("--token", token)):
+        words += [] if value is None else [name, str(value)]
+    return words + (["--packets"] if packets else [])
+
+
+def update(folder, name, data, end=None, answer=None, **how):
+    """All lines and the status. end: a line that must be among them, of which the page or document 01 speaks."""
+    file = save(folder, re.sub(r"\W+", "-", name), data)
+    status, text = update_text(file, data, answer, **{key: value for key, value in how.items() if value is not None})
+    assert end is None or f"{end}\n" in text, f"{name}: the model has not {end!r}:\n{text}"
+    case(f"update, {name}", ["update", *words_of(**how), file], status, text, cwd=folder)
+    return status
+
+
+def regions(*components):
+    """Components with regions one behind the other: (id, running version, length)."""
+    out, base = [], 0
+    for component, running, length in components:
+        out.append(Component(component, running, base, length))
+        base += length
+    return tuple(out)
+
+
+def runs(folder):
+    for packets in (False, True):
+        shown = ", packet by packet" if packets else ""
+        update(folder, f"E13{shown}", E12, "report: completed 2 of 2, packets 13, passes 2", packets=packets)
+        update(folder, f"E13 in the other order{shown}", OTHER_ORDER, "report: completed 2 of 2, packets 9, passes 1", packets=packets)
+        update(folder, f"a wrong CRC{shown}", one(2, V120, bad_crc(2, V120)), f"ended H1: {SENTENCE['H1']} with status 0x05: {SENTENCE['ERROR_CRC']}", packets=packets)
+    update(folder, "another token", E12, token=7, packets=True)
+    update(folder, "another platform", E12, f"  offer 2: REJECT: {SENTENCE['REJECT_INV_COMPONENT']}", platform=0x0043)
+    update(folder, "another platform for both", one(1, V130, body(image(1, V130)), platform=0xBEEF), "done", platform=0xBEEF)
+    update(folder, "an old version", E12, f"  offer 1: REJECT: {SENTENCE['REJECT_OLD_FW']}", components=regions((1, V130, 64), (2, V120, 64)))
+    update(folder, "a debug build of the running number", one(1, version(1, 2, 1), body(image(1, version(1, 2, 1)))), f"  offer 1: REJECT: {SENTENCE['REJECT_WRONG_VARIANT']}")
+    update(folder, "a debug build where one runs", one(1, version(1, 3, 1), body(image(1, version(1, 3, 1)))), "  component 1 runs 1.3.1",
+           components=regions((1, version(1, 2, 1), 64)))
+    update(folder, "a need that nothing meets", one(1, V130, body(image(1, V130)), need=2, least=V120 >> 8), f"  offer 1: SKIP: {SENTENCE['OFFER_SKIP']}")
+    never = [(offer(1, V130, need=2, least=version(9, 9) >> 8), body(image(1, V130))), (offer(2, V120, need=1, least=version(9, 9) >> 8), body(image(2, V120)))]
+    update(folder, "two needs that nothing meets: no second pass", bundle(never), "report: completed 0 of 2, packets 5, passes 1")
+    update(folder, "a need that nothing meets, and an image that lands: a second pass", bundle([never[0], E12_OFFERS[1]]), "report: completed 1 of 2, packets 11, passes 2")
+    update(folder, "a component that the device lacks", E12, "report: completed 1 of 2, packets 7, passes 1", components=regions((2, V110, 64)))
+    update(folder, "A3's records", bundle([(offer(1, V130), written_body(image(1, V130)))]), "  offer 1: completed, blocks 3")
+    chain = [(offer(i, V110, need=i + 1 if i < 7 else 0, least=V110 >> 8 if i < 7 else 0), body(image(i, V110))) for i in range(1, 8)]
+    seven = regions(*((i, V100, 64) for i in range(1, 8)))
+    update(folder, "seven offers, each needs the next", bundle(chain), "report: completed 7 of 7, packets 78, passes 7", components=seven, staging=65536)
+    update(folder, "seven offers, each needs the one before", bundle(chain[::-1]), components=seven)
+
+    # images that the device refuses
+    update(folder, "an image for another component", one(2, V120, body(image(1, V120))), f"ended H1: {SENTENCE['H1']} with status 0x04: {SENTENCE['ERROR_VERIFY']}")
+    for name, number in (("an older image", V100), ("an image of another variant", version(1, 2, 1))):
+        update(folder, name, one(2, V120, body(image(2, number))), f"ended H1: {SENTENCE['H1']} with status 0x07: {SENTENCE['ERROR_VERSION']}")
+    update(folder, "a block past the region", one(2, V120, body_record(13, bytes(52))), f"ended H1: {SENTENCE['H1']} with status 0x09: {SENTENCE['ERROR_INVALID_ADDR']}")
+    update(folder, "a second block past the region", one(2, V120, body(image(2, V120, 65))), "report: completed 0 of 1, packets 5, passes 1", packets=True)
+    update(folder, "the first offer is completed, the second ended", bundle([(offer(1, V130), body(image(1, V130))), (offer(2, V120), bad_crc(2, V120))]),
+           "report: completed 1 of 2, packets 8, passes 1")
+
+
+def set_ups(folder):
+    def device(name, row, components=None, staging=None):
+        update(folder, f"{row} for {name}", E12, refusal(row), components=components, staging=staging)
+
+    device("staging over 65,536 bytes", "S1", staging=65537)
+    device("the id 0", "S3", regions((0, V100, 64)))
+    device("the id 0xE0", "S3", regions((0xE0, V100, 64)))
+    device("an id twice", "S3", regions((1, V100, 64), (1, V100, 64)))
+    device("a region under 8 bytes", "S4", regions((1, V100, 7)))
+    device("a region past the buffer", "S4", regions((1, V100, 64)), 63)
+    device("a region far past the buffer", "S4", (Component(1, V100, 0xFFFFFFFF, 64),))
+    device("two regions that overlap", "S4", (Component(1, V100, 0, 64), Component(2, V100, 63, 64)))
+    device("staging of 0 bytes", "S4", staging=0)
+    case("update, the options of the bench device are those that are taken without them", ["update", "E13", *words_of(BENCH, 128, "0x42", "0xA5")], 0,
+         update_text("E13", E12)[1], cwd=folder)
+    case("update, options with =", ["update", *(f"{name}={value}" for name, value in zip(*[iter(words_of(BENCH, 128, 66, 165))] * 2)), "E13"], 0,
+         update_text("E13", E12)[1], cwd=folder)
+
+
+def command_lines(folder):
+    for words in ([], ["--packets"], ["E13", "E13"], ["E13", "--token"], ["E13", "--colour", "1"], ["E13", "--colour"], ["E13", "--token", "256"], ["E13", "--token", "x"],
+                  ["E13", "--token", ""], ["E13", "--token", "-1"], ["E13", "--token", "+1"], ["E13", "--token", " 1"], ["E13", "--token", "1_0"], ["E13", "--token", "0x+1"],
+                  ["E13", "--token=256"], ["E13", "--token="], ["E13", "--platform", "0x10000"], ["E13", "--platform", "0x"], ["E13", "--platform"],
+                  ["E13", "--staging", "0x1000000"], ["E13", "--staging", "x"], ["E13", "--staging"], ["E13", "--component"], ["E13", "--component", "1:1.2:0:64"],
+                  ["E13", "--component", "1:1.2.0:0:64:"], ["E13", "--component", "1:1.2.0:0:4294967296"], ["E13", "--component", "1:1.2.0:4294967296:64"],
+                  ["E13", "--component", "1:256.2.0:0:64"], ["E13", "--component", "1:1.65536.0:0:64"], ["E13", "--component", "1:1.2.256:0:64"],
+                  ["E13", "--component", "256:1.2.0:0:64"], ["E13", "--component", "1:1.2.0:0"], ["E13", "--component", "1:1.2.0::64"],
+                  ["E13"] + (COMPONENT_LIMIT + 1) * ["--component", "1:1.2.0:0:64"], ["E13", "--json"], ["E13", "--swap-protocol"], ["E13", "--packets=1"],
+                  ["E13", "--packets="], ["--packets=yes", "E13"]):
+        case(f"update, the command line {words}", ["update", *words], 2, "", wrong_line("update"), cwd=folder)
+
+
+def terminals(folder):
+    """The progress line is written over by a carriage return and ended by a line end; nothing of it comes through a pipe or with --packets."""
+    wanted = "\r  offer 2: block 1 of 2, 50 %\r  offer 2: block 2 of 2, 100 %\n  offer 2: completed, blocks 2\n"
+    assert update_text("E13", E12, over_one_line=True)[1].count(wanted) == 1
+    for name in ("E13", "E13-in-the-other-order", "a-wrong-CRC", "a-second-block-past-the-region", "A3-s-records"):
+        with open(f"{folder}/{name}", "rb") as file:
+            data = file.read()
+        for packets in (False, True):
+            status, text = update_text(name, data, over_one_line=True, packets=packets)
+            got, out, err = terminal(["update", name, *words_of(packets=packets)], cwd=folder)
+            check(f"update, {name} on a terminal, packets {packets}", status=(status, got), output=(on_terminal(text), COLOUR.sub("", out)), messages=("", err))
+
+
+def twice(folder):
+    """Of an option that stands twice the last holds; --component may stand more than once."""
+    for name, words, how in (("--token", ["--token", "1", "--token", "0x07"], {"token": 7}), ("--platform", ["--platform=0x42", "--platform", "67"], {"platform": 67}),
+                             ("--platform, the usual last", ["--platform", "67", "--platform=0x42"], {}), ("--staging", ["--staging", "1", "--staging", "256"], {"staging": 256}),
+                             ("--staging, too little last", ["--staging", "256", "--staging", "64"], {"staging": 64})):
+        status, text = update_text("E13", E12, packets=True, **how)
+        case(f"update, {name} twice", ["update", *words, "E13", "--packets", "--packets"], status, text, cwd=folder)
+
+
+def cases(work):
+    check("the model gives the page's example of update", text=(page_block("bundle examples/e12.bundle"), update_text("examples/e12.bundle", E12)[1]))
+    case("update, the page's example", ["update", "examples/e12.bundle"], *update_text("examples/e12.bundle", E12), cwd=TOP)
+    folder = fresh(work, "update")
+    runs(folder)
+    set_ups(folder)
+    command_lines(folder)
+    terminals(folder)
+    for name, (data, _) in inspected.items():
+        update(folder, f"tests/inspect, {name}", data, answer=known_answer(name))
+    case("update, from standard input", ["update", "-"], 0, update_text("standard input", E12)[1], cwd=folder, given=E12)
+    save(folder, b"p\xffq", E12)
+    # Whether the bytes of a name that is no UTF-8 stand in a line, or U+FFFD, is not said.
+    case("update, a name that is no UTF-8", ["update", b"p\xffq"], 0, OneOf(update_text(told, E12)[1] for told in as_told(b"p\xffq")), cwd=folder)
+    twice(folder)
+    case("update, a refused bundle from standard input", ["update", "-"], 1, f"{refusal('B7', 2)}\n", cwd=folder, given=E12[:-1])
+    case("update, an endless file", ["update", "/dev/zero"], 1, f"{refusal('B1')}\n", cwd=folder)
+    case("update, no file", ["update", "none"], 3, "", no_file("update", "none"), cwd=folder)
+    case("update, a directory", ["update", "."], 3, "", no_file("update", ".", errno.EISDIR), cwd=folder)
+    assert cfu.PLATFORM == 0x0042

@@ -18,7 +18,7 @@ import cfu  # noqa: E402
 from cfu import body, body_record, bundle, image, offer, version  # noqa: E402
 from make import E12, V120, V130, cases as inspected  # noqa: E402
 
-ALL, NOT_ALL, COMMAND_LINE, NO_FILE, BUNDLE, SET_UP, ENDED = 0, 1, 2, 3, 4, 5, 6
+ALL, NOT_ALL, COMMAND_LINE, NO_FILE, BUNDLE, SET_UP, ENDED, CALL, LOST = range(9)
 failures = []
 passed = 0
 
@@ -246,7 +246,14 @@ def further(command, work, case, refusal, report):
         got, out, err = ran(command, args)
         checked(f"the command line {args}", got == COMMAND_LINE and out == "" and err.startswith("update: ") and err.endswith("(update --help)\n"), f"status {got}; {err}{out}")
     got, out, err = ran(command, ["--help"])
-    checked("--help", got == 0 and all(f"\n  {status}  " in out for status in range(8)) and err == "", out)
+    checked("--help", got == 0 and all(f"\n  {status}  " in out for status in range(LOST + 1)) and err == "", out)
+
+    # output that is lost
+    for args in ([path], ["--help"], [os.path.join(work, "E13-in-the-other-order"), "--packets"]):
+        for name, redirected in (("full", ">/dev/full"), ("closed", ">&-")):
+            done = subprocess.run(["sh", "-c", f'"$@" {redirected}', "sh", *command, *args], stdout=subprocess.PIPE, stderr=subprocess.PIPE, timeout=300)
+            err = done.stderr.decode()
+            checked(f"output {name}, {args}", done.returncode == LOST and err.startswith("update: standard output: "), f"status {done.returncode}; {err}")
     case("another token", E12, ALL, "done", report(2, 2, 13, 2), *BOTH_NEW, args=["--token", "7"])
 
     # every bundle of tests/inspect

@@ -225,6 +225,9 @@ def files(command, work):
     checked("nothing is written for them", load(out) is None, "something is written")
     for path in (work, os.path.join(none, "out"), "/dev/full"):
         no_file(command, f"a bundle to {path}", [path, *one], 0)
+    for redirected in (">/dev/full", ">&-"):
+        done = subprocess.run(["sh", "-c", f'"$@" {redirected}', "sh", *command, os.path.join(work, "lost.bundle"), *one], stdout=subprocess.PIPE, stderr=subprocess.PIPE, timeout=60)
+        checked(f"output {redirected}", done.returncode == NO_FILE and done.stderr.startswith(b"bundle: standard output: "), done)
 
 
 def command_lines(command, work):

@@ -1,6 +1,6 @@
 /*
  * cfu.h: the C interface of the proved CFU updater (crates crates/c_*). Two libraries libcfu serve it: the one of tools/library, for x86-64 Linux, proved down
- * to the source that it is compiled from, and the one of tools/c_library, for any target of rustc, whose source is made from the proved one.
+ * to the source that it is compiled from, and the one of tools/c_library, for targets with a size_t of 32 or 64 bits, whose source is made from the proved one.
  *
  * The device end, the host end, the check of a bundle and its writing, and the building and reading of each packet of CFU, Microsoft's Component Firmware
  * Update protocol.
@@ -24,8 +24,8 @@
  *
  * A refusal leaves every record, the staging buffer, the list and the contents that are lent as they were, and every other field of a returned struct is 0,
  * except the entry that a B or W row names and the fields of a report with N1, which are those of the record as it is read. What it leaves in a buffer for
- * output is said at each call. The first row that applies is returned: C1, C2, C3, then the others in the order of their numbers, B rows before N1, and C4 last.
- * C1 to C4 are this interface's own: with one of them nothing at all is changed. cfu_words.h has words for the numbers.
+ * output is said at each call. The first row that applies is returned: C1, C2, C3, then the others in the order of their numbers, B rows before N1, and C4
+ * last. C1 to C4 are this interface's own: with one of them nothing at all is changed. cfu_words.h has words for the numbers.
  *
  * CFU_SERVED says that the call was carried out, not that the peer agreed: REJECT, SKIP, BUSY and the errors of a block stand in the packets, and how a host
  * ended stands in its report.
@@ -129,8 +129,9 @@ extern "C" {
 
 #define CFU_SERVED 0
 
-/* A lent buffer is not of its size, or has not the place that is asked for. C1: a record or contents; also contents with a row over that of CFU_B8, or with no row and a count of offers that is not 1
- * to CFU_OFFER_LIMIT. C2: a list or data that is read. C3: a buffer for what comes out. C4: a place that the list, the device or the bundle does not have. */
+/* A lent buffer is not of its size, or has not the place that is asked for. C1: a record or contents; also contents with a row over that of CFU_B8, or with no
+ * row and a count of offers that is not 1 to CFU_OFFER_LIMIT. C2: a list or data that is read. C3: a buffer for what comes out. C4: a place that the list, the
+ * device or the bundle does not have. */
 #define CFU_C1 0x4301
 #define CFU_C2 0x4302
 #define CFU_C3 0x4303
@@ -391,8 +392,8 @@ uint32_t cfu_device_set_up(uint8_t *device, size_t device_len, uint16_t platform
                            const uint8_t *staging, size_t staging_len);
 
 /*
- * The component at a place of the list that set-up took, counted from 0: what runs, its region, and the version that is staged. Returns CFU_SERVED, C1 (device),
- * D1, or C4 (a place that is not under the count of components).
+ * The component at a place of the list that set-up took, counted from 0: what runs, its region, and the version that is staged. Returns CFU_SERVED, C1
+ * (device), D1, or C4 (a place that is not under the count of components).
  */
 cfu_component cfu_device_component(const uint8_t *device, size_t device_len, uint32_t place);
 
@@ -444,9 +445,9 @@ uint32_t cfu_device_reset(uint8_t *device, size_t device_len);
 cfu_check cfu_bundle_check(const uint8_t *bundle, size_t bundle_len, uint8_t *contents, size_t contents_len);
 
 /*
- * The entry at a place of a checked bundle, counted from 0: where its body stands and how many records it has. Returns CFU_SERVED, C1 (contents), the B row that
- * the contents keep with its entry, or C4 (a place that is not under the count of offers). Required of the caller, as for cfu_host_step_checked: the contents are
- * those that a check left. Of others only what stands there is told, which may lie outside of the bundle.
+ * The entry at a place of a checked bundle, counted from 0: where its body stands and how many records it has. Returns CFU_SERVED, C1 (contents), the B row
+ * that the contents keep with its entry, or C4 (a place that is not under the count of offers). Required of the caller, as for cfu_host_step_checked: the
+ * contents are those that a check left. Of others only what stands there is told, which may lie outside of the bundle.
  */
 cfu_entry cfu_contents_entry(const uint8_t *contents, size_t contents_len, uint32_t place);
 

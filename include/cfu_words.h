@@ -8,8 +8,8 @@
 
 #include "cfu.h"
 
-/* What a number is: what a call returned (cfu_step.number and its like), how far a host is (cfu_report.ending), the status of an offer reply, the reason of
- * a REJECT, the status of a content reply, the code of an information or of an extended packet. */
+/* What a number is: what a call returned (cfu_step.number and its like), how far a host is (cfu_report.ending), the status of an offer reply, the
+ * reason of a REJECT, the status of a content reply, the code of an information or of an extended packet. */
 #define CFU_OF_CALL 0
 #define CFU_OF_ENDING 1
 #define CFU_OF_OFFER_STATUS 2
@@ -209,7 +209,7 @@ static inline const char *cfu_sentence(uint32_t kind, uint32_t number)
         case CFU_P2:
             return "a value does not fit its field, or is none that this packet may have";
         case CFU_N1:
-            return "the host's record does not fit the bundle";
+            return "the host's record breaks its rules, or does not fit the bundle";
         case CFU_B1:
             return "a bundle has 8 to 65,536 bytes";
         case CFU_B2:
@@ -263,7 +263,7 @@ static inline const char *cfu_sentence(uint32_t kind, uint32_t number)
     case CFU_OF_OFFER_STATUS:
         switch (number) {
         case CFU_OFFER_SKIP:
-            return "what it needs is not there";
+            return "its need is not met";
         case CFU_OFFER_ACCEPT:
             return "accepted";
         case CFU_OFFER_REJECT:

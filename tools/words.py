@@ -1,5 +1,5 @@
 #!/usr/bin/env python3
-"""Makes include/cfu_words.h from include/words.txt: for C, the name and the sentence of each number of include/cfu.h that is an answer or a code, and what to do.
+"""Makes include/cfu_words.h from include/words.txt: for C, the name and the sentence of each number of include/cfu.h that is an answer or a code, and advice.
 
 usage: tools/words.py [--check]        --check writes nothing, and ends with status 1 where the header is not what the table gives
 
@@ -93,11 +93,12 @@ def c_header():
            ' * Plain C, not proved: nothing here judges or changes anything. C99, also C++; nothing is linked, and what is not called takes no memory.',
            ' */',
            '#ifndef CFU_WORDS_H', '#define CFU_WORDS_H', '', '#include "cfu.h"', '',
-           '/* What a number is: what a call returned (cfu_step.number and its like), how far a host is (cfu_report.ending), the status of an offer reply, the reason of',
-           ' * a REJECT, the status of a content reply, the code of an information or of an extended packet. */']
+           '/* What a number is: what a call returned (cfu_step.number and its like), how far a host is (cfu_report.ending), the status of an offer reply, the',
+           ' * reason of a REJECT, the status of a content reply, the code of an information or of an extended packet. */']
     out += [f'#define CFU_OF_{kind.name} {at}' for at, kind in enumerate(kinds())]
     out.append('')
-    out += c_function('cfu_name', f'The name of a number of a kind, as "B7" or "SKIP"; "{UNKNOWN}" for a number or a kind that cfu.h has not.', lambda line: line.name)
+    out += c_function('cfu_name', f'The name of a number of a kind, as "B7" or "SKIP"; "{UNKNOWN}" for a number or a kind that cfu.h has not.',
+                      lambda line: line.name)
     out.append('')
     out += c_function('cfu_sentence', f'What a number of a kind says, as a part of a sentence without its capital and its full stop; "{UNKNOWN}" as above.',
                       lambda line: line.sentence)
@@ -121,8 +122,8 @@ def rust_module():
     """The module `words` of the made crate."""
     out = ['//! Words for the numbers that cross to C and stand in packets, for people. They are no part of what was proved.', '',
            f'const {UNKNOWN.upper()}: &str = "{UNKNOWN}";', '',
-           '/// What a number is: what a call of the modules `c_*` returned, how far a host is, the status of an offer reply, the reason of a REJECT, the status of a',
-           '/// content reply, the code of an information or of an extended packet.',
+           '/// What a number is: what a call of the modules `c_*` returned, how far a host is, the status of an offer reply, the reason of a REJECT, the',
+           '/// status of a content reply, the code of an information or of an extended packet.',
            '#[derive(Clone, Copy, Debug, PartialEq, Eq)]', 'pub enum Kind {']
     out += [f'    {camel(kind.name)},' for kind in kinds()]
     out += ['}', '']

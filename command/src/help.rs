@@ -63,9 +63,9 @@ pub fn inspect() -> String {
     format!(
         "\
 usage: cfu inspect [--json] FILE
-Says what a bundle contains, and judges each image as far as a desk can: its records are laid over
-bytes 0xFF, then its CRC, its component's id and its version are looked at. FILE may be -, standard
-input.
+Says what a bundle contains, and judges each image as far as that can be done without the device:
+its records are laid over bytes 0xFF, then its CRC, its component's id and its version are looked
+at. FILE may be -, standard input.
 
   --json        print one line, a JSON object
   --help, -h    print this
@@ -110,7 +110,7 @@ the last three may stand before the first [offer] too, for every offer. An image
 the manifest's folder.
 
 {}",
-        statuses("the bundle is written", "the manifest, an image or the bundle is refused; nothing is written")
+        statuses("the bundle is written, or could be where --dry-run is said", "the manifest, an image or the bundle is refused; nothing is written")
     )
 }
 

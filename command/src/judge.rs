@@ -1,4 +1,4 @@
-//! The judgement of an image in a bundle, as far as a desk can make it, by the proved functions of `image`.
+//! The judgement of an image in a bundle, as far as it can be made without the device, by the proved functions of `image`.
 use cfu_updater::bundle_cut::CRC_SIZE;
 use cfu_updater::bundle_layout::Entry;
 use cfu_updater::bundle_records::walk::next_record;

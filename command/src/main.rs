@@ -1,4 +1,5 @@
-//! The command `cfu`: makes, shows, cuts and tries bundles at the desk (docs/COMMAND.md). What it decides it takes from the proved functions of `cfu_updater`.
+//! The command `cfu`: makes, shows, cuts and tries bundles at the desk (docs/COMMAND.md). The check, the writer, the judgement of an image's bytes and both
+//! ends of an update are the proved functions of `cfu_updater`; the rest is its own.
 #![deny(unsafe_code)]
 
 mod args;

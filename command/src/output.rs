@@ -47,7 +47,7 @@ mod closed {
 /// The number of the system's error for a stream that is not open.
 const EBADF: i32 = 9;
 
-/// A standard stream as a file. Rust's own types for the streams take a stream that is not open for a device that swallows everything.
+/// A standard stream as a file. Rust's own types for the streams take what is written to a stream that is not open for written.
 #[cfg(unix)]
 fn file_of(stream: impl AsFd) -> io::Result<File> {
     Ok(File::from(stream.as_fd().try_clone_to_owned()?))

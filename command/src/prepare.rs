@@ -103,11 +103,13 @@ impl Planned {
     /// The image of a file, filled and stamped.
     fn prepared(&self, entry: usize, file: Vec<u8>) -> Result<Prepared, Failure> {
         let stamped = self.stamps(&file);
+        if stamped {
+            self.has_room(entry, &file)?;
+        }
         let mut bytes = file;
         self.fill(&mut bytes);
         if stamped {
-            self.put_label(entry, &mut bytes)?;
-            self.put_crc(entry, &mut bytes)?;
+            self.put(entry, &mut bytes)?;
         }
         Ok(Prepared { bytes, stamped })
     }
@@ -121,33 +123,44 @@ impl Planned {
         }
     }
 
-    /// Puts the offer's version and id into the first bytes of an image, where these are free or have them already.
-    fn put_label(&self, entry: usize, image: &mut [u8]) -> Result<(), Failure> {
-        let (v, id) = (self.offer.version.bytes(), self.offer.id);
-        let label = [v[0], v[1], v[2], v[3], id];
-        let place = &mut image[..=ID_AT];
-        if !is_free(place) && *place != label {
-            let (component, version) = (place[ID_AT], shown::version(Version::read_at(place, 0)));
-            let words = format!("bears component {component}, version {version}, in bytes 0 to {ID_AT}: the stamp goes only into free bytes");
-            return Err(self.refused(entry, &words));
-        }
-        place.copy_from_slice(&label);
-        Ok(())
+    /// The first bytes of the offer's image: its version and its id.
+    fn label(&self) -> [u8; ID_AT + 1] {
+        let v = self.offer.version.bytes();
+        [v[0], v[1], v[2], v[3], self.offer.id]
     }
 
-    /// Puts the CRC of all before it at the end of an image, high byte first, where these bytes are free or have it already. The end of an image over the
-    /// largest region is not known; the writer refuses it.
-    fn put_crc(&self, entry: usize, image: &mut [u8]) -> Result<(), Failure> {
-        if image.len() > STAGING_LIMIT as usize {
+    /// Refuses a file that has something else than free bytes where the label goes. One that has this label already is the build's own work, so its own end has
+    /// to be free or right too, before it is filled: what was cut or damaged gets no CRC.
+    fn has_room(&self, entry: usize, file: &[u8]) -> Result<(), Failure> {
+        let place = &file[..=ID_AT];
+        if *place == self.label() {
+            return self.crc_fits(entry, file);
+        }
+        if is_free(place) {
             return Ok(());
         }
-        let (before, place) = image.split_at_mut(image.len() - CRC_SIZE);
-        let crc = crc16(before).to_be_bytes();
-        if !is_free(place) && *place != crc {
-            let words = format!("has a wrong CRC, 0x{:02X}{:02X}, in its last two bytes: the stamp goes only into free bytes", place[0], place[1]);
-            return Err(self.refused(entry, &words));
+        let (component, version) = (place[ID_AT], shown::version(Version::read_at(place, 0)));
+        let words = format!("bears component {component}, version {version}, in bytes 0 to {ID_AT}: the stamp goes only into free bytes");
+        Err(self.refused(entry, &words))
+    }
+
+    /// Refuses an image whose last bytes are neither free nor the CRC of all before them, high byte first. The end of an image over the largest region is not
+    /// known; the writer refuses it.
+    fn crc_fits(&self, entry: usize, image: &[u8]) -> Result<(), Failure> {
+        let (before, place) = image.split_at(image.len() - CRC_SIZE);
+        if image.len() > STAGING_LIMIT as usize || is_free(place) || *place == crc16(before).to_be_bytes() {
+            return Ok(());
         }
-        place.copy_from_slice(&crc);
+        let words = format!("has a wrong CRC, 0x{:02X}{:02X}, in its last two bytes: the stamp goes only into free bytes", place[0], place[1]);
+        Err(self.refused(entry, &words))
+    }
+
+    /// Puts the label into an image that has room for it, and the CRC of all before it at its end.
+    fn put(&self, entry: usize, image: &mut [u8]) -> Result<(), Failure> {
+        image[..=ID_AT].copy_from_slice(&self.label());
+        self.crc_fits(entry, image)?;
+        let (before, place) = image.split_at_mut(image.len() - CRC_SIZE);
+        place.copy_from_slice(&crc16(before).to_be_bytes());
         Ok(())
     }
 }

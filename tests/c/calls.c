@@ -899,7 +899,7 @@ static void words_and_macros(void)
     CHECK(says(CFU_OF_CALL, CFU_B6, "B6", "an earlier entry offers the same component"));
     CHECK(says(CFU_OF_CALL, CFU_S1, "S1", "the staging memory is over 65,536 bytes"));
     CHECK(says(CFU_OF_ENDING, CFU_H1, "H1", "the device refused a block or its image"));
-    CHECK(says(CFU_OF_OFFER_STATUS, CFU_OFFER_SKIP, "SKIP", "what it needs is not there"));
+    CHECK(says(CFU_OF_OFFER_STATUS, CFU_OFFER_SKIP, "SKIP", "its need is not met"));
     CHECK(says(CFU_OF_REASON, CFU_REJECT_SWAP_PENDING, "SWAP_PENDING", "the component awaits a reset"));
     CHECK(says(CFU_OF_CONTENT_STATUS, CFU_ERROR_VERIFY, "ERROR_VERIFY", "the image is for another component"));
     CHECK(says(CFU_OF_INFORMATION, CFU_INFO_END_OFFER_LIST, "END_OFFER_LIST", "end offer list"));

@@ -72,7 +72,7 @@ SENT_2 = offer(2, V120, token=TOKEN)
 START = information(cfu.START_ENTIRE_TRANSACTION, "start entire transaction")
 LIST = information(cfu.START_OFFER_LIST, "start offer list")
 END = information(cfu.END_OFFER_LIST, "end offer list")
-SKIPPED = asked(SENT_1, cfu.SKIP, "offer for component 1", "SKIP") + ["  offer 1: SKIP: what it needs is not there"]
+SKIPPED = asked(SENT_1, cfu.SKIP, "offer for component 1", "SKIP") + ["  offer 1: SKIP: its need is not met"]
 E13_PACKETS = (
     START
     + ["pass 1"] + LIST + SKIPPED
@@ -178,7 +178,7 @@ def main():
             return f"report: completed {completed} of {offers}, packets {packets}, passes {passes}"
 
         # E13, in both orders
-        case("E13", E12, ALL, "pass 1", "  offer 1: SKIP: what it needs is not there", "  offer 2: ACCEPT", "  offer 2: completed, blocks 2",
+        case("E13", E12, ALL, "pass 1", "  offer 1: SKIP: its need is not met", "  offer 2: ACCEPT", "  offer 2: completed, blocks 2",
              "pass 2", "  offer 1: ACCEPT", "  offer 1: completed, blocks 2", "  offer 2: REJECT: the component awaits a reset",
              "done", report(2, 2, 13, 2), *BOTH_NEW)
         case("E13 in the other order", OTHER_ORDER, ALL, "pass 1", "  offer 1: ACCEPT", "  offer 1: completed, blocks 2", "  offer 2: ACCEPT",
@@ -206,7 +206,7 @@ def further(command, work, case, refusal, report):
     case("a debug build where a debug build runs", one(1, version(1, 3, 1), body(image(1, version(1, 3, 1)))), ALL, "pass 1", "  offer 1: ACCEPT",
          "  offer 1: completed, blocks 2", "done", report(1, 1, 6, 1), "device:", "  component 1 runs 1.2.1, pending 1.3.1", *AFTER, "  component 1 runs 1.3.1",
          args=["--component", "1:1.2.1:0:64"])
-    case("a need that nothing meets", one(1, V130, BODY_1, need=2, least=V120 >> 8), NOT_ALL, "pass 1", "  offer 1: SKIP: what it needs is not there",
+    case("a need that nothing meets", one(1, V130, BODY_1, need=2, least=V120 >> 8), NOT_ALL, "pass 1", "  offer 1: SKIP: its need is not met",
          "done", report(0, 1, 4, 1), *BOTH_OLD)
     case("a component that the device lacks", E12, NOT_ALL, "pass 1", "  offer 1: REJECT: no such component on this platform", "  offer 2: ACCEPT",
          "  offer 2: completed, blocks 2", "done", report(1, 2, 7, 1), "device:", "  component 2 runs 1.1.0, pending 1.2.0", *AFTER, "  component 2 runs 1.2.0",

@@ -25,6 +25,11 @@ make -s -C examples/c || fail "the examples do not build"
 make -s -C examples/c PROVED=1 OUT=../../target/c/proved || fail "the examples do not build over the proved library"
 cmp -s "$out/update" "$out/proved/update" && fail "the examples of both libraries are the same file"
 
+# What the library without the standard library needs of others: the undefined names of the part that has the calls.
+part=$(nm -A "${library[no_std]}" 2>/dev/null | sed -n 's/^[^:]*:\([^:]*\):.* T cfu_bundle_check$/\1/p')
+needs=$(mkdir -p "$out/part" && cd "$out/part" && ar x "../../../${library[no_std]}" "$part" && nm -u "$part" | sed 's/^ *U //' | sort | tr '\n' ' ')
+[ "$needs" = "memcpy memset " ] || fail "the library without the standard library needs: $needs"
+
 for name in $(grep -o '\bcfu_[a-z_]*(' include/cfu.h | tr -d '(' | sort -u); do
     grep -q "\b$name(" tests/c/calls.c || fail "tests/c/calls.c does not call $name"
 done

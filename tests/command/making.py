@@ -443,6 +443,15 @@ def sizes(work):
     made(work, "size, filled by one byte behind 0xFF", [part(1, data=RAW[:-1], size=64, stamp=True)])
     made(work, "size, the image's own", [part(1, size=64), part(2, size=64)])
     made(work, "size, a finished image of this component and version is filled and stamped", [part(1, size=128, stamp=True)])
+    for last in (b"\0\0", b"\xFF\xFF"):
+        made(work, f"size, this component and version, its own last two bytes {last!r}", [part(1, data=image(1, V120)[:-2] + last, size=128, stamp=True)])
+    # What the build finished and was then cut or damaged is not stamped: its own last two bytes count, not those that filling puts there.
+    whole = image(1, V120)
+    for name, data in (("cut to 40 bytes", whole[:40]), ("its CRC cut off", whole[:-2]), ("a byte cut off", whole[:-1]), ("a byte more", whole + b"\n"),
+                       ("one bit other", whole[:20] + bytes([whole[20] ^ 1]) + whole[21:])):
+        assert len(set(data[-2:])) == 2 or data[-1] not in (0, 0xFF), name
+        refused_before(work, f"size and stamp, a finished image of this component and version, {name}", [part(1, data=data, size=128, stamp=True)], 1,
+                       f"has a wrong CRC, 0x{data[-2:].hex().upper()}, in its last two bytes: {ONLY_FREE}")
     for number, words in ((V110, "1.1.0"), (V130, "1.3.0")):
         refused_before(work, f"size, a finished image of version {words} is filled and not stamped", [part(1, data=image(1, number), size=128, stamp=True)], 1,
                        f"bears component 1, version {words}, in bytes 0 to 4: {ONLY_FREE}")

@@ -193,14 +193,19 @@ def free(data):
 
 @functools.lru_cache(maxsize=None)
 def filled_and_stamped(part):
-    """The image as the writer gets it, filled up to the size and then stamped; or None, and what stands where the stamp should go. Under 8 bytes it is the file."""
+    """The image as the writer gets it, filled up to the size and then stamped; or None, and what stands where the stamp should go. Under 8 bytes it is the file. A
+    file that bears its offer's version and id is judged by its own last two bytes before it is filled."""
     data = part.data
     if len(data) < cfu.REGION_LEAST:
         return data, None
+    head, stands = cfu.IMAGE.pack(part.version, part.component), data[:cfu.IMAGE.size]
+    if part.stamp and stands == head and len(data) <= STAGING_LIMIT:
+        own = data[-cfu.CRC_SIZE:]
+        if own != cfu.with_crc(data[:-cfu.CRC_SIZE])[-cfu.CRC_SIZE:] and not free(own):
+            return None, f"has a wrong CRC, 0x{int.from_bytes(own, 'big'):04X}, in its last two bytes"
     data = data if part.size is None else data.ljust(part.size, b"\xFF")
     if not part.stamp:
         return data, None
-    head, stands = cfu.IMAGE.pack(part.version, part.component), data[:cfu.IMAGE.size]
     if stands != head and not free(stands):
         number, component = cfu.IMAGE.unpack(stands)
         return None, f"bears component {component}, version {version_words(number)}, in bytes 0 to 4"

@@ -1,6 +1,6 @@
 #!/usr/bin/env python3
-"""The words: include/cfu_words.h is what include/words.txt gives; its functions answer each line of the table, read here by itself, and `unknown` for every other
-number; and tools/words.py refuses a table that does not fit the header.
+"""The words: include/cfu_words.h is what include/words.txt gives; its functions answer each line of the table, read here by itself, and `unknown` for every
+other number; and tools/words.py refuses a table that does not fit the header.
 
 table.py    prints one line, and ends with status 1 where something differs
 """

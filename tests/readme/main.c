@@ -1,4 +1,4 @@
-/* The lines of C in README.md, against the bench device of document 01: E13's update stages both versions, a second one nothing, and a damaged bundle is refused. */
+/* The lines of C in README.md, against the bench device of document 01: E13's update stages both versions, a second one nothing, and a cut bundle is refused. */
 #include "update.c"
 
 #include <stdio.h>

@@ -1,4 +1,5 @@
-//! The lines of Rust in README.md, against the bench device of document 01: E13's update completes both offers, a second one none, and a damaged bundle is refused by its row.
+//! The lines of Rust in README.md, against the bench device of document 01: E13's update completes both offers, a second one none, and a cut bundle is refused
+//! by its row.
 include!("update.rs");
 
 use cfu_updater::c_access::cfu_list_put;

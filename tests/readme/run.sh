@@ -1,5 +1,5 @@
 #!/usr/bin/env bash
-# The lines of C and of Rust in README.md compile as they stand and update the bench device of document 01 by E12's bundle (main.c and main.rs beside this file).
+# The lines of C and of Rust in README.md compile as they stand and update the bench device of document 01 by E12's bundle (main.c and main.rs beside this).
 set -u
 cd "$(dirname "$0")/../.." || exit 1
 

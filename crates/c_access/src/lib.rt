@@ -1,5 +1,4 @@
-// The calls from C for one part of lent bytes: a component goes into the list that set-up takes, a component of a device, an entry of a checked bundle (row C4 of
-// the calls themselves, beside those of the records).
+// The calls from C for one part of lent bytes: a component of the list, a component of a device, an entry of a checked bundle. A place that is not there is C4.
 ghost use mathlib.Core.Path.{_≡_};
 ghost use Prim.Native.Nat.{_-_, _^_, _<_, _≤_};
 ghost use Rattle.c_types.specs.Lent.{leaves};

@@ -1,4 +1,4 @@
-//! The second implementation (tests/second). Rows C1 to C3 and bytes that are no record are judged here, as include/cfu.h says.
+//! The second implementation (tests/second). Rows C1 to C4 and bytes that are no record are judged here, as include/cfu.h says.
 //!
 //! It has no step over contents: that call is answered by its step over the bundle, with the place after the record in hand as the cursor. So it says
 //! nothing about contents that no check of this bundle left.

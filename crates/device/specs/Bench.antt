@@ -7,7 +7,7 @@ use lib.ListN.{replicate}
 use Rattle.wire.specs.Codes.{COMPONENT-LIMIT}
 use Rattle.device_component.specs.Record.{plain, blankComponent}
 use Rattle.device.specs.declared.record.Device.{Device}
-use Rattle.device_session.specs.Effect.{idle, inStage}
+use Rattle.device_session.specs.Effect.{blankPacket, idle, inStage}
 use Rattle.device_session.specs.declared.stage.Stage.{Stage}
 use Rattle.device_session.specs.declared.stage.Stage.the-variants.{Idle, Offered, Receiving}
 use Rattle.device.specs.declared.answer.Channel.{Channel}
@@ -22,7 +22,7 @@ bench stage = record {
   count = 2;
   components =
       plain 1 0x01000200 0 64 ∷ plain 2 0x01000100 64 64 ∷ replicate (COMPONENT-LIMIT - 2) blankComponent;
-  session = inStage idle stage;
+  session = inStage idle stage blankPacket;
 }
 
 -- offered for component 1, with token 0xA5

@@ -1,15 +1,12 @@
--- The content entry, and the staging buffer afterwards (document 01, "The device").
+-- The content entry, and the staging buffer afterwards (document 01, "The device"; document 02, A4).
 use Prim.Native.Nat.{ℕ}
 use mathlib.Core.List.{List}
-use lib.ListN.{length, drop, set}
-use Rattle.wire.specs.Codes.{LONG-SIZE, DATA-AT}
-use Rattle.wire_content.specs.Head.{headIn}
-use Rattle.wire_content.specs.declared.head.ContentHead.{ContentHead}
+use lib.ListN.{length, set}
+use Rattle.wire.specs.Codes.{LONG-SIZE}
 use Rattle.image.specs.declared.region.Region.{Region}
 use Rattle.device_component.specs.declared.record.Component.{Component}
 use Rattle.device_session.specs.Stage.{atSlot}
-use Rattle.device_receiving.specs.Content as receiving
-use Rattle.device_receiving.specs.Receive.{onContent, stagingAfter}
+use Rattle.device_receiving.specs.Receive.{verdictOn, onContent, stagingAfter}
 use Rattle.device_receiving.specs.declared.checks.ContentVerdict.{ContentVerdict}
 use Rattle.device_receiving.specs.declared.content.Taken.{Taken}
 use Rattle.device.specs.declared.record.Device.{Device}
@@ -24,22 +21,22 @@ window d slot = component d slot .fixed .region
 abbrev pub sessionComponent : Device → Component
 sessionComponent d = component d (atSlot (d .session .stage))
 
--- checks 1 to 6: the first that applies
-abbrev pub contentVerdict : Device → ContentHead → ContentVerdict
-contentVerdict d c = receiving.contentVerdict (sessionComponent d .fixed .region) (d .session .stage) c
+-- checks 1 to 6 of a packet: the first that applies
+abbrev pub contentVerdict : Device → (report : List ℕ) → ContentVerdict
+contentVerdict d report = verdictOn (sessionComponent d .fixed .region) (d .session) report
 
 -- what a content packet does to the record
 abbrev pub received : Device → Taken → Outcome
 received d t = servedWith d (set (d .components) (atSlot (d .session .stage)) (t .component)) (t .effect)
 
--- the content entry, over the packet's head and its data, bytes 8 and up: its answer
+-- the content entry: its answer
 unfoldable pub contentEntry : Device → (staging report : List ℕ) → Outcome
 contentEntry d staging report =
     unlessRefused (refusalOf LONG-SIZE d (length staging) (length report)) d
-    (received d (onContent (sessionComponent d) (d .session) (headIn report) (drop DATA-AT report) staging))
+    (received d (onContent (sessionComponent d) (d .session) report staging))
 
 -- the content entry: every byte of the staging buffer afterwards
 unfoldable pub contentStaging : Device → (staging report : List ℕ) → List ℕ
 contentStaging d staging report =
     keptBy (refusalOf LONG-SIZE d (length staging) (length report)) staging
-    (stagingAfter (sessionComponent d .fixed .region) (d .session .stage) (headIn report) (drop DATA-AT report) staging)
+    (stagingAfter (sessionComponent d .fixed .region) (d .session) report staging)

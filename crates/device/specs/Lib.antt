@@ -4,6 +4,7 @@ pub mod Offer
 pub mod Content
 pub mod Entries
 pub mod Promises
+pub mod Copies
 pub mod Images
 pub mod Sessions
 pub mod Bench

@@ -80,7 +80,7 @@ pub record TakesBlock (d : Device) (staging report : List ℕ) : Type 0 where
   pub slot : ℕ
   pub opened : openSlot (d .session .stage) ≡ At slot
   pub row : contentEntry d staging report .row ≡ served
-  pub verdict : contentVerdict d (headIn report) ≡ Take slot
+  pub verdict : contentVerdict d report ≡ Take slot
   pub written : (j : ℕ) → fieldsIn report .address .0 ≤ j → j < fieldsIn report .address .0 + fieldsIn report .length
       → getD (contentStaging d staging report) (window d slot .base .0 + j) 0 ≡ getD report (DATA-AT + (j - fieldsIn report .address .0)) 0
   pub rest : (j : ℕ) → j < window d slot .len → Around (fieldsIn report) j

@@ -6,9 +6,6 @@ use device_slots::slot::component_at;
 use device_slots::slot::with_component;
 use wire::codes::LONG_SIZE;
 ghost use mathlib.Core.Path.{_≡_};
-ghost use lib.ListN.{drop};
-ghost use Rattle.wire.specs.Codes.{DATA-AT};
-ghost use Rattle.wire_content.specs.Head.{headIn};
 ghost use Rattle.device_receiving.specs.Receive.{onContent, stagingAfter};
 ghost use Rattle.device.specs.Refusals.{told};
 ghost use Rattle.device.specs.Content.{sessionComponent, received as receivedBy, contentEntry, contentStaging};
@@ -16,7 +13,8 @@ ghost use Rattle.device.specs.Content.{sessionComponent, received as rec
 impl Device {
     // A packet that no row refuses.
     fn on_content(self, report: &[u8], staging: &mut [u8]) -> Answer
-        ensures { λ r. ⌜ (told r ≡ receivedBy self (onContent (sessionComponent self) (self .session) (headIn (now (report .entry))) (drop DATA-AT (now (report .entry))) (now (staging .entry)))) × (now (staging .exit) ≡ stagingAfter (sessionComponent self .fixed .region) (self .session .stage) (headIn (now (report .entry))) (drop DATA-AT (now (report .entry))) (now (staging .entry))) ⌝ }
+        ensures { λ r. ⌜ (told r ≡ receivedBy self (onContent (sessionComponent self) (self .session) (now (report .entry)) (now (staging .entry))))
+            × (now (staging .exit) ≡ stagingAfter (sessionComponent self .fixed .region) (self .session) (now (report .entry)) (now (staging .entry))) ⌝ }
     {
         let components = self.components;
         let session = self.session;

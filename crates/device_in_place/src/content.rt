@@ -10,9 +10,7 @@ use device_bytes::session::store_session;
 use device_receiving::content::on_report;
 use wire::codes::LONG_SIZE;
 ghost use mathlib.Core.Path.{_≡_};
-ghost use lib.ListN.{length, drop};
-ghost use Rattle.wire.specs.Codes.{DATA-AT};
-ghost use Rattle.wire_content.specs.Head.{headIn};
+ghost use lib.ListN.{length};
 ghost use Rattle.device_receiving.specs.Receive.{stagingAfter};
 ghost use Rattle.device.specs.Content.{sessionComponent, contentEntry, contentStaging};
 ghost use Rattle.device_bytes.specs.Layout.{DEVICE-SIZE, deviceIn, readDevice};
@@ -24,7 +22,7 @@ fn on_content(bytes: &mut [u8], staging: &mut [u8], report: &[u8]) -> Reply
     requires { ⌜ length (now bytes) ≡ DEVICE-SIZE ⌝ }
     ensures { λ r. ⌜ (outcomeOf r (contentBy (now (bytes .entry)) (now (staging .entry)) (now (report .entry)) .device) ≡ contentBy (now (bytes .entry)) (now (staging .entry)) (now (report .entry)))
         × (now (bytes .exit) ≡ contentStored (now (bytes .entry)) (now (staging .entry)) (now (report .entry)))
-        × (now (staging .exit) ≡ stagingAfter (sessionComponent (deviceIn (now (bytes .entry))) .fixed .region) (deviceIn (now (bytes .entry)) .session .stage) (headIn (now (report .entry))) (drop DATA-AT (now (report .entry))) (now (staging .entry))) ⌝ }
+        × (now (staging .exit) ≡ stagingAfter (sessionComponent (deviceIn (now (bytes .entry))) .fixed .region) (deviceIn (now (bytes .entry)) .session) (now (report .entry)) (now (staging .entry))) ⌝ }
 {
     let session = session_in(bytes);
     let stage = session.stage;

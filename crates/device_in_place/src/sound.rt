@@ -12,6 +12,7 @@ use device_component::rule::flawed;
 use device_component::setup::bad_count;
 use device_component::setup::staging_too_long;
 use device_session::sound::owes_on;
+use device_session::sound::wrong_previous;
 use device_session::sound::wrong_slot;
 use device_slots::slot::slot_of;
 ghost use mathlib.Core.Path.{_≡_};
@@ -65,10 +66,13 @@ fn breaks(b: &[u8], n: usize) -> bool
     let session = session_in(b);
     let stage = session.stage;
     let owed = session.owed;
+    let previous = session.previous;
     let slot = stage.open_slot();
     let component = component_at(b, slot_of(slot));
     (staging_too_long(n) | bad_count(count))
-        | (wrong_slot(count, component, slot) | (owes_on(slot, owed) | some_unsound(b, n, count)))
+        | (wrong_slot(count, component, slot)
+            | (wrong_previous(stage, previous)
+                | (owes_on(slot, owed) | some_unsound(b, n, count))))
 }
 
 // D1, D2 and D3, in this order, for a staging buffer of n bytes, a report of m bytes, and reports that are `size` bytes long.

@@ -16,7 +16,7 @@ use Rattle.device_slots.specs.Slots.{slotOf, isAbsent}
 use Rattle.device_slots.specs.Standing.{standingOf}
 use Rattle.device_slots.specs.declared.standing.Standing.{Standing}
 use Rattle.device_session.specs.Stage.{isOpen}
-use Rattle.device_session.specs.Effect.{inStage, answered}
+use Rattle.device_session.specs.Effect.{blankPacket, inStage, answered}
 use Rattle.device_session.specs.declared.stage.Stage.{Stage}
 use Rattle.device_session.specs.declared.stage.Stage.the-variants.{Offered}
 use Rattle.device_session.specs.declared.owed.Owed.the-variants as owed
@@ -78,7 +78,7 @@ abbrev pub afterOffer : Session → (token : ℕ) → OfferVerdict → Session
 afterOffer session token Busy = session
 afterOffer session token (Reject r) = session
 afterOffer session token Skip = session
-afterOffer session token (Accept k) = inStage session (Offered (record { slot = k; token = token }))
+afterOffer session token (Accept k) = inStage session (Offered (record { slot = k; token = token })) blankPacket
 
 -- what a verdict comes to: its reply, and the session afterwards
 abbrev pub onVerdict : Session → (token : ℕ) → OfferVerdict → Effect

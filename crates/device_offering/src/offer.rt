@@ -7,6 +7,7 @@ use device_session::owed::Owed;
 use device_session::stage::Offered;
 use device_session::stage::Stage;
 use device_slots::standing::Standing;
+use wire::codes::LONG_SIZE;
 use wire_offer::offer::OfferFields;
 use wire_offer::reply::OfferReply;
 use wire_offer::reply::build_offer_reply;
@@ -21,7 +22,9 @@ fn after_offer(session: Session, token: u8, verdict: OfferVerdict) -> Session
         OfferVerdict::Busy => session,
         OfferVerdict::Reject(_) => session,
         OfferVerdict::Skip => session,
-        OfferVerdict::Accept(slot) => session.in_stage(Stage::Offered(Offered { slot, token })),
+        OfferVerdict::Accept(slot) => {
+            session.in_stage(Stage::Offered(Offered { slot, token }), [0u8; LONG_SIZE])
+        }
     }
 }
 

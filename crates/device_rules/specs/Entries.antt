@@ -1,12 +1,12 @@
--- The device's entries over any rules on versions: each definition that asks such a rule, with the rules for a parameter; what asks none is taken as it stands.
--- With the rules in force the answers are the entries' own (`RulesInForceAnswer`); with document 01's rules some answers are others (`A1Differs`).
+-- The device's entries over any rules on versions and sequences: each definition that asks such a rule, with the rules for a parameter; what asks none is taken
+-- as it stands. With the rules in force the answers are the entries' own (`RulesInForceAnswer`); with others some answers are others (`A1Differs`, `A4Differs`).
 use Prim.Native.Nat.{ℕ}
 use mathlib.Core.Bool.{Bool, true, not, cond, _||_}
 use mathlib.Core.List.{List, [], _∷_, _++_, map}
 use lib.Dec.{eqb}
-use lib.ListN.{length, take, drop, replicate}
+use lib.ListN.{length, take, replicate}
 use Rattle.wire.specs.Checks.{firstOf, any}
-use Rattle.wire.specs.Codes.{PROTOCOL, SHORT-SIZE, LONG-SIZE, DATA-AT, REJECT-OLD-FW, REJECT-INV-COMPONENT, REJECT-SWAP-PENDING, REJECT-WRONG-PROTOCOL, REJECT-WRONG-SEGMENT, REJECT-WRONG-VARIANT, SUCCESS, ERROR-VERSION}
+use Rattle.wire.specs.Codes.{PROTOCOL, SHORT-SIZE, LONG-SIZE, REJECT-OLD-FW, REJECT-INV-COMPONENT, REJECT-SWAP-PENDING, REJECT-WRONG-PROTOCOL, REJECT-WRONG-SEGMENT, REJECT-WRONG-VARIANT, SUCCESS, ERROR-VERSION, ERROR-INVALID-ADDR, ERROR-NO-OFFER, ERROR-INVALID}
 use Rattle.wire_version.specs.Reply.{REPLY-SIZE, replyBytes}
 use Rattle.wire_offer.specs.Kind.{Kind, offer, information, extended, kindIn}
 use Rattle.wire_offer.specs.declared.offer.OfferFields.{OfferFields}
@@ -14,6 +14,7 @@ use Rattle.wire_content.specs.Head.{headIn}
 use Rattle.wire_content.specs.declared.head.ContentHead.{ContentHead}
 use Rattle.image.specs.Region.{regionBytes}
 use Rattle.image.specs.Judge.{imageIn}
+use Rattle.image.specs.declared.region.Region.{Region}
 use Rattle.image.specs.declared.judge.Image.{Image}
 use Rattle.image.specs.declared.judge.Image.the-variants.{Damaged, Foreign, Bears}
 use Rattle.device_component.specs.Record.{isPending, withStaged}
@@ -23,20 +24,21 @@ use Rattle.device_component.specs.declared.record.Staged.the-variants.{Nothing,
 use Rattle.device_slots.specs.Slots.{slotOf, isAbsent, resetComponents, runningOf}
 use Rattle.device_slots.specs.Standing.{standingOf}
 use Rattle.device_slots.specs.declared.standing.Standing.{Standing}
-use Rattle.device_session.specs.Stage.{isOpen}
+use Rattle.device_session.specs.Stage.{isOpen, atSlot, isAgain, isWrong}
 use Rattle.device_session.specs.Effect.{idle}
 use Rattle.device_session.specs.Sound.{breaksSetup, opensWrong, owesIdle}
+use Rattle.device_session.specs.declared.stage.Stage.{Stage}
 use Rattle.device_session.specs.declared.owed.Owed.the-variants as owed
 use Rattle.device_session.specs.declared.effect.Session.{Session}
 use Rattle.device_offering.specs.Offer as offering
 use Rattle.device_offering.specs.declared.verdict.OfferVerdict.{OfferVerdict}
 use Rattle.device_offering.specs.declared.verdict.OfferVerdict.the-variants.{Busy, Reject, Skip, Accept}
-use Rattle.device_receiving.specs.Content.{isLast, contentVerdict, takeBlock}
+use Rattle.device_receiving.specs.Content.{isLast, isCopy, noOffer, badShape, badFirst, badAddress}
 use Rattle.device_receiving.specs.Finish as finishing
 use Rattle.device_receiving.specs.Receive as receiving
-use Rattle.device_receiving.specs.Receive.{blockReply, goesOn, stagingAfter}
+use Rattle.device_receiving.specs.Receive.{blockReply, goesOn, written, stagingBy}
 use Rattle.device_receiving.specs.declared.checks.ContentVerdict.{ContentVerdict}
-use Rattle.device_receiving.specs.declared.checks.ContentVerdict.the-variants.{Refuse, Take}
+use Rattle.device_receiving.specs.declared.checks.ContentVerdict.the-variants.{Answer, Take}
 use Rattle.device_receiving.specs.declared.finish.Finished.{Finished}
 use Rattle.device_receiving.specs.declared.content.Taken.{Taken}
 use Rattle.device.specs.declared.record.Device.{Device}
@@ -49,19 +51,20 @@ use Rattle.device.specs.Offer.{needUnmet}
 use Rattle.device.specs.Content.{sessionComponent, received}
 use Rattle.device.specs.Entries.{Versions, Reset}
 use Rattle.device_rules.specs.Calls.{Call, packet, versions, reset, Answered, ofPacket, ofVersions, ofReset}
-use Rattle.device_rules.specs.Rules.{VersionRules}
+use Rattle.device_rules.specs.Rules.{Rules}
 
-module _ (rules : VersionRules) where
+module _ (rules : Rules) where
   -- D1
   abbrev pub keepsStagedBy : Component → Staged → Bool
   keepsStagedBy c Nothing = true
-  keepsStagedBy c (Pending v) = rules .stagedFits c v
+  keepsStagedBy c (Pending v) = rules .versions .stagedFits c v
 
   abbrev pub breaksD1By : Device → Bool
   breaksD1By d =
       breaksSetup (d .«staging_len») (d .count) (d .components)
       || (opensWrong (d .count) (d .components) (d .session)
-      || (owesIdle (d .session) || any (λ c. not (keepsStagedBy c (c .staged))) (take (d .count) (d .components))))
+      || (rules .sequences .wrongPrevious (d .session .stage) (d .session .previous)
+      || (owesIdle (d .session) || any (λ c. not (keepsStagedBy c (c .staged))) (take (d .count) (d .components)))))
 
   -- D1 to D3
   abbrev pub refusalBy : (size : ℕ) → Device → (n m : ℕ) → Row
@@ -75,8 +78,8 @@ module _ (rules : VersionRules) where
       ∷ (not (eqb (o .platform) platform), Reject REJECT-INV-COMPONENT)
       ∷ (not (eqb (o .segment) 0), Reject REJECT-WRONG-SEGMENT)
       ∷ (isPending (target .component .staged), Reject REJECT-SWAP-PENDING)
-      ∷ (rules .wrongVariant (target .component) (o .version), Reject REJECT-WRONG-VARIANT)
-      ∷ (rules .isOld (target .component) (o .version), Reject REJECT-OLD-FW)
+      ∷ (rules .versions .wrongVariant (target .component) (o .version), Reject REJECT-WRONG-VARIANT)
+      ∷ (rules .versions .isOld (target .component) (o .version), Reject REJECT-OLD-FW)
       ∷ []
 
   abbrev pub offerVerdictBy : Device → OfferFields → OfferVerdict
@@ -98,37 +101,51 @@ module _ (rules : VersionRules) where
   judgeBy c Damaged = finishing.judge c Damaged
   judgeBy c Foreign = finishing.judge c Foreign
   judgeBy c (Bears v) =
-      cond (rules .imageFits c v) (record { status = SUCCESS; component = withStaged c v }) (record { status = ERROR-VERSION; component = c })
+      cond (rules .versions .imageFits c v) (record { status = SUCCESS; component = withStaged c v }) (record { status = ERROR-VERSION; component = c })
 
   abbrev pub finishBy : Component → (s : List ℕ) → Finished
   finishBy c s = judgeBy c (imageIn (regionBytes (c .fixed .region) s) (c .fixed .id))
 
+  -- checks 1 to 6 of a content packet
+  abbrev pub contentVerdictBy : Region → Stage → (copy : Bool) → ContentHead → ContentVerdict
+  contentVerdictBy region stage copy c =
+      firstOf (
+      (noOffer stage, Answer ERROR-NO-OFFER)
+      ∷ (badShape c, Answer ERROR-INVALID)
+      ∷ (badFirst stage c, Answer ERROR-INVALID)
+      ∷ (isAgain (rules .sequences .judged stage copy (c .sequence)), Answer SUCCESS)
+      ∷ (isWrong (rules .sequences .judged stage copy (c .sequence)), Answer ERROR-INVALID)
+      ∷ (badAddress region c, Answer ERROR-INVALID-ADDR)
+      ∷ [])
+      (Take (atSlot stage))
+
+  abbrev pub verdictOnBy : Device → (report : List ℕ) → ContentVerdict
+  verdictOnBy d report =
+      contentVerdictBy (sessionComponent d .fixed .region) (d .session .stage) (isCopy (d .session .previous) report) (headIn report)
+
   -- a content packet: only a last block is judged
-  abbrev pub onBlockBy : Component → Session → (slot : ℕ) → ContentHead → (s : List ℕ) → Taken
-  onBlockBy c session slot h s =
-      cond (isLast h)
-      (record { effect = blockReply (h .sequence) (finishBy c s .status) (session .owed) idle; component = finishBy c s .component })
-      (record { effect = blockReply (h .sequence) SUCCESS owed.Nothing (goesOn session slot h); component = c })
+  abbrev pub onBlockBy : Component → Session → (slot : ℕ) → (report s : List ℕ) → Taken
+  onBlockBy c session slot report s =
+      cond (isLast (headIn report))
+      (record { effect = blockReply (headIn report .sequence) (finishBy c s .status) (session .owed) idle; component = finishBy c s .component })
+      (record { effect = blockReply (headIn report .sequence) SUCCESS owed.Nothing (goesOn session slot report); component = c })
 
-  abbrev pub onContentVerdictBy : Component → Session → ContentHead → (bytes s : List ℕ) → ContentVerdict → Taken
-  onContentVerdictBy c session h bytes s (Refuse status) = receiving.onVerdict c session h bytes s (Refuse status)
-  onContentVerdictBy c session h bytes s (Take slot) = onBlockBy c session slot h (takeBlock (c .fixed .region) h bytes s)
-
-  abbrev pub onContentBy : Component → Session → ContentHead → (bytes s : List ℕ) → Taken
-  onContentBy c session h bytes s = onContentVerdictBy c session h bytes s (contentVerdict (c .fixed .region) (session .stage) h)
+  abbrev pub onContentVerdictBy : Component → Session → (report s : List ℕ) → ContentVerdict → Taken
+  onContentVerdictBy c session report s (Answer status) = receiving.onVerdict c session report s (Answer status)
+  onContentVerdictBy c session report s (Take slot) = onBlockBy c session slot report (written (c .fixed .region) report s)
 
   -- the entries for packets, and every byte of the staging buffer afterwards
   abbrev pub serveBy : Device → Channel → (staging report : List ℕ) → Outcome
   serveBy d Offer staging report = unlessRefused (refusalBy SHORT-SIZE d (length staging) (length report)) d (onKindBy d (kindIn report))
   serveBy d Content staging report =
       unlessRefused (refusalBy LONG-SIZE d (length staging) (length report)) d
-      (received d (onContentBy (sessionComponent d) (d .session) (headIn report) (drop DATA-AT report) staging))
+      (received d (onContentVerdictBy (sessionComponent d) (d .session) report staging (verdictOnBy d report)))
 
   abbrev pub serveStagingBy : Device → Channel → (staging report : List ℕ) → List ℕ
   serveStagingBy d Offer staging report = staging
   serveStagingBy d Content staging report =
       keptBy (refusalBy LONG-SIZE d (length staging) (length report)) staging
-      (stagingAfter (sessionComponent d .fixed .region) (d .session .stage) (headIn report) (drop DATA-AT report) staging)
+      (stagingBy (sessionComponent d .fixed .region) report staging (verdictOnBy d report))
 
   -- the version reply, and the reset
   abbrev pub versionBy : Device → Versions

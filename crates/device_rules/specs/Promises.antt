@@ -1,8 +1,10 @@
--- Where versions have the variant that their component runs, every call answers as by document 01's rules: what document 02's A1 leaves as it is.
+-- What document 02 leaves as it is: where versions have the variant that their component runs, every call answers as by document 01's rules on versions (A1);
+-- and every call but a block sent again answers as by document 01's rules on sequences (A4).
 use Prim.Native.Nat.{ℕ, _<_}
 use mathlib.Core.Path.{_≡_}
 use mathlib.Core.Bool.{true, false}
 use mathlib.Core.List.{List}
+use Rattle.wire.specs.Codes.{SUCCESS, ERROR-INVALID}
 use Rattle.wire.specs.Version.{variantOf}
 use Rattle.wire.specs.declared.version.Version.{Version}
 use Rattle.wire_offer.specs.Kind.{offer, kindIn}
@@ -14,16 +16,17 @@ use Rattle.image.specs.declared.judge.Image.the-variants.{Bears}
 use Rattle.device_component.specs.declared.record.Component.{Component}
 use Rattle.device_component.specs.declared.record.Staged.the-variants.{Pending}
 use Rattle.device_component.specs.declared.list.Found.the-variants.{At}
-use Rattle.device_receiving.specs.Content.{isLast}
-use Rattle.device_receiving.specs.declared.checks.ContentVerdict.the-variants.{Take}
+use Rattle.device_session.specs.Sound.{holdsWrong}
+use Rattle.device_receiving.specs.Content.{isLast, isCopy, sentAgain}
+use Rattle.device_receiving.specs.declared.checks.ContentVerdict.the-variants.{Answer, Take}
 use Rattle.device.specs.declared.record.Device.{Device}
 use Rattle.device.specs.declared.answer.Channel.the-variants.{Offer, Content}
 use Rattle.device.specs.Record.{find, component}
 use Rattle.device.specs.Refusals.{served, breaksD1}
 use Rattle.device.specs.Content.{contentVerdict, contentEntry, contentStaging}
 use Rattle.device_rules.specs.Calls.{Call, packet, versions, reset, answerOf}
-use Rattle.device_rules.specs.Rules.{inForce, document01}
-use Rattle.device_rules.specs.Entries.{answerBy}
+use Rattle.device_rules.specs.Rules.{inForce, beforeA4, anyVariant, document01}
+use Rattle.device_rules.specs.Entries.{verdictOnBy, answerBy}
 
 -- with the rules in force, a call answers what its entry answers
 abbrev pub RulesInForceAnswer : Type 0
@@ -41,7 +44,7 @@ StagedOne d = (k : ℕ) (v : Version) → k < d .count → component d k .staged
 -- CRC and the component's id, which a last block, where it is taken, leaves in the region of the session's component
 abbrev pub BroughtOne : Device → (staging : List ℕ) → Call → Type 0
 BroughtOne d staging (packet Offer report) = (o : OfferFields) (k : ℕ) → kindIn report ≡ offer o → find d (o .id) ≡ At k → OneVariant (component d k) (o .version)
-BroughtOne d staging (packet Content report) = (k : ℕ) (v : Version) → contentEntry d staging report .row ≡ served → contentVerdict d (headIn report) ≡ Take k
+BroughtOne d staging (packet Content report) = (k : ℕ) (v : Version) → contentEntry d staging report .row ≡ served → contentVerdict d report ≡ Take k
     → isLast (headIn report) ≡ true
     → imageIn (regionBytes (component d k .fixed .region) (contentStaging d staging report)) (component d k .fixed .id) ≡ Bears v → OneVariant (component d k) v
 BroughtOne d staging versions = Unit {0}
@@ -49,10 +52,32 @@ BroughtOne d staging reset = Unit {0}
 
 -- A1 changes nothing where what is staged and what a call brings have the running variant, each of its own component: the same row, the same replies, the same
 -- record and the same bytes, of served and of refused calls
-abbrev pub OneVariantAsDocument01 : Type 0
-OneVariantAsDocument01 = (d : Device) (staging : List ℕ) (call : Call) → StagedOne d → BroughtOne d staging call
-    → answerOf d staging call ≡ answerBy document01 d staging call
+abbrev pub OneVariantAsBefore : Type 0
+OneVariantAsBefore = (d : Device) (staging : List ℕ) (call : Call) → StagedOne d → BroughtOne d staging call
+    → answerOf d staging call ≡ answerBy anyVariant d staging call
 
 -- what a device that passes D1 has staged is so
 abbrev pub SoundStagedOne : Type 0
 SoundStagedOne = (d : Device) → breaksD1 d ≡ false → StagedOne d
+
+-- the call is no block sent again: what it brings is no copy of the previous packet of a receiving session
+abbrev pub BringsNoCopy : Device → Call → Type 0
+BringsNoCopy d (packet Offer report) = Unit {0}
+BringsNoCopy d (packet Content report) = sentAgain (d .session .stage) (isCopy (d .session .previous) report) (headIn report) ≡ false
+BringsNoCopy d versions = Unit {0}
+BringsNoCopy d reset = Unit {0}
+
+-- A4 changes nothing where D1's clause on the previous packet does not apply and the call is no block sent again: the same row, the same replies, the same
+-- record and the same bytes
+abbrev pub NoCopyAsBefore : Type 0
+NoCopyAsBefore = (d : Device) (staging : List ℕ) (call : Call) → holdsWrong (d .session) ≡ false → BringsNoCopy d call
+    → answerOf d staging call ≡ answerBy beforeA4 d staging call
+
+-- a block sent again was answered 0x0B before A4 and is answered 0 now; neither changes anything (`AnswerChangesNothing`)
+abbrev pub CopyWasInvalid : Type 0
+CopyWasInvalid = (d : Device) (report : List ℕ) → contentVerdict d report ≡ Answer SUCCESS → verdictOnBy beforeA4 d report ≡ Answer ERROR-INVALID
+
+-- where all of these hold, every call answers as by document 01's rules
+abbrev pub AsDocument01 : Type 0
+AsDocument01 = (d : Device) (staging : List ℕ) (call : Call) → StagedOne d → BroughtOne d staging call → holdsWrong (d .session) ≡ false → BringsNoCopy d call
+    → answerOf d staging call ≡ answerBy document01 d staging call

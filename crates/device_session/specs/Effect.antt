@@ -1,9 +1,11 @@
 -- The session, the one way it becomes idle, and what a packet that no row refuses does to it (document 01, "The device").
 use Prim.Native.Nat.{ℕ}
+use mathlib.Core.Path.{_≡_}
 use mathlib.Core.Bool.{true, false}
 use mathlib.Core.List.{List}
-use lib.ListN.{replicate}
-use Rattle.wire.specs.Codes.{SHORT-SIZE}
+use lib.ListN.{length, replicate}
+use Rattle.wire.specs.Bytes.{Bytes}
+use Rattle.wire.specs.Codes.{SHORT-SIZE, LONG-SIZE}
 use Rattle.device_session.specs.declared.stage.Stage.{Stage}
 use Rattle.device_session.specs.declared.stage.Stage.the-variants.{Idle}
 use Rattle.device_session.specs.declared.owed.Owed.{Owed}
@@ -18,18 +20,24 @@ use Rattle.device_session.specs.Owed.{FitsOwed}
 pub record FitsSession (s : Session) : Type 0 where
   pub stage : FitsStage (s .stage)
   pub owed : FitsOwed (s .owed)
+  pub size : length (s .previous) ≡ LONG-SIZE
+  pub bytes : Bytes (s .previous)
 
--- idle and owing nothing: the one way a session becomes idle
+-- no packet: what a session holds that is not receiving
+abbrev pub blankPacket : List ℕ
+blankPacket = replicate LONG-SIZE 0
+
+-- idle, owing nothing and holding no packet: the one way a session becomes idle
 abbrev pub idle : Session
-idle = record { stage = Idle; owed = Nothing }
+idle = record { stage = Idle; owed = Nothing; previous = blankPacket }
 
--- the session in another stage
-abbrev pub inStage : Session → Stage → Session
-inStage session stage = record { stage = stage; owed = session .owed }
+-- the session in another stage, with the packet that it holds in it: while receiving that of the block taken last (document 02, A4), and otherwise none
+abbrev pub inStage : Session → Stage → (previous : List ℕ) → Session
+inStage session stage previous = record { stage = stage; owed = session .owed; previous = previous }
 
 -- the session with another ready-reply owed
 abbrev pub owing : Session → Owed → Session
-owing session owed = record { stage = session .stage; owed = owed }
+owing session owed = record { stage = session .stage; owed = owed; previous = session .previous }
 
 -- nothing is sent
 abbrev pub noReplies : Replies

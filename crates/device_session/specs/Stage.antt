@@ -8,7 +8,7 @@ use Rattle.device_component.specs.declared.list.Found.the-variants as found
 use Rattle.device_session.specs.declared.stage.Stage.{Stage}
 use Rattle.device_session.specs.declared.stage.Stage.the-variants.{Idle, Offered, Receiving}
 use Rattle.device_session.specs.declared.stage.SequenceVerdict.{SequenceVerdict}
-use Rattle.device_session.specs.declared.stage.SequenceVerdict.the-variants.{Next, Wrong}
+use Rattle.device_session.specs.declared.stage.SequenceVerdict.the-variants.{Next, Again, Wrong}
 
 -- the values of the type
 abbrev pub FitsStage : Stage → Type 0
@@ -47,12 +47,19 @@ atToken (Receiving r) = r .token
 abbrev pub following : ℕ → ℕ
 following sequence = (sequence + 1) % 65536
 
--- the sequence of a block: while receiving the expected one, otherwise any
-abbrev pub sequenceVerdict : Stage → ℕ → SequenceVerdict
-sequenceVerdict Idle sequence = Next
-sequenceVerdict (Offered o) sequence = Next
-sequenceVerdict (Receiving r) sequence = cond (eqb sequence (r .next)) Next Wrong
+-- the judgement of a block's sequence (document 02, A4): while receiving, the expected one is next, a copy of the previous packet is that block again, and any
+-- other is wrong; otherwise any is next
+abbrev pub sequenceVerdict : Stage → (copy : Bool) → (sequence : ℕ) → SequenceVerdict
+sequenceVerdict Idle copy sequence = Next
+sequenceVerdict (Offered o) copy sequence = Next
+sequenceVerdict (Receiving r) copy sequence = cond (eqb sequence (r .next)) Next (cond copy Again Wrong)
+
+abbrev pub isAgain : SequenceVerdict → Bool
+isAgain Next = false
+isAgain Again = true
+isAgain Wrong = false
 
 abbrev pub isWrong : SequenceVerdict → Bool
 isWrong Next = false
+isWrong Again = false
 isWrong Wrong = true

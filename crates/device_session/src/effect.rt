@@ -1,6 +1,7 @@
 // The session (document 01, "The device"), the one way it becomes idle, and what a packet does: what is sent after it, and the session afterwards.
 use crate::owed::Owed;
 use crate::stage::Stage;
+use wire::codes::LONG_SIZE;
 use wire::codes::SHORT_SIZE;
 ghost use mathlib.Core.Path.{_≡_};
 ghost use Rattle.device_session.specs.Effect.{noReplies, inStage, owing as owingOf, idle as idleSession, answered as answeredBy, silent as silentAs};
@@ -8,6 +9,8 @@ ghost use Rattle.device_session.specs.Effect.{noReplies, inStage, owing 
 pub struct Session {
     pub stage: Stage,
     pub owed: Owed,
+    // While receiving, the packet of the block taken last (document 02, A4); blank, all zeros, otherwise.
+    pub previous: [u8; LONG_SIZE],
 }
 
 // What is sent after a packet: a reply where one is due (its bytes are zero where none is), then the READY that was owed, with its token.
@@ -37,22 +40,27 @@ impl Replies {
 }
 
 impl Session {
-    // Nothing open and nothing owed: the one way a session becomes idle.
+    // Nothing open, nothing owed and no packet held: the one way a session becomes idle.
     pub fn idle() -> Session
         ensures { λ r. ⌜ r ≡ idleSession ⌝ }
     {
         Session {
             stage: Stage::Idle,
             owed: Owed::Nothing,
+            previous: [0u8; LONG_SIZE],
         }
     }
 
-    // In another stage.
-    pub fn in_stage(self, stage: Stage) -> Session
-        ensures { λ r. ⌜ r ≡ inStage self stage ⌝ }
+    // In another stage, and the packet that it holds in it.
+    pub fn in_stage(self, stage: Stage, previous: [u8; LONG_SIZE]) -> Session
+        ensures { λ r. ⌜ r ≡ inStage self stage previous ⌝ }
     {
         let owed = self.owed;
-        Session { stage, owed }
+        Session {
+            stage,
+            owed,
+            previous,
+        }
     }
 
     // With another ready-reply owed.
@@ -60,7 +68,12 @@ impl Session {
         ensures { λ r. ⌜ r ≡ owingOf self owed ⌝ }
     {
         let stage = self.stage;
-        Session { stage, owed }
+        let previous = self.previous;
+        Session {
+            stage,
+            owed,
+            previous,
+        }
     }
 
     // One reply, and then the READY that was owed.

@@ -1,7 +1,7 @@
 // The stage of a session (document 01, "The device"): idle, offered or receiving, with its own data.
 use device_component::list::Found;
 ghost use mathlib.Core.Path.{_≡_};
-ghost use Rattle.device_session.specs.Stage.{isOpen, openSlot, atSlot, atToken, isReceiving, sequenceVerdict, isWrong};
+ghost use Rattle.device_session.specs.Stage.{isOpen, openSlot, atSlot, atToken, isReceiving, sequenceVerdict, isAgain, isWrong};
 
 // An offer was accepted for the component in this slot.
 pub struct Offered {
@@ -23,18 +23,30 @@ pub enum Stage {
     Receiving(Receiving),
 }
 
-// Of a block's sequence.
+// Of a block's sequence (document 02, A4): the next one, the block just taken sent again, or wrong.
 pub enum SequenceVerdict {
     Next,
+    Again,
     Wrong,
 }
 
 impl SequenceVerdict {
+    pub fn is_again(self) -> bool
+        ensures { λ r. ⌜ r ≡ isAgain self ⌝ }
+    {
+        match self {
+            SequenceVerdict::Next => false,
+            SequenceVerdict::Again => true,
+            SequenceVerdict::Wrong => false,
+        }
+    }
+
     pub fn is_wrong(self) -> bool
         ensures { λ r. ⌜ r ≡ isWrong self ⌝ }
     {
         match self {
             SequenceVerdict::Next => false,
+            SequenceVerdict::Again => false,
             SequenceVerdict::Wrong => true,
         }
     }
@@ -95,16 +107,19 @@ impl Stage {
         }
     }
 
-    // While receiving the expected sequence, otherwise any.
-    pub fn sequence_verdict(self, sequence: u16) -> SequenceVerdict
-        ensures { λ r. ⌜ r ≡ sequenceVerdict self sequence ⌝ }
+    // While receiving, the expected sequence is next, a copy of the previous packet is that block again, and any other is wrong; otherwise any is next.
+    pub fn sequence_verdict(self, copy: bool, sequence: u16) -> SequenceVerdict
+        ensures { λ r. ⌜ r ≡ sequenceVerdict self copy sequence ⌝ }
     {
         match self {
             Stage::Idle => SequenceVerdict::Next,
             Stage::Offered(_) => SequenceVerdict::Next,
             Stage::Receiving(r) => {
                 if sequence == r.next {
-                    SequenceVerdict::Next
+                    return SequenceVerdict::Next;
+                }
+                if copy {
+                    SequenceVerdict::Again
                 } else {
                     SequenceVerdict::Wrong
                 }

@@ -1,12 +1,13 @@
-// The session of a device as bytes: the stage, and the ready-reply that is owed. What is read stands in bytes that start at the session; past their end a
-// byte is 0.
+// The session of a device as bytes: the stage, the ready-reply that is owed, and the previous packet. What is read stands in bytes that start at the session;
+// past their end a byte is 0.
 ghost use mathlib.Core.Path.{_≡_};
-ghost use Rattle.device_session_bytes.specs.Layout.{stageBytes, owedBytes, sessionBytes, stageIn, owedIn, sessionIn, sessionFlagsFit};
+ghost use Rattle.device_session_bytes.specs.Layout.{stageBytes, owedBytes, sessionBytes, stageIn, owedIn, previousIn, sessionIn, sessionFlagsFit};
 use device_session::effect::Session;
 use device_session::owed::Owed;
 use device_session::stage::Offered;
 use device_session::stage::Receiving;
 use device_session::stage::Stage;
+use wire::codes::LONG_SIZE;
 use wire::words;
 
 // Where the parts of a stage stand behind its number: the slot, the token, the next sequence; and its length.
@@ -18,14 +19,16 @@ pub const NEXT_AT: usize = TOKEN_AT + 1;
 
 const STAGE_SIZE: usize = NEXT_AT + 2;
 
-// Where what is owed stands behind the stage, and its token; its length, and that of the session.
+// Where what is owed stands behind the stage, and its token, and its length; where the previous packet stands behind that; and the length of the session.
 pub const OWED_AT: usize = STAGE_SIZE;
 
 pub const OWED_TOKEN_AT: usize = OWED_AT + 1;
 
 const OWED_SIZE: usize = 1 + 1;
 
-pub const SESSION_SIZE: usize = STAGE_SIZE + OWED_SIZE;
+pub const PREVIOUS_AT: usize = OWED_AT + OWED_SIZE;
+
+pub const SESSION_SIZE: usize = PREVIOUS_AT + LONG_SIZE;
 
 fn stage_bytes(stage: Stage) -> [u8; STAGE_SIZE]
     ensures { λ r. ⌜ r ≡ stageBytes stage ⌝ }
@@ -54,9 +57,14 @@ pub fn session_bytes(session: Session) -> [u8; SESSION_SIZE]
 {
     let stage = session.stage;
     let owed = session.owed;
+    let previous = session.previous;
     let s = stage_bytes(stage);
     let o = owed_bytes(owed);
-    [s[0], s[1], s[2], s[3], s[4], o[0], o[1]]
+    let mut out = [0u8; SESSION_SIZE];
+    words::copy(&mut out[0..OWED_AT], &s);
+    words::copy(&mut out[OWED_AT..PREVIOUS_AT], &o);
+    words::copy(&mut out[PREVIOUS_AT..SESSION_SIZE], &previous);
+    out
 }
 
 fn stage_in(stage: u8, slot: u8, token: u8, next: u16) -> Stage
@@ -81,6 +89,17 @@ fn owed_in(owed: u8, token: u8) -> Owed
     }
 }
 
+// The previous packet, in whatever stage; bytes that end before it does have none.
+fn previous_in(q: &[u8]) -> [u8; LONG_SIZE]
+    ensures { λ r. ⌜ r ≡ previousIn (now (q .entry)) ⌝ }
+{
+    let mut previous = [0u8; LONG_SIZE];
+    if SESSION_SIZE <= q.len() {
+        words::copy(&mut previous, &q[PREVIOUS_AT..SESSION_SIZE]);
+    }
+    previous
+}
+
 // The session, unjudged.
 pub fn session_in(q: &[u8]) -> Session
     ensures { λ r. ⌜ r ≡ sessionIn (now (q .entry)) ⌝ }
@@ -92,7 +111,12 @@ pub fn session_in(q: &[u8]) -> Session
         words::word16_at(q, NEXT_AT as u16),
     );
     let owed = owed_in(words::byte_at(q, OWED_AT), words::byte_at(q, OWED_TOKEN_AT));
-    Session { stage, owed }
+    let previous = previous_in(q);
+    Session {
+        stage,
+        owed,
+        previous,
+    }
 }
 
 // The flags are such as a session has.

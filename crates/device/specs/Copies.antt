@@ -1,0 +1,53 @@
+-- A block sent again (document 02, A4): what a copy of the previous packet is answered by, that it changes nothing, and that a session which is not receiving
+-- holds no packet.
+use Prim.Native.Nat.{ℕ}
+use mathlib.Core.Path.{_≡_}
+use mathlib.Core.Bool.{false}
+use mathlib.Core.List.{List, [], _∷_}
+use Rattle.wire.specs.Bytes.{Bytes}
+use Rattle.wire_content.specs.Head.{headIn}
+use Rattle.wire_content.specs.Reply.{replyBytes}
+use Rattle.device_component.specs.declared.record.Listed.{Listed}
+use Rattle.device_session.specs.Stage.{isReceiving}
+use Rattle.device_session.specs.Effect.{blankPacket, oneReply}
+use Rattle.device_session.specs.declared.owed.Owed.the-variants.{Nothing}
+use Rattle.device_receiving.specs.Content.{isFirst, isLast}
+use Rattle.device_receiving.specs.declared.checks.ContentVerdict.the-variants.{Answer, Take}
+use Rattle.device.specs.declared.record.Device.{Device}
+use Rattle.device.specs.declared.answer.Channel.{Channel}
+use Rattle.device.specs.Record.{FitsDevice}
+use Rattle.device.specs.Refusals.{Outcome, served}
+use Rattle.device.specs.Content.{contentVerdict, contentEntry, contentStaging}
+use Rattle.device.specs.Entries.{setUpOf, resetEntry, serveEntry}
+
+-- one reply with the sequence of the packet and this status, and the record as it was
+abbrev pub onlyReplies : Device → (report : List ℕ) → (status : ℕ) → Outcome
+onlyReplies d report status = record {
+  row = served;
+  replies = oneReply (replyBytes (record { sequence = headIn report .sequence; status = status })) Nothing;
+  sent = replyBytes (record { sequence = headIn report .sequence; status = status }) ∷ [];
+  device = d;
+}
+
+-- an answer of checks 1 to 5, a copy's status 0 among them, changes no part of the record and no byte; no READY follows it
+abbrev pub AnswerChangesNothing : Type 0
+AnswerChangesNothing = (d : Device) (staging report : List ℕ) (status : ℕ) → contentEntry d staging report .row ≡ served → contentVerdict d report ≡ Answer status
+    → (contentEntry d staging report ≡ onlyReplies d report status) × (contentStaging d staging report ≡ staging)
+
+-- a block that is taken, neither first nor last, and is sent again at once: the same reply, and nothing changes; so it is however often it is sent
+abbrev pub ResentBlock : Type 0
+ResentBlock = (d : Device) (staging report : List ℕ) (slot : ℕ) → FitsDevice d → Bytes report
+    → contentEntry d staging report .row ≡ served → contentVerdict d report ≡ Take slot
+    → isFirst (headIn report) ≡ false → isLast (headIn report) ≡ false
+    → (contentEntry (contentEntry d staging report .device) (contentStaging d staging report) report ≡ contentEntry d staging report)
+    × (contentStaging (contentEntry d staging report .device) (contentStaging d staging report) report ≡ contentStaging d staging report)
+
+-- a session that is not receiving holds no packet, so that equal states are equal
+abbrev pub HoldsNone : Device → Type 0
+HoldsNone d = isReceiving (d .session .stage) ≡ false → d .session .previous ≡ blankPacket
+
+-- set-up makes such a record, and every call leaves one of one
+pub record HeldOnlyReceiving : Type 0 where
+  pub setUp : (platform : ℕ) (list : List Listed) (count n : ℕ) → HoldsNone (setUpOf platform list count n .device)
+  pub packets : (d : Device) (channel : Channel) (staging report : List ℕ) → HoldsNone d → HoldsNone (serveEntry d channel staging report .device)
+  pub reset : (d : Device) → HoldsNone d → HoldsNone (resetEntry d .device)

@@ -54,9 +54,9 @@ CursorIn b Opening cursor = Unit {0}
 CursorIn b Listing cursor = Unit {0}
 CursorIn b (Offering t) cursor = Unit {0}
 CursorIn b (Waiting t) cursor = Unit {0}
-CursorIn b (Sending p) cursor =
-    (cursor ≤ bodyOf (checkOf b) (p .entry) .end)
-    × (recordsOf (between b cursor (bodyOf (checkOf b) (p .entry) .end)) ≡ whole (drop (suc (p .block)) (blocksAt b (p .entry))))
+CursorIn b (Sending a) cursor =
+    (cursor ≤ bodyOf (checkOf b) (a .place .entry) .end)
+    × (recordsOf (between b cursor (bodyOf (checkOf b) (a .place .entry) .end)) ≡ whole (drop (suc (a .place .block)) (blocksAt b (a .place .entry))))
 CursorIn b Closing cursor = Unit {0}
 CursorIn b (Ended e) cursor = Unit {0}
 
@@ -84,7 +84,7 @@ cursorAt b body Opening = 0
 cursorAt b body Listing = 0
 cursorAt b body (Offering t) = 0
 cursorAt b body (Waiting t) = 0
-cursorAt b body (Sending p) = placeAfter b (body .start) (body .end) (p .block + 1)
+cursorAt b body (Sending a) = placeAfter b (body .start) (body .end) (a .place .block + 1)
 cursorAt b body Closing = 0
 cursorAt b body (Ended e) = 0
 

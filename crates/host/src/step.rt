@@ -51,7 +51,7 @@ pub fn cursor_for(b: &[u8], body: Body, stage: HostStage) -> usize
         HostStage::Listing => 0,
         HostStage::Offering(_) => 0,
         HostStage::Waiting(_) => 0,
-        HostStage::Sending(p) => place_after(b, body.start, body.end, p.block as u64 + 1),
+        HostStage::Sending(a) => place_after(b, body.start, body.end, a.place.block as u64 + 1),
         HostStage::Closing => 0,
         HostStage::Ended(_) => 0,
     }

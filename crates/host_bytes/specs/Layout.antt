@@ -16,6 +16,7 @@ use Rattle.host_record.specs.Fits.{bodyOf, inHand}
 use Rattle.host_record.specs.declared.fits.Body.{Body}
 use Rattle.host_record.specs.declared.record.Host.{Host}
 use Rattle.host_record.specs.declared.record.Place.{Place}
+use Rattle.host_record.specs.declared.record.Awaited.{Awaited}
 use Rattle.host_record.specs.declared.record.HostStage.{HostStage}
 use Rattle.host_record.specs.declared.record.HostStage.the-variants.{Fresh, Opening, Listing, Offering, Waiting, Sending, Closing, Ended}
 use Rattle.host_record.specs.declared.record.End.{End}
@@ -62,8 +63,11 @@ SKIPPED-AT = PASSES-AT + WORD-SIZE
 abbrev pub LANDED-AT : ℕ
 LANDED-AT = SKIPPED-AT + 1
 
+abbrev pub PASSED-AT : ℕ
+PASSED-AT = LANDED-AT + 1
+
 abbrev pub HOST-SIZE : ℕ
-HOST-SIZE = LANDED-AT + 1
+HOST-SIZE = PASSED-AT + 1
 
 -- a stage as its number and two words, zero where it has none: the entry and its BUSY replies, the entry and the block, or the end: its number (0 done, 1 to 4
 -- for H1 to H4) and the content status of H1
@@ -80,7 +84,7 @@ stageWords Opening = record { number = 1; first = 0; second = 0 }
 stageWords Listing = record { number = 2; first = 0; second = 0 }
 stageWords (Offering t) = record { number = 3; first = t .entry; second = t .busy }
 stageWords (Waiting t) = record { number = 4; first = t .entry; second = t .busy }
-stageWords (Sending p) = record { number = 5; first = p .entry; second = p .block }
+stageWords (Sending a) = record { number = 5; first = a .place .entry; second = a .place .block }
 stageWords Closing = record { number = 6; first = 0; second = 0 }
 stageWords (Ended e) = endWords e
 
@@ -92,13 +96,24 @@ abbrev pub flagByte : Bool → ℕ
 flagByte false = 0
 flagByte true = 1
 
--- the record: token, stage, mask, packets, passes, and whether this pass had a SKIP and a completed image
+-- whether a reply was passed over while a block's is awaited (document 02, A4); never in another stage
+abbrev pub passedIn : HostStage → Bool
+passedIn Fresh = false
+passedIn Opening = false
+passedIn Listing = false
+passedIn (Offering t) = false
+passedIn (Waiting t) = false
+passedIn (Sending a) = a .passed
+passedIn Closing = false
+passedIn (Ended e) = false
+
+-- the record: token, stage, mask, packets, passes, whether this pass had a SKIP and a completed image, and whether a reply was passed over
 unfoldable pub hostBytes : Host → List ℕ
 hostBytes h =
     h .token
     ∷ stageBytes (h .stage)
     ++ (bytesOf 4 (h .mask)
-    ++ (bytesOf 4 (h .packets) ++ (bytesOf 4 (h .passes) ++ flagByte (h .skipped) ∷ flagByte (h .landed) ∷ [])))
+    ++ (bytesOf 4 (h .packets) ++ (bytesOf 4 (h .passes) ++ flagByte (h .skipped) ∷ flagByte (h .landed) ∷ flagByte (passedIn (h .stage)) ∷ [])))
 
 -- the fields that stand in bytes, unjudged; what the stage has no use for is not read
 abbrev pub endIn : (number status : ℕ) → End
@@ -106,20 +121,20 @@ endIn n status =
     cond (eqb n 1) (end.Status (status % 256))
     (cond (eqb n 2) end.Foreign (cond (eqb n 3) end.Unexpected (cond (eqb n 4) end.Busy end.Done)))
 
-abbrev pub stageIn : (stage first second : ℕ) → HostStage
-stageIn stage first second =
+abbrev pub stageIn : (stage first second : ℕ) → (passed : Bool) → HostStage
+stageIn stage first second passed =
     cond (eqb stage 1) Opening
     (cond (eqb stage 2) Listing
     (cond (eqb stage 3) (Offering (record { entry = first; busy = second }))
     (cond (eqb stage 4) (Waiting (record { entry = first; busy = second }))
-    (cond (eqb stage 5) (Sending (record { entry = first; block = second }))
+    (cond (eqb stage 5) (Sending (record { place = record { entry = first; block = second }; passed = passed }))
     (cond (eqb stage 6) Closing
     (cond (eqb stage 7) (Ended (endIn first second)) Fresh))))))
 
 unfoldable pub hostIn : List ℕ → Host
 hostIn b = record {
   token = getD b TOKEN-AT 0;
-  stage = stageIn (getD b STAGE-START 0) (number (bytesAt 4 FIRST-AT b)) (number (bytesAt 4 SECOND-AT b));
+  stage = stageIn (getD b STAGE-START 0) (number (bytesAt 4 FIRST-AT b)) (number (bytesAt 4 SECOND-AT b)) (eqb (getD b PASSED-AT 0) 1);
   mask = number (bytesAt 4 MASK-AT b);
   packets = number (bytesAt 4 PACKETS-AT b);
   passes = number (bytesAt 4 PASSES-AT b);
@@ -127,12 +142,12 @@ hostIn b = record {
   landed = eqb (getD b LANDED-AT 0) 1;
 }
 
--- each number is one that a record has: the stage's, the end's where the host has ended, and the two booleans
-abbrev pub areFlags : (stage end skipped landed : ℕ) → Bool
-areFlags stage end skipped landed = leb stage 7 && ((not (eqb stage 7) || leb end 4) && (leb skipped 1 && leb landed 1))
+-- each number is one that a record has: the stage's, the end's where the host has ended, and the three booleans
+abbrev pub areFlags : (stage end skipped landed passed : ℕ) → Bool
+areFlags stage end skipped landed passed = leb stage 7 && ((not (eqb stage 7) || leb end 4) && (leb skipped 1 && (leb landed 1 && leb passed 1)))
 
 unfoldable pub flagsFit : List ℕ → Bool
-flagsFit b = areFlags (getD b STAGE-START 0) (number (bytesAt 4 FIRST-AT b)) (getD b SKIPPED-AT 0) (getD b LANDED-AT 0)
+flagsFit b = areFlags (getD b STAGE-START 0) (number (bytesAt 4 FIRST-AT b)) (getD b SKIPPED-AT 0) (getD b LANDED-AT 0) (getD b PASSED-AT 0)
 
 -- a record that N1 refuses over every bundle: it counts more packets than any host may
 abbrev pub refusedHost : Host
@@ -242,7 +257,7 @@ isKept q Opening = false
 isKept q Listing = false
 isKept q (Offering t) = false
 isKept q (Waiting t) = false
-isKept q (Sending p) = eqb (placeIn q .entry) (p .entry) && eqb (placeIn q .block) (p .block)
+isKept q (Sending a) = eqb (placeIn q .entry) (a .place .entry) && eqb (placeIn q .block) (a .place .block)
 isKept q Closing = false
 isKept q (Ended e) = false
 
@@ -257,7 +272,7 @@ keptWith q Opening cursor = q
 keptWith q Listing cursor = q
 keptWith q (Offering t) cursor = q
 keptWith q (Waiting t) cursor = q
-keptWith q (Sending p) cursor = take HAND-START q ++ handBytes p cursor
+keptWith q (Sending a) cursor = take HAND-START q ++ handBytes (a .place) cursor
 keptWith q Closing cursor = q
 keptWith q (Ended e) cursor = q
 

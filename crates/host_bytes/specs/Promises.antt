@@ -9,7 +9,7 @@ use Rattle.wire.specs.Bytes.{Bytes, Packet}
 use Rattle.bundle.specs.Contents.{checkOf}
 use Rattle.host_record.specs.declared.record.Host.{Host}
 use Rattle.host_record.specs.declared.record.HostStage.the-variants.{Sending}
-use Rattle.host_record.specs.Record.{FitsHost}
+use Rattle.host_record.specs.Record.{FitsHost, sentAt}
 use Rattle.host.specs.Step.{badStage, breaksN1, stepOf}
 use Rattle.host.specs.Inner.{innerFor, CursorIn}
 use Rattle.host_bytes.specs.Layout.{HOST-SIZE, hostBytes, flagsFit, readHost, noPlace, contentsBytes, contentsIn, placeIn, cursorIn, cursorFor, contentsAfter}
@@ -29,7 +29,7 @@ OthersBreakN1 = (b bundle : List ℕ) → (eqb (length b) HOST-SIZE && flagsFit 
 -- contents that the check of b, and the steps over it, leave: the check's answer, and a cursor that is right for the block that it is kept for
 pub record Keeps (b q : List ℕ) : Type 0 where
   pub contents : q ≡ contentsBytes (checkOf b) (placeIn q) (cursorIn q)
-  pub cursor : badStage b (Sending (placeIn q)) ≡ false → CursorIn b (Sending (placeIn q)) (cursorIn q)
+  pub cursor : badStage b (Sending (sentAt (placeIn q))) ≡ false → CursorIn b (Sending (sentAt (placeIn q))) (cursorIn q)
 
 -- the check leaves such contents
 abbrev pub CheckKeeps : Type 0

@@ -11,6 +11,7 @@ ghost use Rattle.host_bytes.specs.Layout.{ROW-AT, ENTRY-AT, COUNT-AT, LE
 use crate::put::WORD_SIZE;
 use crate::put::put_words;
 use crate::stage::SENDING;
+use crate::stage::passed_in;
 use crate::stage::stage_in;
 use crate::stage::stage_words;
 use bundle_layout::Checked;
@@ -44,7 +45,9 @@ pub const SKIPPED_AT: usize = PASSES_AT as usize + WORD_SIZE as usize;
 
 pub const LANDED_AT: usize = SKIPPED_AT + 1;
 
-pub const HOST_SIZE: usize = LANDED_AT + 1;
+pub const PASSED_AT: usize = LANDED_AT + 1;
+
+pub const HOST_SIZE: usize = PASSED_AT + 1;
 
 // Where the parts of the contents stand: the number of the row that refuses the bundle, the entry that it names, the count, the bodies, the block that the
 // cursor is kept for, the cursor; and their length.
@@ -91,6 +94,7 @@ pub fn host_bytes(h: Host) -> [u8; HOST_SIZE]
     put_words(&mut out, FIRST_AT, &fields);
     out[SKIPPED_AT] = flag_byte(h.skipped);
     out[LANDED_AT] = flag_byte(h.landed);
+    out[PASSED_AT] = flag_byte(passed_in(stage));
     out
 }
 
@@ -109,11 +113,12 @@ fn refused_host() -> Host
     }
 }
 
-// Each flag is one that a record has: the stage, the number of an end, and the two booleans.
-fn are_flags(stage: u8, end: u32, skipped: u8, landed: u8) -> bool
-    ensures { λ r. ⌜ r ≡ areFlags stage end skipped landed ⌝ }
+// Each flag is one that a record has: the stage, the number of an end, and the three booleans.
+fn are_flags(stage: u8, end: u32, skipped: u8, landed: u8, passed: u8) -> bool
+    ensures { λ r. ⌜ r ≡ areFlags stage end skipped landed passed ⌝ }
 {
-    (stage <= 7) & (((stage != 7) | (end <= 4)) & ((skipped <= 1) & (landed <= 1)))
+    (stage <= 7)
+        & (((stage != 7) | (end <= 4)) & ((skipped <= 1) & ((landed <= 1) & (passed <= 1))))
 }
 
 // Bytes of another length, or with a flag that no record has, are read as a record that N1 refuses. What the stage has no use for is not looked at.
@@ -124,8 +129,14 @@ pub fn read_host(b: &[u8]) -> Host
     let first = words::word32_at(b, FIRST_AT);
     let skipped = words::byte_at(b, SKIPPED_AT);
     let landed = words::byte_at(b, LANDED_AT);
-    if (b.len() == HOST_SIZE) & are_flags(number, first, skipped, landed) {
-        let stage = stage_in(number, first, words::word32_at(b, SECOND_AT));
+    let passed = words::byte_at(b, PASSED_AT);
+    if (b.len() == HOST_SIZE) & are_flags(number, first, skipped, landed, passed) {
+        let stage = stage_in(
+            number,
+            first,
+            words::word32_at(b, SECOND_AT),
+            passed == 1,
+        );
         Host {
             token: words::byte_at(b, TOKEN_AT),
             stage,

@@ -1,6 +1,7 @@
 // What the host awaits as a number and two words, zero where the stage has none: the entry and its BUSY replies, the entry and the block, or the end.
 ghost use mathlib.Core.Path.{_≡_};
-ghost use Rattle.host_bytes.specs.Layout.{stageWords, endIn, stageIn};
+ghost use Rattle.host_bytes.specs.Layout.{stageWords, passedIn, endIn, stageIn};
+use host_record::record::Awaited;
 use host_record::record::End;
 use host_record::record::HostStage;
 use host_record::record::Place;
@@ -46,10 +47,10 @@ pub(crate) fn stage_words(stage: HostStage) -> StageWords
             first: t.entry,
             second: t.busy,
         },
-        HostStage::Sending(p) => StageWords {
+        HostStage::Sending(a) => StageWords {
             number: SENDING,
-            first: p.entry,
-            second: p.block,
+            first: a.place.entry,
+            second: a.place.block,
         },
         HostStage::Closing => StageWords {
             number: 6,
@@ -61,6 +62,22 @@ pub(crate) fn stage_words(stage: HostStage) -> StageWords
             first: e.number() as u32,
             second: e.status() as u32,
         },
+    }
+}
+
+// A reply was passed over while a block's is awaited; never in another stage.
+pub(crate) fn passed_in(stage: HostStage) -> bool
+    ensures { λ r. ⌜ r ≡ passedIn stage ⌝ }
+{
+    match stage {
+        HostStage::Fresh => false,
+        HostStage::Opening => false,
+        HostStage::Listing => false,
+        HostStage::Offering(_) => false,
+        HostStage::Waiting(_) => false,
+        HostStage::Sending(a) => a.passed,
+        HostStage::Closing => false,
+        HostStage::Ended(_) => false,
     }
 }
 
@@ -76,8 +93,8 @@ fn end_in(number: u32, status: u32) -> End
     }
 }
 
-pub(crate) fn stage_in(stage: u8, first: u32, second: u32) -> HostStage
-    ensures { λ r. ⌜ r ≡ stageIn stage first second ⌝ }
+pub(crate) fn stage_in(stage: u8, first: u32, second: u32, passed: bool) -> HostStage
+    ensures { λ r. ⌜ r ≡ stageIn stage first second passed ⌝ }
 {
     match stage {
         1 => HostStage::Opening,
@@ -90,10 +107,13 @@ pub(crate) fn stage_in(stage: u8, first: u32, second: u32) -> HostStage
             entry: first,
             busy: second,
         }),
-        5 => HostStage::Sending(Place {
-            entry: first,
-            block: second,
-        }),
+        5 => {
+            let place = Place {
+                entry: first,
+                block: second,
+            };
+            HostStage::Sending(Awaited { place, passed })
+        }
         6 => HostStage::Closing,
         7 => {
             let e = end_in(first, second);

@@ -1,23 +1,25 @@
--- What the host decides on a reply (document 01, "The host"): the table of rows by stage and reply, the ends H1 to H4, the replay rule. No byte of a
--- bundle is looked at: only how many offers it has, and whether the block in hand is the last of its body.
-use Prim.Native.Nat.{ℕ, _+_}
+-- What the host decides on a reply (document 01, "The host"; document 02, A4): the table of rows by stage and reply, the ends H1 to H4, the replay rule, the
+-- copy of a reply that is passed over. No byte of a bundle is looked at: only how many offers it has, and whether the block in hand is the last of its body.
+use Prim.Native.Nat.{ℕ, _+_, _-_}
 use mathlib.Core.Path.{_≡_}
 use mathlib.Core.Bool.{Bool, true, false, not, cond, _&&_, _||_}
 use mathlib.Core.List.{List}
-use lib.Dec.{ltb, eqb}
+use lib.Dec.{ltb, leb, eqb}
 use lib.ListN.{length}
 use Rattle.wire.specs.Codes.{INFO-START-ENTIRE-TRANSACTION, INFO-START-OFFER-LIST, INFO-END-OFFER-LIST, OFFER-SKIP, SUCCESS, SHORT-SIZE}
 use Rattle.wire_offer.specs.Reply as offerReply
 use Rattle.wire_content.specs.Reply as contentReply
+use Rattle.wire_content.specs.declared.reply.ContentReply.{ContentReply}
 use Rattle.host_table.specs.Table.{LIST, OFFER, SEND, NEXT-OFFER, WAIT, SAME, DECIDE, OPENING, LISTING, OFFERING, WAITING, CLOSING, cell}
 use Rattle.host_record.specs.declared.record.Host.{Host}
 use Rattle.host_record.specs.declared.record.Turn.{Turn}
 use Rattle.host_record.specs.declared.record.Place.{Place}
+use Rattle.host_record.specs.declared.record.Awaited.{Awaited}
 use Rattle.host_record.specs.declared.record.HostStage.{HostStage}
 use Rattle.host_record.specs.declared.record.HostStage.the-variants.{Fresh, Opening, Listing, Offering, Waiting, Sending, Closing, Ended}
 use Rattle.host_record.specs.declared.record.End.{End}
 use Rattle.host_record.specs.declared.record.End.the-variants.{Done, Status, Foreign, Unexpected, Busy}
-use Rattle.host_record.specs.Record.{withBit, sequenceOf}
+use Rattle.host_record.specs.Record.{sentAt, passedAt, withBit, sequenceOf}
 use Rattle.host_record.specs.Fits.{BUSY-LIMIT, recordBreaks, lastOf, inHand}
 use Rattle.host_decide.specs.declared.Action.{Action}
 use Rattle.host_decide.specs.declared.Action.the-variants.{Nothing, Information, Notify, Offer, Block}
@@ -104,12 +106,16 @@ completes h entry = record {
 abbrev pub replays : ℕ → Host → Bool
 replays n h = (h .skipped && h .landed) && ltb (h .passes) n
 
+-- a block is sent, and its reply awaited
+abbrev pub sendBlock : Place → Host → Move
+sendBlock p h = sends h (Sending (sentAt p)) (Block p)
+
 -- what a step code does, with the offer in hand and the status of its reply
 unfoldable pub act : (code n : ℕ) → Turn → (status : ℕ) → Host → Move
 act code n t status h =
     cond (eqb code LIST) (list h)
     (cond (eqb code OFFER) (offerFrom n 0 h)
-    (cond (eqb code SEND) (sends h (Sending (record { entry = t .entry; block = 0 })) (Block (record { entry = t .entry; block = 0 })))
+    (cond (eqb code SEND) (sendBlock (record { entry = t .entry; block = 0 }) h)
     (cond (eqb code NEXT-OFFER) (offerFrom n (t .entry + 1) (noted h status))
     (cond (eqb code WAIT) (cond (ltb (t .busy) BUSY-LIMIT) (sends h (Waiting (record { entry = t .entry; busy = t .busy + 1 })) Notify) (ends h Busy))
     (cond (eqb code SAME) (sends h (Offering t) (Offer (t .entry)))
@@ -130,21 +136,31 @@ hears row n t h reply =
     cond (foreignOffer h reply) (ends h Foreign)
     (act (cell row (offerReply.replyIn reply .status)) n t (offerReply.replyIn reply .status) h)
 
--- H2 for a reply to a block: not 16 bytes, or not our sequence
-abbrev pub foreignContent : Place → List ℕ → Bool
-foreignContent p reply = not (eqb (length reply) SHORT-SIZE) || not (eqb (contentReply.replyIn reply .sequence) (sequenceOf (p .block)))
+-- a reply to a block is the one just taken, once more: the first such while the next block's is awaited, with the sequence of the block before and status 0
+-- (document 02, A4)
+abbrev pub repeatsTaken : Awaited → ContentReply → Bool
+repeatsTaken a r =
+    (leb 1 (a .place .block) && not (a .passed)) && (eqb (r .sequence) (sequenceOf (a .place .block - 1)) && eqb (r .status) SUCCESS)
+
+-- it is passed over: nothing is sent, and nothing changes but that one was passed over
+abbrev pub passOver : Place → Host → Move
+passOver p h = record { action = Nothing; host = at h (Sending (passedAt p)) }
 
 -- after a block is taken: the next one, or the offer is completed and the next offer is due
 abbrev pub goesOn : (n : ℕ) → Bool → Place → Host → Move
 goesOn n true p h = offerFrom n (p .entry + 1) (completes h (p .entry))
-goesOn n false p h =
-    sends h (Sending (record { entry = p .entry; block = p .block + 1 })) (Block (record { entry = p .entry; block = p .block + 1 }))
+goesOn n false p h = sendBlock (record { entry = p .entry; block = p .block + 1 }) h
 
--- on a reply to a block: H2 first, then H1
-unfoldable pub hearsBlock : (n : ℕ) → (last : Bool) → Place → Host → (reply : List ℕ) → Move
-hearsBlock n last p h reply =
-    cond (foreignContent p reply) (ends h Foreign)
-    (cond (eqb (contentReply.replyIn reply .status) SUCCESS) (goesOn n last p h) (ends h (Status (contentReply.replyIn reply .status))))
+-- on a reply to a block that is 16 bytes long: the reply just taken once more, H2 by its sequence, H1
+abbrev pub hearsReply : (n : ℕ) → (last : Bool) → Awaited → Host → ContentReply → Move
+hearsReply n last a h r =
+    cond (repeatsTaken a r) (passOver (a .place) h)
+    (cond (not (eqb (r .sequence) (sequenceOf (a .place .block)))) (ends h Foreign)
+    (cond (eqb (r .status) SUCCESS) (goesOn n last (a .place) h) (ends h (Status (r .status)))))
+
+-- on a reply to a block: H2 by its length first
+unfoldable pub hearsBlock : (n : ℕ) → (last : Bool) → Awaited → Host → (reply : List ℕ) → Move
+hearsBlock n last a h reply = cond (not (eqb (length reply) SHORT-SIZE)) (ends h Foreign) (hearsReply n last a h (contentReply.replyIn reply))
 
 -- what the host does, by its stage; a fresh host and an ended one await no reply
 unfoldable pub decideIn : HostStage → (n : ℕ) → (last : Bool) → Host → (reply : List ℕ) → Move
@@ -153,7 +169,7 @@ decideIn Opening n last h reply = hears OPENING n noTurn h reply
 decideIn Listing n last h reply = hears LISTING n noTurn h reply
 decideIn (Offering t) n last h reply = hears OFFERING n t h reply
 decideIn (Waiting t) n last h reply = hears WAITING n t h reply
-decideIn (Sending p) n last h reply = hearsBlock n last p h reply
+decideIn (Sending a) n last h reply = hearsBlock n last a h reply
 decideIn Closing n last h reply = hears CLOSING n noTurn h reply
 decideIn (Ended e) n last h reply = record { action = Nothing; host = h }
 

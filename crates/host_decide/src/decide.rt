@@ -1,5 +1,5 @@
-// What the host decides on a reply (document 01, "The host"): the table of rows by stage and reply, the ends H1 to H4, the replay rule. No byte of a
-// bundle is looked at.
+// What the host decides on a reply (document 01, "The host"; document 02, A4): the table of rows by stage and reply, the ends H1 to H4, the replay rule, the
+// copy of a reply that is passed over. No byte of a bundle is looked at.
 ghost use mathlib.Core.Path.{_≡_};
 ghost use Prim.Native.Nat.{_<_};
 ghost use Rattle.host_record.specs.Record.{withBit};
@@ -8,6 +8,7 @@ ghost use Rattle.host_record.specs.Spare.{Spare, SpareIn, SpareCounts};
 use crate::Action;
 use crate::Move;
 use host_record::fits::BUSY_LIMIT;
+use host_record::record::Awaited;
 use host_record::record::End;
 use host_record::record::Host;
 use host_record::record::HostStage;
@@ -17,6 +18,7 @@ use host_record::record::sequence;
 use host_table::code_for;
 use wire::codes;
 use wire::codes::SHORT_SIZE;
+use wire_content::reply::ContentReply;
 use wire_content::reply::read_content_reply;
 use wire_offer::reply::read_offer_reply;
 
@@ -99,9 +101,35 @@ fn offer_from(n: u32, entry: u32, h: Host) -> Move
 // A block is sent, and its reply awaited.
 fn send_block(p: Place, h: Host) -> Move
     requires { ⌜ Spare (h .packets) ⌝ }
-    ensures { λ r. ⌜ r ≡ decided.sends h (HostStage.Sending p) (Action.Block p) ⌝ }
+    ensures { λ r. ⌜ r ≡ decided.sendBlock p h ⌝ }
 {
-    sends(h, HostStage::Sending(p), Action::Block(p))
+    let sent = Awaited {
+        place: p,
+        passed: false,
+    };
+    sends(h, HostStage::Sending(sent), Action::Block(p))
+}
+
+// A reply is passed over: nothing is sent, and nothing changes but that one was passed over.
+fn pass_over(p: Place, h: Host) -> Move
+    ensures { λ r. ⌜ r ≡ decided.passOver p h ⌝ }
+{
+    let passed = Awaited {
+        place: p,
+        passed: true,
+    };
+    Move {
+        action: Action::Nothing,
+        host: Host {
+            token: h.token,
+            stage: HostStage::Sending(passed),
+            mask: h.mask,
+            packets: h.packets,
+            passes: h.passes,
+            skipped: h.skipped,
+            landed: h.landed,
+        },
+    }
 }
 
 // Whether this pass had a SKIP, this status included.
@@ -216,24 +244,46 @@ fn goes_on(n: u32, last: bool, p: Place, h: Host) -> Move
     }
 }
 
-// On a reply to a block: H2 first, then H1.
-fn hears_block(n: u32, last: bool, p: Place, h: Host, reply: &[u8]) -> Move
-    requires { ⌜ SpareCounts h × (p .entry < 32) × Spare (p .block) ⌝ }
-    ensures { λ r. ⌜ r ≡ decided.hearsBlock n last p h (now (reply .entry)) ⌝ }
+// The reply just taken, once more: the first such while the next block's is awaited.
+fn repeats_taken(a: Awaited, r: ContentReply) -> bool
+    ensures { λ x. ⌜ x ≡ decided.repeatsTaken a r ⌝ }
+{
+    let block = a.place.block;
+    if block == 0 {
+        return false;
+    }
+    !a.passed & ((r.sequence == sequence(block - 1)) & (r.status == codes::SUCCESS))
+}
+
+// On a reply to a block that is 16 bytes long: the reply just taken once more, H2 by its sequence, H1.
+fn hears_reply(n: u32, last: bool, a: Awaited, h: Host, r: ContentReply) -> Move
+    requires { ⌜ SpareCounts h × (a .place .entry < 32) × Spare (a .place .block) ⌝ }
+    ensures { λ x. ⌜ x ≡ decided.hearsReply n last a h r ⌝ }
+{
+    let p = a.place;
+    if repeats_taken(a, r) {
+        return pass_over(p, h);
+    }
+    if r.sequence != sequence(p.block) {
+        return ends(h, End::Foreign);
+    }
+    if r.status == codes::SUCCESS {
+        return goes_on(n, last, p, h);
+    }
+    ends(h, End::Status(r.status))
+}
+
+// On a reply to a block: H2 by its length first.
+fn hears_block(n: u32, last: bool, a: Awaited, h: Host, reply: &[u8]) -> Move
+    requires { ⌜ SpareCounts h × (a .place .entry < 32) × Spare (a .place .block) ⌝ }
+    ensures { λ r. ⌜ r ≡ decided.hearsBlock n last a h (now (reply .entry)) ⌝ }
 {
     if reply.len() != REPLY {
         return ends(h, End::Foreign);
     }
     let read = read_content_reply(reply);
     let answer = read.reply;
-    let status = answer.status;
-    if answer.sequence != sequence(p.block) {
-        return ends(h, End::Foreign);
-    }
-    if status == codes::SUCCESS {
-        return goes_on(n, last, p, h);
-    }
-    ends(h, End::Status(status))
+    hears_reply(n, last, a, h, answer)
 }
 
 // What the host does, by its stage; a fresh host and an ended one await no reply.
@@ -253,7 +303,7 @@ pub(crate) fn decide(h: Host, n: u32, last: bool, reply: &[u8]) -> Move
         HostStage::Listing => hears(host_table::LISTING, n, none, h, reply),
         HostStage::Offering(t) => hears(host_table::OFFERING, n, t, h, reply),
         HostStage::Waiting(t) => hears(host_table::WAITING, n, t, h, reply),
-        HostStage::Sending(p) => hears_block(n, last, p, h, reply),
+        HostStage::Sending(a) => hears_block(n, last, a, h, reply),
         HostStage::Closing => hears(host_table::CLOSING, n, none, h, reply),
         HostStage::Ended(_) => Move {
             action: Action::Nothing,

@@ -36,7 +36,7 @@ stageBreaks n k Opening = false
 stageBreaks n k Listing = false
 stageBreaks n k (Offering t) = turnBreaks n t
 stageBreaks n k (Waiting t) = turnBreaks n t
-stageBreaks n k (Sending p) = placeBreaks n k p
+stageBreaks n k (Sending a) = placeBreaks n k (a .place)
 stageBreaks n k Closing = false
 stageBreaks n k (Ended e) = false
 
@@ -56,7 +56,7 @@ lastOf k Opening = false
 lastOf k Listing = false
 lastOf k (Offering t) = false
 lastOf k (Waiting t) = false
-lastOf k (Sending p) = isLastOf k p
+lastOf k (Sending a) = isLastOf k (a .place)
 lastOf k Closing = false
 lastOf k (Ended e) = false
 
@@ -85,6 +85,6 @@ inHand Opening = 0
 inHand Listing = 0
 inHand (Offering t) = t .entry
 inHand (Waiting t) = t .entry
-inHand (Sending p) = p .entry
+inHand (Sending a) = a .place .entry
 inHand Closing = 0
 inHand (Ended e) = 0

@@ -4,6 +4,8 @@ use mathlib.Core.Bool.{Bool, true, false, cond}
 use lib.Dec.{eqb}
 use lib.Count.{ones}
 use Rattle.host_record.specs.declared.record.Host.{Host}
+use Rattle.host_record.specs.declared.record.Place.{Place}
+use Rattle.host_record.specs.declared.record.Awaited.{Awaited}
 use Rattle.host_record.specs.declared.record.HostStage.{HostStage}
 use Rattle.host_record.specs.declared.record.HostStage.the-variants.{Fresh, Opening, Listing, Offering, Waiting, Sending, Closing, Ended}
 use Rattle.host_record.specs.declared.record.End.{End}
@@ -26,7 +28,7 @@ FitsHostStage Opening = Unit {0}
 FitsHostStage Listing = Unit {0}
 FitsHostStage (Offering t) = (t .entry < 256 ^ 4) × (t .busy < 256 ^ 4)
 FitsHostStage (Waiting t) = (t .entry < 256 ^ 4) × (t .busy < 256 ^ 4)
-FitsHostStage (Sending p) = (p .entry < 256 ^ 4) × (p .block < 256 ^ 4)
+FitsHostStage (Sending a) = (a .place .entry < 256 ^ 4) × (a .place .block < 256 ^ 4)
 FitsHostStage Closing = Unit {0}
 FitsHostStage (Ended e) = FitsEnd e
 
@@ -36,6 +38,14 @@ pub record FitsHost (h : Host) : Type 0 where
   pub mask : h .mask < 256 ^ 4
   pub packets : h .packets < 256 ^ 4
   pub passes : h .passes < 256 ^ 4
+
+-- a block that was just sent: no reply was passed over yet (document 02, A4)
+abbrev pub sentAt : Place → Awaited
+sentAt p = record { place = p; passed = false }
+
+-- a reply was passed over while its own is awaited
+abbrev pub passedAt : Place → Awaited
+passedAt p = record { place = p; passed = true }
 
 -- a host that has sent nothing
 abbrev pub freshHost : ℕ → Host
@@ -92,7 +102,7 @@ endingIn Opening = running
 endingIn Listing = running
 endingIn (Offering t) = running
 endingIn (Waiting t) = running
-endingIn (Sending p) = running
+endingIn (Sending a) = running
 endingIn Closing = running
 endingIn (Ended e) = endingOf e
 
@@ -106,7 +116,7 @@ hasEnded Opening = false
 hasEnded Listing = false
 hasEnded (Offering t) = false
 hasEnded (Waiting t) = false
-hasEnded (Sending p) = false
+hasEnded (Sending a) = false
 hasEnded Closing = false
 hasEnded (Ended e) = true
 

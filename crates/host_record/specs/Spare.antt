@@ -16,7 +16,7 @@ SpareIn Opening = Unit {0}
 SpareIn Listing = Unit {0}
 SpareIn (Offering t) = Spare (t .entry)
 SpareIn (Waiting t) = Spare (t .entry)
-SpareIn (Sending p) = (p .entry < 32) × Spare (p .block)
+SpareIn (Sending a) = (a .place .entry < 32) × Spare (a .place .block)
 SpareIn Closing = Unit {0}
 SpareIn (Ended e) = Unit {0}
 

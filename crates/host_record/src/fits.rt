@@ -71,7 +71,10 @@ fn stage_breaks(n: u8, k: u32, stage: HostStage) -> bool
         HostStage::Listing => false,
         HostStage::Offering(t) => turn_breaks(n, t),
         HostStage::Waiting(t) => turn_breaks(n, t),
-        HostStage::Sending(p) => place_breaks(n, k, p),
+        HostStage::Sending(a) => {
+            let p = a.place;
+            place_breaks(n, k, p)
+        }
         HostStage::Closing => false,
         HostStage::Ended(_) => false,
     }
@@ -114,7 +117,10 @@ pub fn last_in(k: u32, stage: HostStage) -> bool
         HostStage::Listing => false,
         HostStage::Offering(_) => false,
         HostStage::Waiting(_) => false,
-        HostStage::Sending(p) => is_last(k, p),
+        HostStage::Sending(a) => {
+            let p = a.place;
+            is_last(k, p)
+        }
         HostStage::Closing => false,
         HostStage::Ended(_) => false,
     }
@@ -130,7 +136,7 @@ pub fn in_hand(stage: HostStage) -> u32
         HostStage::Listing => 0,
         HostStage::Offering(t) => t.entry,
         HostStage::Waiting(t) => t.entry,
-        HostStage::Sending(p) => p.entry,
+        HostStage::Sending(a) => a.place.entry,
         HostStage::Closing => 0,
         HostStage::Ended(_) => 0,
     }

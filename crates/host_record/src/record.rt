@@ -13,10 +13,16 @@ pub struct Turn {
     pub busy: u32,
 }
 
-// The block whose reply is awaited.
+// A block: its entry, and its number in the entry's body.
 pub struct Place {
     pub entry: u32,
     pub block: u32,
+}
+
+// The block whose reply is awaited, and whether a copy of the reply before it was passed over meanwhile (document 02, A4).
+pub struct Awaited {
+    pub place: Place,
+    pub passed: bool,
 }
 
 // How a session ends.
@@ -73,7 +79,7 @@ pub enum HostStage {
     // The reply to notify on ready.
     Waiting(Turn),
     // The reply to a block.
-    Sending(Place),
+    Sending(Awaited),
     // The reply to code 2.
     Closing,
     Ended(End),

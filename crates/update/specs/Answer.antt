@@ -12,7 +12,7 @@ use Rattle.host_record.specs.Record.{freshHost, Reported, reportOf, toldReport}
 use Rattle.update.specs.declared.RunRefusal.{RunRefusal}
 use Rattle.update.specs.declared.RunRefusal.the-variants as refusal
 use Rattle.update.specs.declared.RunAnswer.{RunAnswer}
-use Rattle.update.specs.Run.{System, lastOf}
+use Rattle.update.specs.Run.{System, once, lastOf}
 
 -- the rows of document 01 that a run gives out
 pub data Row : Type 0 where
@@ -65,7 +65,7 @@ abbrev pub deviceRow : Device → (staging : List ℕ) → Row
 deviceRow d staging = firstOf ((breaksD1 d, D 1) ∷ (not (eqb (length staging) (d .«staging_len»)), D 2) ∷ []) served
 
 abbrev pub ranBy : Row → (b : List ℕ) → (token : ℕ) → Device → (staging : List ℕ) → Ran
-ranBy served b token d staging = ended (lastOf b token d staging [])
+ranBy served b token d staging = ended (lastOf b once token d staging [])
 ranBy (B k entry) b token d staging = refusedBy (B k entry) token d staging
 ranBy (D k) b token d staging = refusedBy (D k) token d staging
 

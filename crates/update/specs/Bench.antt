@@ -21,7 +21,7 @@ use Rattle.device_session.specs.declared.stage.Stage.the-variants.{Idle}
 use Rattle.host_record.specs.declared.record.HostStage.the-variants.{Ended}
 use Rattle.host_record.specs.declared.record.End.the-variants.{Done}
 use Rattle.update.specs.Trace.{Exchange, passesIn}
-use Rattle.update.specs.Run.{System, lastOf}
+use Rattle.update.specs.Run.{System, once, lastOf}
 use Rattle.update.specs.Demand.{Premise}
 
 -- bytes that depend on their place: (37 i + 11) mod 256 at byte i
@@ -74,7 +74,7 @@ said x =
 
 -- the bench device with a staging buffer of zeros, and a host with token 0xA5
 abbrev pub comesTo : List ℕ → System
-comesTo b = lastOf b 0xA5 (bench Idle) (replicate 128 0) []
+comesTo b = lastOf b once 0xA5 (bench Idle) (replicate 128 0) []
 
 -- what both orders leave: both components pending with their new versions, and the two images side by side
 abbrev pub updated : Device

@@ -1,12 +1,16 @@
--- Two more runs that meet demand 3's premise: a chain of seven needs, which reaches both bounds, and one with an open session that owes a READY, a
--- component pending at the start, a need cycle and an offer for a component that the device has not.
-use Prim.Native.Nat.{ℕ, _+_, _*_, _-_}
+-- More runs that meet demand 3's premise: a chain of seven needs, which reaches both bounds; one with an open session that owes a READY, a component pending at
+-- the start, a need cycle and an offer for a component that the device has not; and runs in which blocks arrive twice (document 02, A4). And a host that takes as
+-- many steps as any may.
+use Prim.Native.Nat.{ℕ, zero, suc, _+_, _*_, _-_}
 use mathlib.Core.Path.{_≡_}
 use mathlib.Core.Bool.{true, false}
 use mathlib.Core.List.{List, [], _∷_, _++_, map}
-use lib.ListN.{length, take, drop, replicate}
-use Rattle.wire.specs.Codes.{COMPONENT-LIMIT, OFFER-SKIP, OFFER-ACCEPT, OFFER-REJECT, REJECT-INV-COMPONENT, REJECT-SWAP-PENDING, SUCCESS}
+use lib.ListN.{length, getD, take, drop, replicate}
+use Rattle.wire.specs.Codes.{COMPONENT-LIMIT, OFFER-SKIP, OFFER-ACCEPT, OFFER-REJECT, OFFER-BUSY, OFFER-READY, REJECT-INV-COMPONENT, REJECT-SWAP-PENDING, SUCCESS}
 use Rattle.wire.specs.Version.{versionBytes, versionOf}
+use Rattle.wire_offer.specs.Reply as offerReply
+use Rattle.wire_content.specs.Reply as contentReply
+use Rattle.bundle_records.specs.Record.{Block}
 use Rattle.device_component.specs.Record.{isPending, withStaged, blankComponent}
 use Rattle.device_component.specs.declared.record.Component.{Component}
 use Rattle.device_component.specs.declared.record.Staged.the-variants as staged
@@ -16,10 +20,12 @@ use Rattle.device.specs.declared.record.Device.{Device}
 use Rattle.device_session.specs.Effect.{idle}
 use Rattle.device_session.specs.declared.stage.Stage.the-variants.{Receiving}
 use Rattle.device_session.specs.declared.owed.Owed.the-variants as owed
+use Rattle.host_record.specs.Record.{hasEnded}
 use Rattle.host_record.specs.declared.record.HostStage.the-variants.{Ended}
 use Rattle.host_record.specs.declared.record.End.the-variants.{Done}
 use Rattle.update.specs.Trace.{passesIn}
-use Rattle.update.specs.Run.{System, recordsIn, lastOf}
+use Rattle.update.specs.Run.{System, Schedule, once, recordsIn, boundOf, run, start, lastOf}
+use Rattle.update.specs.Ends.{hostSteps}
 use Rattle.update.specs.Demand.{Premise}
 use Rattle.update.specs.Bench.{placed, withCrc, code, offered, block, said}
 
@@ -62,7 +68,7 @@ chain = bundleBytes (needing 1 2 ∷ needing 2 3 ∷ needing 3 4 ∷ needing 4 5
 
 -- a run from a device and a staging buffer of zeros, with token 7
 abbrev pub comes : List ℕ → Device → System
-comes b d = lastOf b 7 d (replicate (d .«staging_len») 0) []
+comes b d = lastOf b once 7 d (replicate (d .«staging_len») 0) []
 
 -- it is done after 7 passes and 1 + n(n + 2) + r = 78 packets: both bounds are reached
 pub record ChainReaches : Type 0 where
@@ -79,7 +85,7 @@ mixed = record {
   «staging_len» = 64;
   count = 4;
   components = at100 1 ∷ withStaged (at100 2) (versionOf 1 1 0) ∷ at100 3 ∷ at100 4 ∷ replicate (COMPONENT-LIMIT - 4) blankComponent;
-  session = record { stage = Receiving (record { slot = 0; token = 3; next = 5 }); owed = owed.Token 9 };
+  session = record { stage = Receiving (record { slot = 0; token = 3; next = 5 }); owed = owed.Token 9; previous = 0 ∷ 1 ∷ 4 ∷ replicate 57 0 };
 }
 
 abbrev pub mixedBundle : List ℕ
@@ -114,3 +120,55 @@ pub record CycleStops : Type 0 where
   pub done : comes cycle seven .host .stage ≡ Ended Done
   pub passes : passesIn (comes cycle seven .trace) ≡ 1
   pub packets : length (comes cycle seven .trace) ≡ 5
+
+-- the image of component 1 in four records of 4 bytes: two blocks that are neither first nor last
+abbrev pub fourth : (k : ℕ) → Block
+fourth k = record { address = record { 0 = 4 * k }; bytes = take 4 (drop (4 * k) (image16 1)) }
+
+abbrev pub quartered : List ℕ
+quartered = bundleBytes (record { offer = alone 1 .offer; blocks = fourth 0 ∷ fourth 1 ∷ fourth 2 ∷ fourth 3 ∷ [] } ∷ [])
+
+-- its run, with blocks that arrive twice
+abbrev pub comesTwice : Schedule → System
+comesTwice twice = lastOf quartered twice 7 seven (replicate 112 0) []
+
+-- every block that may arrive twice does, and none: the same list, counts, device and bytes, in 8 packets and 1 pass; the copies take two steps of the host more
+pub record DoubledRuns : Type 0 where
+  pub premise : Premise quartered 7 seven (replicate 112 0)
+  pub says : map said (comesTwice (λ j. true) .trace)
+      ≡ code 0 ∷ code 1 ∷ offered 1 OFFER-ACCEPT 0 ∷ block SUCCESS ∷ block SUCCESS ∷ block SUCCESS ∷ block SUCCESS ∷ code 2 ∷ []
+  pub same : comesTwice (λ j. true) ≡ comesTwice once
+  pub counts : (comesTwice (λ j. true) .host .packets ≡ 8) × (comesTwice (λ j. true) .host .passes ≡ 1)
+  pub steps : (hasEnded (run quartered once 8 (start 7 seven (replicate 112 0) []) .host .stage) ≡ false)
+      × (run quartered once 9 (start 7 seven (replicate 112 0) []) .host .stage ≡ Ended Done)
+      × (hasEnded (run quartered (λ j. true) 10 (start 7 seven (replicate 112 0) []) .host .stage) ≡ false)
+      × (run quartered (λ j. true) 11 (start 7 seven (replicate 112 0) []) .host .stage ≡ Ended Done)
+
+-- one offer with a body of three records
+abbrev pub inThree : List ℕ
+inThree = bundleBytes (record { offer = alone 1 .offer; blocks = fourth 0 ∷ fourth 1 ∷ fourth 2 ∷ [] } ∷ [])
+
+-- replies to a host with token 7
+abbrev pub status : ℕ → List ℕ
+status s = offerReply.replyBytes (record { token = 7; reason = 0; status = s })
+
+abbrev pub took : (sequence : ℕ) → List ℕ
+took sequence = contentReply.replyBytes (record { sequence = sequence; status = SUCCESS })
+
+-- so often BUSY to the offer, and READY
+abbrev pub busy : ℕ → List (List ℕ) → List (List ℕ)
+busy zero rest = rest
+busy (suc n) rest = status OFFER-BUSY ∷ status OFFER-READY ∷ busy n rest
+
+-- what a host is handed that takes as many steps as any may: eight BUSY, and before the reply to each block but the first a copy of the one before it
+abbrev pub longest : ℕ → List ℕ
+longest k =
+    getD ([] ∷ status OFFER-ACCEPT ∷ status OFFER-ACCEPT
+    ∷ busy 8 (status OFFER-ACCEPT ∷ took 0 ∷ took 0 ∷ took 1 ∷ took 1 ∷ took 2 ∷ status OFFER-ACCEPT ∷ [])) k []
+
+-- 2 + n(16 n + 2 + 2 r) = 26 steps, and none fewer
+pub record BoundReached : Type 0 where
+  pub bound : boundOf inThree ≡ 26
+  pub runs : hasEnded (hostSteps inThree 7 longest 25 .host .stage) ≡ false
+  pub done : hostSteps inThree 7 longest 26 .host .stage ≡ Ended Done
+  pub packets : hostSteps inThree 7 longest 26 .host .packets ≡ 23

@@ -1,7 +1,7 @@
--- Demand 3, a single claim about a whole run (document 00, question 3; document 01, "The host").
+-- Demand 3, a single claim about a whole run (document 00, question 3; document 01, "The host"; document 02, A4).
 use Prim.Native.Nat.{ℕ, _+_, _*_, _≤_, _<_}
 use mathlib.Core.Path.{_≡_}
-use mathlib.Core.Logic.{_↔_}
+use mathlib.Core.Logic.{_⊎_, _↔_}
 use mathlib.Core.Bool.{true, false}
 use mathlib.Core.List.{List, [], _∷_}
 use lib.Dec.{T}
@@ -15,16 +15,17 @@ use Rattle.device.specs.Record.{FitsDevice, find, component}
 use Rattle.device.specs.Refusals as deviceRows
 use Rattle.device.specs.declared.record.Device.{Device}
 use Rattle.host_record.specs.Record as ending
-use Rattle.host_record.specs.Record.{reportOf}
+use Rattle.host_record.specs.Record.{hasEnded, reportOf}
+use Rattle.host_packet.specs.Answer.{Step}
 use Rattle.host.specs.Step as hostStep
 use Rattle.host.specs.Step.{entryAt, blocksAt}
 use Rattle.host_record.specs.declared.record.HostStage.the-variants.{Ended}
 use Rattle.host_record.specs.declared.record.End.the-variants.{Done}
 use Rattle.update.specs.Trace.{passesIn, completedIn}
-use Rattle.update.specs.Run.{System, answerTo, run, start, recordsIn, lastOf}
+use Rattle.update.specs.Run.{System, Schedule, once, isMiddle, answerTo, leftBy, heard, run, start, recordsIn, lastOf}
 use Rattle.update.specs.Answer as answer
 use Rattle.update.specs.Answer.{Ran, ended}
-use Rattle.update.specs.Ends.{Counted, completedOf}
+use Rattle.update.specs.Ends.{Counted, completedOf, PassedOver}
 use Rattle.update_passes.specs.Sets.{Set}
 use Rattle.update.specs.Claim.{offerAt, Good, Smallest, Leaves, Fills}
 
@@ -48,11 +49,24 @@ pub record Premise (b : List ℕ) (token : ℕ) (d : Device) (staging : List ℕ
 abbrev pub stagedIn : (b : List ℕ) → System → Set
 stagedIn b s i = completedIn 0 (s .trace) (idIn (entryAt b i))
 
--- one turn in which no call is refused, and what is sent gets exactly one reply
+-- a packet that arrives once more, at the device and the staging buffer that its first arrival left: the same row and the same replies, and nothing changes
+pub record Repeats (p : List ℕ) (d : Device) (staging : List ℕ) : Type 0 where
+  pub answer : answerTo p (answerTo p d staging .device) (leftBy p d staging) ≡ answerTo p d staging
+  pub bytes : leftBy p (answerTo p d staging .device) (leftBy p d staging) ≡ leftBy p d staging
+
+-- the step of the host in one turn
+abbrev pub stepIn : (b : List ℕ) → System → Step
+stepIn b s = hostStep.stepOf b (s .host) (heard (s .replies))
+
+-- one turn: no call is refused; what is sent gets exactly one reply, and so does its copy, the same, where it arrives twice; a step that sends nothing ends the
+-- host or passes over a reply
 pub record Turn (b : List ℕ) (s : System) : Type 0 where
-  pub host : hostStep.stepOf b (s .host) (s .reply) .row ≡ hostStep.served
-  pub device : (p : List ℕ) → hostStep.stepOf b (s .host) (s .reply) .sent ≡ p ∷ []
+  pub host : stepIn b s .row ≡ hostStep.served
+  pub device : (p : List ℕ) → stepIn b s .sent ≡ p ∷ []
       → (answerTo p (s .device) (s .staging) .row ≡ deviceRows.served) × (length (answerTo p (s .device) (s .staging) .sent) ≡ 1)
+  pub copy : (p : List ℕ) → stepIn b s .sent ≡ p ∷ [] → isMiddle p ≡ true → Repeats p (s .device) (s .staging)
+  pub silent : hasEnded (s .host .stage) ≡ false → stepIn b s .sent ≡ []
+      → (hasEnded (stepIn b s .host .stage) ≡ true) ⊎ PassedOver (s .host) (stepIn b s .host)
 
 -- the same offers, each with its own body, in another order
 pub record Reordered (b b′ : List ℕ) : Type 0 where
@@ -73,11 +87,12 @@ pub record Same (b b′ : List ℕ) (π : Reordered b b′) (s s′ : System) : 
   pub staging : s′ .staging ≡ s .staging
 
 -- the claim, of the run that comes to the system s
-pub record Demand (b : List ℕ) (token : ℕ) (d : Device) (staging reply : List ℕ) (s : System) : Type 0 where
-  -- the host is done, and stays so; no call is refused
+pub record Demand (b : List ℕ) (twice : Schedule) (token : ℕ) (d : Device) (staging reply : List ℕ) (s : System) : Type 0 where
+  -- the host is done, and stays so; it awaits no reply, and none is on its way; no call is refused
   pub done : s .host .stage ≡ Ended Done
-  pub stays : (m : ℕ) → run b m s ≡ s
-  pub served : (m : ℕ) → Turn b (run b m (start token d staging reply))
+  pub stays : (m : ℕ) → run b twice m s ≡ s
+  pub silence : (s .awaited ≡ []) × (s .replies ≡ [])
+  pub served : (m : ℕ) → Turn b (run b twice m (start token d staging reply))
   -- at most n passes and 1 + n(n + 2) + r packets, by the packets sent and by the report
   pub passes : passesIn (s .trace) ≤ countIn b
   pub packets : length (s .trace) ≤ 1 + countIn b * (countIn b + 2) + recordsIn b
@@ -98,17 +113,18 @@ pub record Demand (b : List ℕ) (token : ℕ) (d : Device) (staging reply : Lis
   -- the state shows the same: staged in this run means not pending before and pending after
   pub pending : (i k : ℕ) → i < countIn b → find d (offerAt b i .id) ≡ At k
       → T (stagedIn b s i) ↔ ((isPending (component d k .staged) ≡ false) × (isPending (component (s .device) k .staged) ≡ true))
-  -- another order of the same offers comes to the same
-  pub order : (b′ : List ℕ) (token′ : ℕ) (reply′ : List ℕ) → Bytes b′ → token′ < 256 → rows.bundleRow b′ ≡ rows.served
-      → (π : Reordered b b′) → Same b b′ π s (lastOf b′ token′ d staging reply′)
+  -- another order of the same offers comes to the same, whichever blocks arrive twice
+  pub order : (b′ : List ℕ) (twice′ : Schedule) (token′ : ℕ) (reply′ : List ℕ) → Bytes b′ → token′ < 256 → rows.bundleRow b′ ≡ rows.served
+      → (π : Reordered b b′) → Same b b′ π s (lastOf b′ twice′ token′ d staging reply′)
 
--- demand 3
+-- demand 3, whichever blocks that are neither first nor last arrive, and are answered, twice in a row; a copy stands in no list and counts in no bound
 abbrev pub DemandThree : Type 0
-DemandThree = (b : List ℕ) (token : ℕ) (d : Device) (staging reply : List ℕ) → Premise b token d staging
-    → Demand b token d staging reply (lastOf b token d staging reply)
+DemandThree = (b : List ℕ) (twice : Schedule) (token : ℕ) (d : Device) (staging reply : List ℕ) → Premise b token d staging
+    → Demand b twice token d staging reply (lastOf b twice token d staging reply)
 
--- demand 3 of an answer: where the bodies are good and no row refuses, it is the answer of the run, of which the whole claim holds
+-- demand 3 of an answer: where the bodies are good and no row refuses, it is the answer of the run in which each packet arrives once, of which the whole claim
+-- holds
 abbrev pub DemandOf : (b : List ℕ) → (token : ℕ) → Device → (staging : List ℕ) → Ran → Type 0
 DemandOf b token d staging ran =
     GoodBodies b d → ran .row ≡ answer.served
-    → (ran ≡ ended (lastOf b token d staging [])) × Demand b token d staging [] (lastOf b token d staging [])
+    → (ran ≡ ended (lastOf b once token d staging [])) × Demand b once token d staging [] (lastOf b once token d staging [])

@@ -1,7 +1,8 @@
--- The host always ends, against any device: the statement (document 00, question 1; document 01, "The host").
+-- The host always ends, against any device: the statement (document 00, question 1; document 01, "The host"; document 02, A4).
 use Prim.Native.Nat.{ℕ, zero, suc, _+_, _<_}
 use mathlib.Core.Path.{_≡_}
-use mathlib.Core.Bool.{true, cond}
+use mathlib.Core.Logic.{_⊎_}
+use mathlib.Core.Bool.{true, false, cond}
 use mathlib.Core.List.{List, [], _∷_, _++_}
 use lib.Count.{ones}
 use lib.ListN.{length}
@@ -17,28 +18,37 @@ use Rattle.wire_content.specs.declared.content.ContentFields.{ContentFields}
 use Rattle.bundle_layout.specs.Layout.{countIn, idIn}
 use Rattle.bundle_layout.specs.Rows as bundle
 use Rattle.device.specs.declared.record.Device.{Device}
-use Rattle.host_record.specs.Record.{freshHost, hasBit, hasEnded}
-use Rattle.host_packet.specs.Answer.{served}
+use Rattle.host_record.specs.Record.{freshHost, sentAt, passedAt, hasBit, hasEnded}
+use Rattle.host_record.specs.declared.record.Place.{Place}
+use Rattle.host_record.specs.declared.record.HostStage.the-variants.{Sending}
+use Rattle.host_decide.specs.Decide.{at}
+use Rattle.host_packet.specs.Answer.{Step, served}
 use Rattle.host.specs.Step.{entryAt, stepOf}
 use Rattle.host_record.specs.declared.record.Host.{Host}
 use Rattle.update.specs.Trace.{Exchange, passesIn, completedIn}
-use Rattle.update.specs.Run.{run, boundOf, lastOf}
+use Rattle.update.specs.Heard.{takenFor, traceAfter, awaitedAfter}
+use Rattle.update.specs.Run.{Schedule, run, boundOf, lastOf}
 
--- a host that receives any replies, with the list of what it sent: step k receives reply k, which answers what step k - 1 sent
+-- a host that is handed any replies, one at each step: its record, the packet whose reply it awaits, if any, and the list of the packets sent before it, each
+-- with the reply that it took for it, the first that it did not pass over
 pub record HostRun : Type 0 where
   pub host : Host
+  pub awaited : List (List ℕ)
   pub trace : List Exchange
 
-abbrev pub heardAs : List (List ℕ) → (reply : List ℕ) → List Exchange
-heardAs [] reply = []
-heardAs (p ∷ ps) reply = record { packet = p; reply = reply } ∷ []
-
-unfoldable pub hostSteps : (b : List ℕ) → (token : ℕ) → (replies : ℕ → List ℕ) → (steps : ℕ) → HostRun
-hostSteps b token replies zero = record { host = freshHost token; trace = [] }
-hostSteps b token replies (suc k) = record {
-  host = stepOf b (hostSteps b token replies k .host) (replies k) .host;
-  trace = hostSteps b token replies k .trace ++ heardAs (stepOf b (hostSteps b token replies k .host) (replies k) .sent) (replies (suc k));
+-- a step of it
+abbrev pub hostStepped : Step → (reply : List ℕ) → HostRun → HostRun
+hostStepped x reply r = record {
+  host = x .host;
+  awaited = awaitedAfter x (r .awaited);
+  trace = traceAfter x reply (r .awaited) (r .trace);
 }
+
+-- so many steps from a fresh record; step k is handed reply k
+unfoldable pub hostSteps : (b : List ℕ) → (token : ℕ) → (replies : ℕ → List ℕ) → (steps : ℕ) → HostRun
+hostSteps b token replies zero = record { host = freshHost token; awaited = []; trace = [] }
+hostSteps b token replies (suc k) =
+    hostStepped (stepOf b (hostSteps b token replies k .host) (replies k)) (replies k) (hostSteps b token replies k)
 
 -- a packet that a builder answers, of fields of any size
 pub data Built : List ℕ → Type 0 where
@@ -63,7 +73,7 @@ pub record Counted (b : List ℕ) (h : Host) (trace : List Exchange) : Type 0 wh
   pub passes : h .passes ≡ passesIn trace
   pub mask : Masked b (h .mask) trace
 
--- from a fresh record over an accepted bundle, whatever replies are received
+-- from a fresh record over an accepted bundle, whatever replies it is handed
 pub record Ends (b : List ℕ) (token : ℕ) (replies : ℕ → List ℕ) : Type 0 where
   -- N1 is never met
   pub served : (k : ℕ) → stepOf b (hostSteps b token replies k .host) (replies k) .row ≡ served
@@ -75,25 +85,38 @@ pub record Ends (b : List ℕ) (token : ℕ) (replies : ℕ → List ℕ) : Type
 abbrev pub HostEnds : Type 0
 HostEnds = (b : List ℕ) (token : ℕ) (replies : ℕ → List ℕ) → Bytes b → bundle.bundleRow b ≡ bundle.served → token < 256 → Ends b token replies
 
--- a run always ends, whatever the device and its staging buffer, and an ended run stays
+-- a run always ends, whatever the device, its staging buffer and the schedule, and an ended run stays
 abbrev pub RunEnds : Type 0
-RunEnds = (b : List ℕ) (token : ℕ) (d : Device) (staging reply : List ℕ) → Bytes b → bundle.bundleRow b ≡ bundle.served → token < 256
-    → (hasEnded (lastOf b token d staging reply .host .stage) ≡ true) × ((m : ℕ) → run b m (lastOf b token d staging reply) ≡ lastOf b token d staging reply)
+RunEnds = (b : List ℕ) (twice : Schedule) (token : ℕ) (d : Device) (staging reply : List ℕ) → Bytes b → bundle.bundleRow b ≡ bundle.served → token < 256
+    → (hasEnded (lastOf b twice token d staging reply .host .stage) ≡ true)
+    × ((m : ℕ) → run b twice m (lastOf b twice token d staging reply) ≡ lastOf b twice token d staging reply)
 
--- at every step the packets and passes of the record are those of the list sent
+-- at every step the packets and passes of the record are those of the list sent, the packet whose reply is awaited among them
 abbrev pub HostTallies : Type 0
-HostTallies = (b : List ℕ) (token : ℕ) (replies : ℕ → List ℕ) (k : ℕ) → Bytes b → bundle.bundleRow b ≡ bundle.served → token < 256
-    → (hostSteps b token replies k .host .packets ≡ length (hostSteps b token replies k .trace))
-    × (hostSteps b token replies k .host .passes ≡ passesIn (hostSteps b token replies k .trace))
+HostTallies = (b : List ℕ) (token : ℕ) (replies : ℕ → List ℕ) (k : ℕ) (reply : List ℕ) → Bytes b → bundle.bundleRow b ≡ bundle.served → token < 256
+    → (hostSteps b token replies k .host .packets ≡ length (hostSteps b token replies k .trace ++ takenFor (hostSteps b token replies k .awaited) reply))
+    × (hostSteps b token replies k .host .passes ≡ passesIn (hostSteps b token replies k .trace ++ takenFor (hostSteps b token replies k .awaited) reply))
 
--- after every step: the mask shows the completed offers of the list up to the reply that the step received, the packets that were sent before it with their
--- replies
+-- at every step the mask shows the completed offers of the list: the packets with the replies that were taken for them
 abbrev pub HostMasks : Type 0
 HostMasks = (b : List ℕ) (token : ℕ) (replies : ℕ → List ℕ) (k : ℕ) → Bytes b → bundle.bundleRow b ≡ bundle.served → token < 256
-    → Masked b (hostSteps b token replies (suc k) .host .mask) (hostSteps b token replies k .trace)
+    → Masked b (hostSteps b token replies k .host .mask) (hostSteps b token replies k .trace)
 
--- once it has ended, and so has received every reply of the list, all its counts are those of the list sent
+-- once it has ended it awaits no reply, and all its counts are those of the list sent
 abbrev pub HostCounts : Type 0
 HostCounts = (b : List ℕ) (token : ℕ) (replies : ℕ → List ℕ) (k : ℕ) → Bytes b → bundle.bundleRow b ≡ bundle.served → token < 256
     → hasEnded (hostSteps b token replies k .host .stage) ≡ true
-    → Counted b (hostSteps b token replies k .host) (hostSteps b token replies k .trace)
+    → (hostSteps b token replies k .awaited ≡ []) × Counted b (hostSteps b token replies k .host) (hostSteps b token replies k .trace)
+
+-- a reply that is passed over changes nothing but that one was (document 02, A4): the record before awaits a block's reply, and none was passed over yet
+pub record PassedOver (h h′ : Host) : Type 0 where
+  pub place : Place
+  pub before : h .stage ≡ Sending (sentAt place)
+  pub after : h′ ≡ at h (Sending (passedAt place))
+
+-- a step that sends nothing, of a record that has not ended, ends it or passes over the reply
+abbrev pub HostSilent : Type 0
+HostSilent = (b : List ℕ) (token : ℕ) (replies : ℕ → List ℕ) (k : ℕ) → Bytes b → bundle.bundleRow b ≡ bundle.served → token < 256
+    → hasEnded (hostSteps b token replies k .host .stage) ≡ false → stepOf b (hostSteps b token replies k .host) (replies k) .sent ≡ []
+    → (hasEnded (hostSteps b token replies (suc k) .host .stage) ≡ true)
+    ⊎ PassedOver (hostSteps b token replies k .host) (hostSteps b token replies (suc k) .host)

@@ -1,4 +1,5 @@
 pub mod Trace
+pub mod Heard
 pub mod Run
 pub mod Turn
 pub mod Answer

@@ -1,4 +1,4 @@
--- What a list of packets sent, each with the reply that was received, shows by itself: its passes, and the offers that were completed. No host and no
+-- What a list of packets sent, each with the reply that was taken for it, shows by itself: its passes, and the offers that were completed. No host and no
 -- device is named here (document 01, "The host": the report).
 use Prim.Native.Nat.{ℕ, zero, suc, _/_, _%_}
 use mathlib.Core.Bool.{Bool, false, cond, _&&_, _||_}

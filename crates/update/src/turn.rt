@@ -31,7 +31,7 @@ use wire::codes::SHORT_SIZE;
 pub struct BothEnds {
     pub host: Host,
     pub device: Device,
-    // What the device sent last.
+    // What the device sent last, on its way to the host.
     pub replies: Replies,
     // The place of the record after the one that the host has in hand.
     pub cursor: usize,
@@ -60,7 +60,7 @@ fn heard(due: bool) -> usize
     if due { SHORT_SIZE } else { 0 }
 }
 
-// What the host sent is answered; where it sent nothing, the device and its last replies stay.
+// What the host sent is answered; where it sent nothing, the device stays, and no reply is on its way.
 fn deliver(sent: Sent, packet: &[u8], e: BothEnds, staging: &mut [u8]) -> Answer
     requires { ⌜ length (now packet) ≡ PACKET-SIZE ⌝ }
     ensures { λ r. ⌜ Delivered (sentBy sent (now (packet .entry))) e (now (staging .entry)) r (now (staging .exit)) ⌝ }
@@ -68,7 +68,7 @@ fn deliver(sent: Sent, packet: &[u8], e: BothEnds, staging: &mut [u8]) -> Answer
     let device = e.device;
     match sent {
         Sent::Nothing => {
-            let replies = e.replies;
+            let replies = Replies::none();
             Answer {
                 refusal: Refusal::Served,
                 replies,
@@ -80,7 +80,7 @@ fn deliver(sent: Sent, packet: &[u8], e: BothEnds, staging: &mut [u8]) -> Answer
     }
 }
 
-// One turn: the host's step on the last reply, over an accepted bundle of `count` offers, and what it sends is answered.
+// One turn: the host's step on the reply on its way, over an accepted bundle of `count` offers, and what it sends is answered.
 fn turn(count: u8, hand: Body, bundle: &[u8], e: BothEnds, staging: &mut [u8]) -> BothEnds
     ensures { λ r. ⌜ Turned (now (bundle .entry)) count hand e (now (staging .entry)) r (now (staging .exit)) ⌝ }
 {

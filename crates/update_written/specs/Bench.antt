@@ -8,7 +8,7 @@ use Rattle.wire.specs.Version.{versionOf}
 use Rattle.device_session.specs.declared.stage.Stage.the-variants.{Idle}
 use Rattle.device.specs.Bench.{bench}
 use Rattle.bundle_writer.specs.Bundle.{madeBundle}
-use Rattle.update.specs.Run.{System, lastOf}
+use Rattle.update.specs.Run.{System, once, lastOf}
 use Rattle.update.specs.Bench.{image, one, two, updated}
 use Rattle.update_written.specs.Stages.{Fitting}
 
@@ -21,7 +21,7 @@ e13Images = image (versionOf 1 3 0) 1 ++ image (versionOf 1 2 0) 2
 
 -- the run of what is written, on the bench device with a staging buffer of zeros, from a host with token 0xA5
 abbrev pub e13Comes : System
-e13Comes = lastOf (madeBundle e13List e13Images) 0xA5 (bench Idle) (replicate 128 0) []
+e13Comes = lastOf (madeBundle e13List e13Images) once 0xA5 (bench Idle) (replicate 128 0) []
 
 pub record BenchStages : Type 0 where
   pub fitting : Fitting e13List e13Images 214 0xA5 (bench Idle) (replicate 128 0)

@@ -19,7 +19,7 @@ use Rattle.device.specs.Refusals.{breaksD1}
 use Rattle.device.specs.declared.record.Device.{Device}
 use Rattle.host.specs.Step.{blocksAt}
 use Rattle.update.specs.Claim.{imageOf}
-use Rattle.update.specs.Run.{System, lastOf}
+use Rattle.update.specs.Run.{System, Schedule, lastOf}
 use Rattle.update.specs.Demand.{Premise, Demand, stagedIn}
 
 -- the records of an image, written in order after an erase, give the image
@@ -63,12 +63,13 @@ MadePremise = (list images : List ℕ) (room token : ℕ) (d : Device) (staging 
 
 -- what becomes of it in a run that comes to the system s: demand 3, so exactly the smallest closed set of its offers is staged; and the region of each offer that
 -- is staged holds the very image that was given with it
-pub record Stages (list images : List ℕ) (token : ℕ) (d : Device) (staging reply : List ℕ) (s : System) : Type 0 where
-  pub demand : Demand (madeBundle list images) token d staging reply s
+pub record Stages (list images : List ℕ) (twice : Schedule) (token : ℕ) (d : Device) (staging reply : List ℕ) (s : System) : Type 0 where
+  pub demand : Demand (madeBundle list images) twice token d staging reply s
   pub regions : (i k : ℕ) → i < countOf list → T (stagedIn (madeBundle list images) s i) → find d (idIn (listed list i)) ≡ At k
       → regionBytes (component d k .fixed .region) (s .staging) ≡ imageAt images (listed list i)
 
--- of what the writer makes, the updater stages exactly the smallest closed set, byte for byte, on a device with those region lengths
+-- of what the writer makes, the updater stages exactly the smallest closed set, byte for byte, on a device with those region lengths, whichever blocks that are
+-- neither first nor last arrive twice in a row (document 02, A4)
 abbrev pub MadeStages : Type 0
-MadeStages = (list images : List ℕ) (room token : ℕ) (d : Device) (staging reply : List ℕ) → Fitting list images room token d staging
-    → Stages list images token d staging reply (lastOf (madeBundle list images) token d staging reply)
+MadeStages = (list images : List ℕ) (twice : Schedule) (room token : ℕ) (d : Device) (staging reply : List ℕ) → Fitting list images room token d staging
+    → Stages list images twice token d staging reply (lastOf (madeBundle list images) twice token d staging reply)

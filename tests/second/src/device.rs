@@ -297,7 +297,9 @@ impl Device {
     fn follows_wrongly(&self) -> bool {
         match self.stage {
             Stage::Idle | Stage::Offered(_) => false,
-            Stage::Receiving(open) => after(read_content(&self.previous).value.sequence) != open.next,
+            Stage::Receiving(open) => {
+                after(read_content(&self.previous).value.sequence) != open.next
+            }
         }
     }
 
@@ -483,7 +485,9 @@ impl Device {
         }
         let block = read_content(report).value;
         match self.check_content(&block, report) {
-            Checked::Refused(status) => (self, Answer::Reply(content_reply(block.sequence, status))),
+            Checked::Refused(status) => {
+                (self, Answer::Reply(content_reply(block.sequence, status)))
+            }
             Checked::Again => (self, Answer::Reply(content_reply(block.sequence, 0))),
             Checked::Taken => self.take(staging, &block, report),
         }

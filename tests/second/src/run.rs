@@ -47,9 +47,7 @@ pub fn run_doubled(
     staging: &mut [u8],
     pattern: u64,
 ) -> Run {
-    run_where(token, bundle, device, staging, |number, _| {
-        number < 64 && pattern >> number & 1 == 1
-    })
+    run_where(token, bundle, device, staging, |number, _| number < 64 && pattern >> number & 1 == 1)
 }
 
 /// The run in which the packets that `twice` names, by number and packet,

@@ -68,9 +68,9 @@ extern "C" {
 
 /* ---- Sizes of lent buffers, in bytes ---- */
 
-#define CFU_DEVICE_SIZE 140     /* a device's record */
+#define CFU_DEVICE_SIZE 200     /* a device's record */
 #define CFU_LIST_SIZE 91        /* the list that set-up takes: CFU_COMPONENT_LIMIT times 13 */
-#define CFU_HOST_SIZE 24        /* a host's record */
+#define CFU_HOST_SIZE 25        /* a host's record */
 #define CFU_CONTENTS_SIZE 103   /* what the check of a bundle answers, with the host's cursor */
 #define CFU_REPLIES_SIZE 32     /* up to two replies of the device */
 #define CFU_SHORT_SIZE 16       /* offer, information, extended, and both replies */
@@ -85,7 +85,7 @@ extern "C" {
  * staged (then that version). A component of set-up's list: what stands before that. */
 #define CFU_DEVICE_SESSION_AT 7
 #define CFU_DEVICE_OWED_AT 12
-#define CFU_DEVICE_COMPONENTS_AT 14
+#define CFU_DEVICE_COMPONENTS_AT 74
 #define CFU_COMPONENT_SIZE 18
 #define CFU_COMPONENT_RUNNING_AT 1
 #define CFU_COMPONENT_REGION_AT 5
@@ -367,7 +367,7 @@ typedef struct cfu_entry {
  *     7  stage (1): 0 idle, 1 offered, 2 receiving
  *     8  slot (1): the component's place in the list, from 0; 9 token (1), 10 next sequence (2)
  *    12  owed ready-reply (1): 0 none, 1 owed; 13 its token (1)
- *    14  CFU_COMPONENT_LIMIT times 18 bytes: id (1), running version (4), region base (4), region length (4), staged (1): 0 nothing, 1 pending; staged
+ *    74  CFU_COMPONENT_LIMIT times 18 bytes: id (1), running version (4), region base (4), region length (4), staged (1): 0 nothing, 1 pending; staged
  *        version (4)
  * Only these calls need to write one, and cfu_device_component reads a component. Fields that the stage does not have, the token where none is
  * owed and the staged version where nothing is staged are not looked at, whatever stands there; a call that writes the session or the component writes zero

@@ -233,9 +233,11 @@ SESSION = struct.Struct("<BBBH")
 IDLE, OFFERED, RECEIVING = 0, 1, 2
 # 0 nothing, 1 owed; the token
 OWED = struct.Struct("<BB")
+# The content packet taken last (document 02, A4), a session's that receives
+PREVIOUS = struct.Struct(f"<{LONG_SIZE}s")
 # first, second: two numbers of the stage
-HOST = struct.Struct("<BBIIIIIBB")
-HOST_AT = places(HOST, "token stage first second mask packets passes skipped landed")
+HOST = struct.Struct("<BBIIIIIBBB")
+HOST_AT = places(HOST, "token stage first second mask packets passes skipped landed passed")
 HOST_FRESH, HOST_OPENING, HOST_LISTING, HOST_OFFERING, HOST_WAITING, HOST_SENDING, HOST_CLOSING, HOST_ENDED = range(8)
 DONE, H1, H2, H3, H4 = range(5)
 
@@ -257,18 +259,20 @@ def setup_list(components):
     return b"".join(LISTED.pack(*component) for component in filled(components))
 
 
-def device_record(components, staging, session=NO_SESSION, owed=None, staged=None, platform=PLATFORM, count=None):
-    """components as in setup_list; owed: a token; staged: {slot: version}."""
+def device_record(components, staging, session=NO_SESSION, owed=None, staged=None, platform=PLATFORM, count=None, previous=b""):
+    """components as in setup_list; owed: a token; staged: {slot: version}; previous: a content packet, with zeros after it where it is short."""
+    assert len(previous) <= PREVIOUS.size
     staged = staged or {}
     out = DEVICE.pack(platform, staging, len(components) if count is None else count) + SESSION.pack(*session)
     out += OWED.pack(0, 0) if owed is None else OWED.pack(1, owed)
+    out += PREVIOUS.pack(previous)
     for slot, component in enumerate(filled(components)):
         out += LISTED.pack(*component) + (STAGED.pack(1, staged[slot]) if slot in staged else STAGED.pack(0, 0))
     return out
 
 
-def host_record(token, stage, first=0, second=0, mask=0, packets=0, passes=0, skipped=0, landed=0):
-    return HOST.pack(token, stage, first, second, mask, packets, passes, skipped, landed)
+def host_record(token, stage, first=0, second=0, mask=0, packets=0, passes=0, skipped=0, landed=0, passed=0):
+    return HOST.pack(token, stage, first, second, mask, packets, passes, skipped, landed, passed)
 
 
 # ---- Scripts ----
@@ -322,18 +326,18 @@ hold("LONG_SIZE", CONTENT.size)
 hold("DATA_AT", CONTENT_AT.data)
 hold("LONG_SIZE", VERSION_REPLY.size + COMPONENT_LIMIT * VERSION_REPLY_ENTRY.size)
 hold("LIST_SIZE", COMPONENT_LIMIT * LISTED.size)
-hold("DEVICE_SIZE", DEVICE.size + SESSION.size + OWED.size + COMPONENT_LIMIT * (LISTED.size + STAGED.size))
+DEVICE_HEAD_SIZE = DEVICE.size + SESSION.size + OWED.size + PREVIOUS.size
+hold("DEVICE_SIZE", DEVICE_HEAD_SIZE + COMPONENT_LIMIT * (LISTED.size + STAGED.size))
 hold("HOST_SIZE", HOST.size)
 hold("COMPONENTS_SIZE", COMPONENT_LIMIT * RUNNING.size)
 for name, number in dict(
-        DEVICE_SESSION_AT=DEVICE.size, DEVICE_OWED_AT=DEVICE.size + SESSION.size, DEVICE_COMPONENTS_AT=DEVICE.size + SESSION.size + OWED.size,
+        DEVICE_SESSION_AT=DEVICE.size, DEVICE_OWED_AT=DEVICE.size + SESSION.size, DEVICE_COMPONENTS_AT=DEVICE_HEAD_SIZE,
         COMPONENT_SIZE=LISTED.size + STAGED.size, COMPONENT_RUNNING_AT=LISTED_AT.running, COMPONENT_REGION_AT=LISTED_AT.base, COMPONENT_STAGED_AT=LISTED.size,
         LISTED_SIZE=LISTED.size, RUNNING_SIZE=RUNNING.size, RUNNING_ID_AT=RUNNING_AT.id, BUNDLE_HEAD_SIZE=BUNDLE_HEAD.size, BUNDLE_ENTRY_SIZE=ENTRY.size,
         HOST_STAGE_AT=HOST_AT.stage, HOST_FIRST_AT=HOST_AT.first, HOST_SECOND_AT=HOST_AT.second, HOST_MASK_AT=HOST_AT.mask, HOST_SKIPPED_AT=HOST_AT.skipped,
         HOST_LANDED_AT=HOST_AT.landed).items():
     hold(name, number)
-hold_comment(r"\n \* +(\d+)  CFU_COMPONENT_LIMIT times (\d+) bytes: id \(1\), running version", DEVICE.size + SESSION.size + OWED.size,
-             LISTED.size + STAGED.size)
+hold_comment(r"\n \* +(\d+)  CFU_COMPONENT_LIMIT times (\d+) bytes: id \(1\), running version", DEVICE_HEAD_SIZE, LISTED.size + STAGED.size)
 hold_comment(r"(\d+)  stage \(1\): 0 idle", DEVICE.size)
 hold_comment(r"(\d+)  owed ready-reply", DEVICE.size + SESSION.size)
 hold_comment(r"(\d+)  mask of completed offers \(4\), (\d+) packets \(4\), (\d+) passes \(4\)", HOST_AT.mask, HOST_AT.packets, HOST_AT.passes)

@@ -101,13 +101,24 @@ def receiving(slot, token=TOKEN, next_one=1):
     return (cfu.RECEIVING, slot, token, next_one)
 
 
-def record(components, stage=IDLE, lent=128, lends=True, **fields):
-    """components as in setup; staged: {slot: version}. The staging buffer
+def packet(flags, sequence, address, length, pad=0):
+    """The bytes of a block whose data is 1, 2, 3 .."""
+    data = bytes((i + 1) % 256 for i in range(min(length, cfu.DATA_SIZE)))
+    return cfu.content(flags, sequence % 65536, address, data, length, pad)
+
+
+def before(stage):
+    """A previous packet that D1 accepts (A4), where the session receives."""
+    return packet(0, stage[3] - 1, 0, 4) if stage[0] == cfu.RECEIVING else b''
+
+
+def record(components, stage=IDLE, lent=128, lends=True, previous=None, **fields):
+    """components as in setup; staged: {slot: version}; previous: the previous packet, unless it is one that fits. The staging buffer
     is lent at the record's length, unless the case has its own."""
     if lends:
         lend(lent)
     tell('record set\n')
-    frame('K', cfu.device_record(components, lent, stage, **fields))
+    frame('K', cfu.device_record(components, lent, stage, previous=before(stage) if previous is None else previous, **fields))
 
 
 def offer_bytes(component, version, token=TOKEN, need=(0, 0), **fields):
@@ -134,10 +145,8 @@ def content(*fields, **more):
     report('C', cfu.content(*fields, **more))
 
 
-def block(flags, sequence, address, length):
-    """A block whose data is 1, 2, 3 .."""
-    data = bytes((i + 1) % 256 for i in range(min(length, cfu.DATA_SIZE)))
-    content(flags, sequence, address, data, length)
+def block(flags, sequence, address, length, pad=0):
+    report('C', packet(flags, sequence, address, length, pad))
 
 
 # ----------------------------------------------------------------- images
@@ -483,6 +492,23 @@ d1('faults at and past the count are not looked at',
 case('D1: the slot of an idle record is ignored')
 record(BENCH, (0, 200, 0x99, 77))
 every_entry()
+
+# D1, A4: the previous packet of a receiving session
+
+for next_one, sequences in [(0, (65535, 65534, 0, 1, 0xFF00)), (1, (0, 65535, 1, 2, 0x100)), (5, (4, 3, 5, 6, 0x104, 0x400)), (0x100, (0xFF, 0xFE, 0x100, 0xFF00)),
+                            (65535, (65534, 65533, 65535, 0))]:
+    for number, sequence in enumerate(sequences):
+        d1('A4: receiving, next %d, previous packet at sequence %d%s' % (next_one, sequence, '' if number else ' is served'), BENCH,
+           receiving(0, next_one=next_one), previous=packet(0, sequence, 0, 4))
+d1('A4: a previous packet of zeros has sequence 0: next 1 is served', BENCH, receiving(0), previous=b'')
+d1('A4: a previous packet of zeros has sequence 0: next 0', BENCH, receiving(0, next_one=0), previous=b'')
+d1('A4: previous packet one off, in the last slot, owing', BENCH, receiving(1, next_one=9), owed=0x44, previous=packet(0, 7, 0, 4))
+d1('A4: previous packet one off, another component pending', BENCH, receiving(1, next_one=9), staged={0: NEW1}, previous=packet(0, 9, 0, 4))
+for words, packed in [('first', packet(FIRST, 8, 0, 4)), ('last', packet(LAST, 8, 0, 4)), ('length 0', packet(0, 8, 0, 0)),
+                      ('flags 0x3F', packet(0x3F, 8, 0, 4)), ('an address past the region', packet(0, 8, 64, 4))]:
+    d1('A4: of the previous packet only the sequence is asked: %s is served' % words, BENCH, receiving(0, next_one=9), previous=packed)
+for words, stage in [('idle', IDLE), ('offered', offered(0))]:
+    d1('A4: %s, whatever stands for a previous packet is served' % words, BENCH, stage, previous=bytes(range(60)))
 
 case('D1 before D2 and D3: a bad state, a wrong lent length, a short report')
 lend(127)
@@ -963,7 +989,7 @@ staging(0, 16)
 block(0, 1, 8, 4)
 show()
 staging(0, 16)
-case('content 4: a taken block may not come twice')
+case('content 4, A4: a block that is neither first nor last comes twice: status 0, and the next is taken')
 receiving_for_1()
 block(0, 1, 4, 4)
 block(0, 1, 4, 4)
@@ -1261,6 +1287,192 @@ offer(1, NEW1 + RELEASE)
 show()
 staging(0, 66)
 version_reply()
+
+# ------------------------------------------------- A4: a block sent again
+
+
+def middle_for_1(sequence=0, pad=0):
+    """Component 1 has taken a first block of four bytes and a middle one."""
+    receiving_for_1(sequence)
+    block(0, sequence + 1, 4, 4, pad)
+
+
+def copy(sequence=0, pad=0):
+    """The middle block of middle_for_1 again."""
+    block(0, sequence + 1, 4, 4, pad)
+
+
+for count, words in [(1, 'once'), (2, 'twice'), (20, '20 times')]:
+    case('A4: a middle block again, %s: status 0, nothing written, nothing changed; then the next is taken' % words)
+    middle_for_1()
+    fill(0xA5)
+    for _ in range(count):
+        copy()
+    show()
+    staging(0, 130)
+    block(0, 2, 8, 4)
+    show()
+    staging(0, 16)
+case('A4: the copy of the block before the last taken one: 0x0B; of the last taken one: 0')
+middle_for_1()
+block(0, 2, 8, 4)
+block(0, 1, 4, 4)
+show()
+block(0, 2, 8, 4)
+show()
+for sequence in (0, 1, 65534, 65535):
+    case('A4: a middle block at sequence %d, again; then the next' % sequence)
+    middle_for_1(sequence - 1 & 0xFFFF)
+    block(0, sequence, 4, 4)
+    show()
+    block(0, sequence + 1, 8, 4)
+    show()
+    block(0, sequence, 4, 4)
+    block(0, sequence + 1, 8, 4)
+    show()
+case('A4: a first block again: 0x0B by check 3, nothing changes; the next is taken')
+receiving_for_1()
+fill(0xA5)
+block(FIRST, 0, 0, 4)
+show()
+staging(0, 66)
+block(0, 1, 4, 4)
+show()
+case('A4: after a first block, its sequence without the first flag, all else the same: 0x0B')
+receiving_for_1()
+block(0, 0, 0, 4)
+block(LAST, 0, 0, 4)
+show()
+case('A4: after a first block at 65,535, its sequence without the first flag: 0x0B; 0 is next')
+receiving_for_1(65535)
+block(0, 65535, 0, 4)
+block(0, 0, 4, 4)
+show()
+case('A4: a last block of a good image again: 0x0A by check 1')
+offered_for_1()
+send(GOOD1)
+content(LAST, 1, 52, GOOD1[52:])
+show()
+case('A4: a last block of a bad image again: 0x0A by check 1')
+offered_for_1()
+send(damaged(GOOD1))
+content(LAST, 1, 52, damaged(GOOD1)[52:])
+show()
+case('A4: a first and last block again: 0x0A')
+setup([(1, V1, 8, 8)], lent=24)
+offer(1, NEW1)
+send(image(1, NEW1, 8))
+send(image(1, NEW1, 8))
+show()
+case('A4: a copy with one byte changed, every byte of it: 0x0B; then the copy: 0')
+middle_for_1(pad=0x55)
+fill(0xA5)
+for at in range(cfu.CONTENT.size):
+    changed = bytearray(packet(0, 1, 4, 4, 0x55))
+    changed[at] ^= 0x80 if at else 0x01
+    report('C', bytes(changed))
+show()
+copy(pad=0x55)
+show()
+staging(0, 66)
+case('A4: a copy whose unused data alone is another: 0x0B, also where it is zero')
+middle_for_1(pad=0x55)
+copy()
+copy(pad=0x56)
+copy(pad=0x55)
+show()
+case('A4: a copy with the last flag, with the first flag, with a reserved flag: 0x0B')
+middle_for_1()
+block(LAST, 1, 4, 4)
+block(FIRST, 1, 4, 4)
+block(0x20, 1, 4, 4)
+show()
+case('A4: a copy with an address past the region: 0x0B, as check 4 comes before 5')
+middle_for_1()
+block(0, 1, 61, 4)
+show()
+case('A4: a copy after packets that change nothing: 0')
+middle_for_1()
+offer(1, NEW1)
+copy()
+information(1)
+copy()
+information(2)
+copy()
+extended(2)
+copy()
+block(0, 7, 8, 4)
+copy()
+block(0, 2, 64, 1)
+copy()
+block(0, 2, 8, 53)
+copy()
+report('C', packet(0, 1, 4, 4)[:59])
+copy()
+version_reply()
+copy()
+show()
+case('A4: a copy lent another length: D2; of another length: D3')
+middle_for_1()
+lend(127)
+copy()
+lend(128)
+report('C', packet(0, 1, 4, 4)[:59])
+report('C', packet(0, 1, 4, 4) + b'\0')
+show()
+case('A4: a copy while a READY is owed: not yet; it follows the last block')
+middle_for_1()
+notify(0x71)
+copy()
+show()
+block(LAST, 2, 8, 4)
+show()
+case('A4: a whole image of four blocks, its two middle blocks twice: pending')
+fill(0xA5)
+setup([(1, V1, 0, 200)], lent=200)
+offer(1, NEW1)
+for number, (at, flags, data) in enumerate(cfu.blocks(image(1, NEW1, 200))):
+    for _ in range(1 if flags else 2):
+        content(flags, (65534 + number) % 65536, at, data)
+    show()
+staging(0, 202)
+
+for words, packed in [('a middle block', packet(0, 8, 4, 4)), ('a middle block with unused data', packet(0, 8, 4, 4, 0x55)),
+                      ('first', packet(FIRST, 8, 0, 4)), ('last: it was no middle block', packet(LAST, 8, 4, 4)),
+                      ('first and last', packet(FIRST | LAST, 8, 4, 4)), ('length 0', packet(0, 8, 4, 0)), ('length 53', packet(0, 8, 4, 53)),
+                      ('a reserved flag', packet(0x01, 8, 4, 4)), ('past the region: check 4 before 5', packet(0, 8, 64, 4))]:
+    case('A4: a record whose previous packet is given, and the copy of it: %s' % words)
+    fill(0xA5)
+    record(BENCH, receiving(0, next_one=9), previous=packed)
+    report('C', packed)
+    show()
+    staging(0, 66)
+case('A4: an offered record that holds a packet, and the copy of it: 0x0B')
+record(BENCH, offered(0), previous=packet(0, 8, 4, 4))
+block(0, 8, 4, 4)
+show()
+case('A4: an idle record that holds a packet, and the copy of it: 0x0A')
+record(BENCH, previous=packet(0, 8, 4, 4))
+block(0, 8, 4, 4)
+show()
+
+HELD = bytes(range(1, 61))
+for words, stage in [('idle', IDLE), ('offered', offered(0)), ('receiving', receiving(0, next_one=0x0404))]:
+    for name, event in [('set-up', bench), ('code 0', lambda: information(0)), ('a reset', reset), ('an offer for component 2', lambda: offer(2, NEW2)),
+                        ('an offer that is rejected', lambda: offer(2, V2)), ('an offer that is skipped', lambda: offer(2, NEW2, need=(9, 1))),
+                        ('code 1', lambda: information(1)), ('code 2', lambda: information(2)), ('code 3', lambda: information(3)),
+                        ('notify', lambda: notify(0x33)), ('a first block', lambda: block(FIRST, 6, 0, 4)),
+                        ('a first and last block', lambda: block(FIRST | LAST, 6, 0, 4)), ('the next block', lambda: block(0, 0x0404, 0, 4)),
+                        ('the next block, last', lambda: block(LAST, 0x0404, 0, 4))]:
+        case('A4: what becomes of the previous packet: %s, %s' % (words, name))
+        record(BENCH, stage, previous=HELD)
+        event()
+        show()
+for status, whole in [(0, GOOD1), (4, GOOD2), (5, damaged(GOOD1)), (7, image(1, 0))]:
+    case('A4: the previous packet is blank after the last block: status %d' % status)
+    offered_for_1()
+    send(whole)
+    show()
 
 # ------------------------------------------------------------ READY owed
 

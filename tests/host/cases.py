@@ -1,7 +1,8 @@
 #!/usr/bin/env python3
 """Writes the frames (README.md) of the host's cases to standard output.
 
-Each case starts with a '#' line that names it and its row in document 01. The bundle is E12's: two offers, each body records of 52 and 12 bytes.
+Each case starts with a '#' line that names it and its row in document 01. The bundle is E12's: two offers, each body records of 52 and 12 bytes; those of A4
+have bodies of four and three records.
 """
 import os
 import sys
@@ -63,6 +64,7 @@ def offer(component, *sizes):
 
 
 TWO = bundle([offer(1, 52, 12), offer(2, 52, 12)])
+FOUR = bundle([offer(1, 20, 20, 20, 4), offer(2, 22, 22, 20)])
 MOST = bundle([offer(k, k) for k in range(1, OFFER_LIMIT + 1)])
 LAST_ENTRY, ALL = OFFER_LIMIT - 1, (1 << OFFER_LIMIT) - 1
 NONE = bundle([])
@@ -178,9 +180,13 @@ for name, stage in STAGES:
     for bit in range(8):
         record(stage)
         step(offer_reply(ACCEPT, token=TOKEN ^ 1 << bit))
-case('H2 by sequence: every bit of it')
-for bit in range(16):
+case('H2 by sequence: every bit of it but the lowest, which makes it the sequence before (A4)')
+for bit in range(1, 16):
     record(SENDING, 0, 1)
+    step(content_reply(1 ^ 1 << bit))
+case('H2 by sequence after a reply was passed over: every bit of it')
+for bit in range(16):
+    record(SENDING, 0, 1, passed=1)
     step(content_reply(1 ^ 1 << bit))
 case('H2 before H1: a sequence not ours, with status 9')
 record(SENDING, 0, 1)
@@ -207,6 +213,107 @@ answer(BUSY)
 case('eight BUSY for an offer, then SKIP: the next counts from 0')
 record(OFFERING, 0, 8)
 answer(SKIP, BUSY)
+
+# ------------------------------------- A4: a reply that equals the one taken
+
+over(FOUR)
+for entry, count in ((0, 4), (1, 3)):
+    for block in range(1, count):
+        case('A4: entry %d, block %d of %d: the reply before it again is passed over; its own is taken, and no more flag stands' % (entry, block, count))
+        record(SENDING, entry, block)
+        blocks(block - 1, block)
+        case('A4: entry %d, block %d of %d: the reply before it twice again: H2' % (entry, block, count))
+        record(SENDING, entry, block)
+        blocks(block - 1, block - 1)
+        case('A4: entry %d, block %d of %d: passed over, then H1, H2 by sequence and H2 by length' % (entry, block, count))
+        for reply in (content_reply(block, 9), content_reply(block + 1), content_reply(block)[:15]):
+            record(SENDING, entry, block)
+            blocks(block - 1)
+            step(reply)
+case('A4: a record that has passed one over: its own reply, and the one before again')
+record(SENDING, 0, 2, passed=1)
+blocks(2)
+record(SENDING, 0, 2, passed=1)
+blocks(1)
+case('A4: the flag is of one block: each later block has its own')
+record(SENDING, 0, 1)
+blocks(0, 1, 1, 2, 2, 3)
+case('A4: a reply is passed over by its sequence and status alone: all its other bytes 0xFF')
+record(SENDING, 0, 2)
+reply = bytearray(b'\xff' * cfu.CONTENT_REPLY.size)
+reply[:2], reply[cfu.CONTENT_REPLY_AT.status] = b'\x01\0', 0
+step(bytes(reply))
+step(bytes(reply))
+for status in (1, 4, 9, 0x0A, 0x0B, 0xFF):
+    case('A4: the sequence before with status %d is not passed over: H2' % status)
+    record(SENDING, 0, 2)
+    step(content_reply(1, status))
+for sequence in (0, 3, 0x0101, 0x0100, 0x0201, 65535):
+    case('A4: block 2 awaited, sequence %d: H2' % sequence)
+    record(SENDING, 0, 2)
+    blocks(sequence)
+case('A4: the reply before in 0, 15, 17 and 60 bytes: H2 by length')
+for length in (0, 15, 17, 60):
+    record(SENDING, 0, 2)
+    step((content_reply(1) + bytes(44))[:length])
+for passed in (0, 1):
+    case('A4: block 0 awaited, passed %d: no reply is passed over, not sequence 65535 and not 1; 0 is its own' % passed)
+    for sequence in (65535, 1, 0):
+        record(SENDING, 0, 0, passed=passed)
+        blocks(sequence)
+case('A4: block 0 taken, and its reply again once block 1 is sent')
+record(SENDING, 0, 0)
+blocks(0, 0, 1)
+case('A4: block 0 of the second body: the last reply of the first body is not passed over')
+record(SENDING, 0, 3)
+blocks(3)
+answer(ACCEPT)
+blocks(3)
+case('A4: the reply to a last block again, where an offer reply is awaited: H2 by its token 0')
+record(SENDING, 0, 3)
+blocks(3, 3)
+case('A4: the reply to a last block again, the host\'s token 0: it reads as SKIP')
+record(SENDING, 0, 3, token=0)
+blocks(3, 3)
+case('A4: a passed record keeps mask, packets, passes, skipped and landed')
+record(SENDING, 1, 1, mask=1, packets=0x7FFFFFFF, passes=2, skipped=1, landed=1)
+blocks(0, 1)
+step(content_reply(1))
+case('A4: N1 asks nothing of the flag, and stands before the reply')
+for block in (3, 4):
+    for passed in (0, 1):
+        record(SENDING, 0, block, passed=passed)
+        blocks(block - 1)
+record(SENDING, 0, 1, mask=4, passed=1)
+blocks(1)
+case('A4: the flag is ignored where the host does not send')
+for stage in (FRESH, OPENING, LISTING, OFFERING, WAITING, CLOSING, ENDED):
+    record(stage, passed=1)
+    answer(READY if stage == WAITING else ACCEPT)
+case('A4: a host that passed one over, over a refused bundle: it is kept')
+over(MORE)
+record(SENDING, 0, 1, passed=1)
+blocks(1)
+record(SENDING, 0, 1)
+blocks(0)
+over(FOUR)
+case('A4: E13 with scripted replies, the reply to every middle block twice: packets 16, passes 2')
+fresh()
+step()
+answer(ACCEPT, ACCEPT, SKIP, ACCEPT)
+blocks(0, 1, 1, 2)
+answer(ACCEPT, ACCEPT, ACCEPT)
+blocks(0, 1, 1, 2, 2, 3)
+answer(REJECT, ACCEPT)
+case('A4: the other order of passes: packets 12, passes 1')
+fresh()
+step()
+answer(ACCEPT, ACCEPT, ACCEPT)
+blocks(0, 1, 1, 2, 2, 3)
+answer(ACCEPT)
+blocks(0, 1, 1, 2)
+answer(ACCEPT)
+over(TWO)
 
 # -------------------------------------------------------------------- ended
 

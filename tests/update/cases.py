@@ -16,9 +16,9 @@ script = cfu.Script(cfu.Script.LONG)
 case = script.case
 
 
-def offer(component, number, need=(0, 0)):
-    """An offer with the body of its image. need: (component, version)."""
-    return cfu.offer(component, number, need=need[0], least=need[1] >> 8), body(image(component, number))
+def offer(component, number, need=(0, 0), size=cfu.DATA_SIZE):
+    """An offer with the body of its image, in records of at most so many bytes. need: (component, version)."""
+    return cfu.offer(component, number, need=need[0], least=need[1] >> 8), body(image(component, number), size)
 
 
 def record(components, **fields):
@@ -30,6 +30,17 @@ def record(components, **fields):
 
 def run(device, what):
     script.frame('R', bytes([TOKEN, FILL]) + device + what)
+
+
+def twice(device, what, numbers, token=TOKEN):
+    """A run in which the packets of these numbers, from 0, arrive twice (A4); a pattern has no bit for those past 63."""
+    pattern = sum(1 << number for number in numbers if number < 64)
+    script.frame('T', bytes([token, FILL]) + pattern.to_bytes(8, 'little') + device + what)
+
+
+def before(next_one):
+    """A previous packet that D1 accepts (A4) where this sequence is next."""
+    return cfu.content(0, (next_one - 1) % 65536, 0, b'\x01')
 
 
 V10, V11, V12, V13 = version(1, 0), version(1, 1), version(1, 2), version(1, 3)
@@ -55,7 +66,7 @@ run(record(BENCH), bundle([offer(1, V13, (1, V13)), TWO]))
 case('component 2 is pending at the start: 1 lands by it, 2 is rejected')
 run(record([(V12, None), (V11, V12)]), bundle([ONE, TWO]))
 case('a session is open at the start, with a READY owed: code 0 drops both')
-run(record(BENCH, session=(cfu.RECEIVING, 0, 0x33, 7), owed=0x44), bundle([ONE, TWO]))
+run(record(BENCH, session=(cfu.RECEIVING, 0, 0x33, 7), owed=0x44, previous=before(7)), bundle([ONE, TWO]))
 case('an offer for an absent component: rejected, the others land')
 run(record(BENCH), bundle([offer(5, V13), ONE, TWO]))
 
@@ -85,5 +96,69 @@ case("refused: D1, the customer's debug build staged")
 run(record([(V12, DEBUG), (V11, None)]), bundle([ONE, TWO]))
 case('refused: D1, a READY owed while idle')
 run(record(BENCH, owed=0x44), bundle([ONE, TWO]))
+
+# ------------------------------------- A4: packets that arrive twice
+
+case('A4: a session is open at the start whose previous packet is at 65535: code 0 blanks it')
+run(record(BENCH, session=(cfu.RECEIVING, 0, 0x33, 0), previous=before(0)), bundle([ONE, TWO]))
+case('A4: a previous packet that no session holds: code 0 blanks it')
+run(record(BENCH, previous=bytes(range(60))), bundle([ONE, TWO]))
+for sequence in (7, 5):
+    case('A4: refused: D1, the next sequence is 7 and the previous packet at %d' % sequence)
+    run(record(BENCH, session=(cfu.RECEIVING, 0, 0x33, 7), previous=before(sequence + 1)), bundle([ONE, TWO]))
+
+
+def two(size):
+    """The offers of E13 with bodies of more records."""
+    return offer(1, V13, (2, V12), size), offer(2, V12, size=size)
+
+
+def middles(*places):
+    """The numbers of middle blocks. places: (number of a body's first block, its records)."""
+    return [number for first, count in places for number in range(first + 1, first + count - 1)]
+
+
+for size, count in ((22, 3), (16, 4), (10, 7)):
+    one, other = two(size)
+    case('A4: E13 with bodies of %d records, every middle block twice: packets %d, passes 2' % (count, 9 + 2 * count))
+    twice(record(BENCH), bundle([one, other]), middles((4, count), (7 + count, count)))
+    case('A4: the other order, every middle block twice: packets %d, passes 1' % (5 + 2 * count))
+    twice(record(BENCH), bundle([other, one]), middles((3, count), (4 + count, count)))
+
+ONE_OF_4, TWO_OF_4 = two(16)
+case('A4: nothing twice: as a run')
+twice(record(BENCH), bundle([TWO_OF_4, ONE_OF_4]), [])
+for number, words in enumerate(['code 0', 'code 1', 'the first offer', 'its first block: H2', 'its second block', 'its third block', 'its last block: H2',
+                                'the second offer', 'its first block: H2', 'its second block', 'its third block', 'its last block: H2', 'code 2', 'none']):
+    case('A4: packet %d twice: %s' % (number, words))
+    twice(record(BENCH), bundle([TWO_OF_4, ONE_OF_4]), [number])
+for number, words in ((3, 'the first block of the first offer'), (5, 'a middle block'), (6, 'the last block of the first offer'),
+                      (7, 'the second offer'), (11, 'the last block of all')):
+    case('A4: packet %d twice, with token 0: %s' % (number, words))
+    twice(record(BENCH), bundle([TWO_OF_4, ONE_OF_4]), [number], token=0)
+case('A4: code 0 twice where the first offer is skipped: its body meets an idle device')
+twice(record(BENCH), bundle([ONE_OF_4, TWO_OF_4]), [0])
+for token in (TOKEN, 0):
+    case('A4: every packet twice, token %02x' % token)
+    twice(record(BENCH), bundle([TWO_OF_4, ONE_OF_4]), range(64), token=token)
+    case('A4: every content packet twice, token %02x' % token)
+    twice(record(BENCH), bundle([TWO_OF_4, ONE_OF_4]), [*range(3, 7), *range(8, 12)], token=token)
+case('A4: bodies of one record, which is first and last: twice')
+twice(record(BENCH[:1]), bundle([(offer(1, V13)[0], cfu.body_record(0, image(1, V13)[:52]))]), [3])
+case('A4: bodies of two records have no middle block: the first twice')
+twice(record(BENCH), bundle([TWO, ONE]), [3])
+case('A4: every middle block twice, component 2 pending at the start: 1 lands by it')
+twice(record([(V12, None), (V11, V12)]), bundle([ONE_OF_4, TWO_OF_4]), middles((3, 4)))
+case('A4: every middle block twice, a session open at the start')
+twice(record(BENCH, session=(cfu.RECEIVING, 1, 0x33, 1), owed=0x44, previous=before(1)), bundle([TWO_OF_4, ONE_OF_4]), middles((3, 4), (8, 4)))
+case('A4: every middle block twice, the image of another component: H1 with status 4')
+twice(record(BENCH), bundle([(offer(1, V13)[0], body(image(2, V13), 16))]), middles((3, 4)))
+
+CHAIN_OF_3 = [offer(k, V11, (k + 1, V11) if k < cfu.OFFER_LIMIT else (0, 0), 22) for k in range(1, cfu.OFFER_LIMIT + 1)]
+PASS = cfu.OFFER_LIMIT + 2 + 3
+case('A4: the chain of seven, bodies of three records, every middle block up to packet 63 twice')
+twice(record(MOST), bundle(CHAIN_OF_3), middles(*((1 + PASS * p + 1 + cfu.OFFER_LIMIT - p, 3) for p in range(cfu.OFFER_LIMIT))))
+case('A4: the chain of seven, the other order, every middle block twice')
+twice(record(MOST), bundle(CHAIN_OF_3[::-1]), middles(*((3 + 4 * k, 3) for k in range(cfu.OFFER_LIMIT))))
 
 script.write()

@@ -116,7 +116,7 @@ impl Stage {
 }
 
 /// The device's state. The default one is the blank record.
-#[derive(Clone, Copy, Debug, Default, PartialEq, Eq)]
+#[derive(Clone, Copy, Debug, PartialEq, Eq)]
 pub struct Device {
     pub platform: u16,
     /// Length of the staging buffer at set-up.
@@ -127,6 +127,49 @@ pub struct Device {
     pub stage: Stage,
     /// Token of the owed ready-reply.
     pub owed: Option<u8>,
+    /// A4: while receiving, the 60 bytes of the block taken last. Blank from
+    /// set-up, an ACCEPT, code 0, a reset and the end of a session on; only a
+    /// receiving session looks at it.
+    pub previous: [u8; LONG],
+}
+
+/// No packet.
+const BLANK: [u8; LONG] = [0; LONG];
+
+impl Default for Device {
+    fn default() -> Device {
+        Device {
+            platform: 0,
+            staging: 0,
+            count: 0,
+            components: [Component::default(); MOST],
+            stage: Stage::Idle,
+            owed: None,
+            previous: BLANK,
+        }
+    }
+}
+
+/// A4: what a block is to a receiving session, by check 4.
+#[derive(Clone, Copy, Debug, PartialEq, Eq)]
+enum Sequence {
+    /// The one that is expected.
+    Next,
+    /// A copy of the block just taken, which was neither first nor last.
+    Again,
+    /// Anything else.
+    Wrong,
+}
+
+/// What the content checks make of a block.
+#[derive(Clone, Copy, Debug, PartialEq, Eq)]
+enum Checked {
+    /// Checks 1 to 5: this status, and nothing changes.
+    Refused(u8),
+    /// Check 4: status 0, and nothing changes.
+    Again,
+    /// Check 6.
+    Taken,
 }
 
 /// One component as it is given to set-up.
@@ -174,6 +217,7 @@ pub fn set_up(platform: u16, list: &[Listed; MOST], count: u8, staging: &[u8]) -
             components,
             stage: Stage::Idle,
             owed: None,
+            previous: BLANK,
         }),
     }
 }
@@ -226,13 +270,15 @@ impl Device {
     }
 
     /// D1: state breaks S1-S4, opens on an unlisted or pending component,
-    /// owes while idle, or has a staged version below running by major-minor
-    /// or of another variant (A1).
+    /// owes while idle, has a staged version below running by major-minor or
+    /// of another variant (A1), or receives after a packet whose sequence is
+    /// not just before the next (A4).
     fn breaks_d1(&self) -> bool {
         setup_refusal(self.staging as u64, self.count, &self.components).is_some()
             || self.opens_wrongly()
             || (self.stage == Stage::Idle && self.owed.is_some())
             || self.listed().iter().any(|c| c.staged.is_some_and(|staged| !c.may_stage(staged)))
+            || self.follows_wrongly()
     }
 
     /// D1: opens on an unlisted or pending component.
@@ -243,6 +289,17 @@ impl Device {
                 None => true,
                 Some(component) => component.pending(),
             },
+        }
+    }
+
+    /// D1, A4's clause: receiving, and one more than the previous packet's
+    /// sequence, modulo 65,536, is not the next.
+    fn follows_wrongly(&self) -> bool {
+        match self.stage {
+            Stage::Idle | Stage::Offered(_) => false,
+            Stage::Receiving(open) => {
+                after(read_content(&self.previous).value.sequence) != open.next
+            }
         }
     }
 
@@ -291,6 +348,7 @@ impl Device {
         }
         next.stage = Stage::Idle;
         next.owed = None;
+        next.previous = BLANK;
         Judged::served(next)
     }
 
@@ -317,6 +375,7 @@ impl Device {
                 // Code 0 makes the session idle and drops an owed reply.
                 next.stage = Stage::Idle;
                 next.owed = None;
+                next.previous = BLANK;
                 ACCEPT
             }
             START_LIST | END_LIST => ACCEPT,
@@ -350,6 +409,7 @@ impl Device {
         let mut next = self;
         if let Some(slot) = slot {
             next.stage = Stage::Offered(Offered { slot, token: offer.token });
+            next.previous = BLANK;
         }
         (next, reply_to_offer(offer.token, status, reason))
     }
@@ -424,43 +484,66 @@ impl Device {
             return (self, refused(row));
         }
         let block = read_content(report).value;
-        match self.content_refusal(&block) {
-            Some(status) => (self, Answer::Reply(content_reply(block.sequence, status))),
-            None => self.take(staging, &block),
+        match self.check_content(&block, report) {
+            Checked::Refused(status) => {
+                (self, Answer::Reply(content_reply(block.sequence, status)))
+            }
+            Checked::Again => (self, Answer::Reply(content_reply(block.sequence, 0))),
+            Checked::Taken => self.take(staging, &block, report),
         }
     }
 
-    /// Content checks 1 to 5; nothing where none applies.
-    fn content_refusal(&self, block: &Content) -> Option<u8> {
+    /// Content checks 1 to 5, the fourth with A4's three results; `report`
+    /// is the block as it came.
+    fn check_content(&self, block: &Content, report: &[u8]) -> Checked {
         // 1. idle: 0x0A.
         let slot = match self.stage.slot() {
-            None => return Some(0x0A),
+            None => return Checked::Refused(0x0A),
             Some(slot) => slot as usize,
         };
         // 2. length 0 or over 52, or a flag bit other than the two: 0x0B.
         if !length_fits(block.length) || other_flags(block.flags) {
-            return Some(0x0B);
+            return Checked::Refused(0x0B);
         }
         let first = block.flags & FIRST != 0;
         match self.stage {
             // 3. offered without first: 0x0B.
-            Stage::Offered(_) if !first => return Some(0x0B),
+            Stage::Offered(_) if !first => return Checked::Refused(0x0B),
             // 3. receiving with first: 0x0B.
-            Stage::Receiving(_) if first => return Some(0x0B),
-            // 4. receiving, and sequence not the expected one: 0x0B.
-            Stage::Receiving(open) if block.sequence != open.next => return Some(0x0B),
+            Stage::Receiving(_) if first => return Checked::Refused(0x0B),
+            // 4. receiving: the next one goes on, the last one's copy is
+            // answered with 0, any other is 0x0B.
+            Stage::Receiving(open) => match self.sequence(open, block, report) {
+                Sequence::Next => {}
+                Sequence::Again => return Checked::Again,
+                Sequence::Wrong => return Checked::Refused(0x0B),
+            },
             _ => {}
         }
         // 5. address + length over the region's length: 0x09.
         let region = self.components[slot].region;
         if region.lacks(RegionAddress(block.address), block.length) {
-            return Some(0x09);
+            return Checked::Refused(0x09);
         }
-        None
+        Checked::Taken
+    }
+
+    /// Check 4. By D1 the previous packet's sequence is not the next one, so
+    /// that no block is both.
+    fn sequence(&self, open: Receiving, block: &Content, report: &[u8]) -> Sequence {
+        if block.sequence == open.next {
+            return Sequence::Next;
+        }
+        let middle = read_content(&self.previous).value.flags & (FIRST | LAST) == 0;
+        if middle && report == self.previous {
+            Sequence::Again
+        } else {
+            Sequence::Wrong
+        }
     }
 
     /// Check 6: erase on first, write, judge on last.
-    fn take(self, staging: &mut [u8], block: &Content) -> (Device, Answer) {
+    fn take(self, staging: &mut [u8], block: &Content, report: &[u8]) -> (Device, Answer) {
         let (slot, token) = match self.stage {
             Stage::Idle => return (self, Answer::NoReply), // kept out by check 1
             Stage::Offered(open) => (open.slot, open.token),
@@ -474,13 +557,10 @@ impl Device {
         if block.flags & LAST != 0 {
             return self.finish(staging, slot as usize, block.sequence);
         }
-        // Not last: status 0, receiving.
+        // Not last: status 0, receiving, and its 60 bytes are held.
         let mut next = self;
-        next.stage = Stage::Receiving(Receiving {
-            slot,
-            token,
-            next: block.sequence.wrapping_add(1),
-        });
+        next.stage = Stage::Receiving(Receiving { slot, token, next: after(block.sequence) });
+        next.previous.copy_from_slice(report);
         (next, Answer::Reply(content_reply(block.sequence, 0)))
     }
 
@@ -492,6 +572,7 @@ impl Device {
         let mut next = self;
         next.stage = Stage::Idle;
         next.owed = None;
+        next.previous = BLANK;
         if status == 0 {
             // Success: pending with the image's version.
             next.components[slot].staged = Some(image_version(image));
@@ -504,6 +585,11 @@ impl Device {
         };
         (next, answer)
     }
+}
+
+/// One more, with 65,535 followed by 0.
+fn after(sequence: u16) -> u16 {
+    sequence.wrapping_add(1)
 }
 
 /// On first, fill the region with 0xFF.

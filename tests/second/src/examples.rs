@@ -1,11 +1,12 @@
-//! Bench examples of document 01, cases of A1, and a few searches around them.
+//! Bench examples of document 01, cases of A1 and A4, and a few searches around
+//! them.
 
 use crate::bundle::{check, lines, Fault};
 use crate::device::*;
 use crate::host::{End, Host, Packet, Stage as HostStage};
 use crate::packets::*;
 use crate::refusal::Refusal;
-use crate::run::{run, Run};
+use crate::run::{run, run_doubled, run_where, Run};
 use crate::version::Version;
 
 // -------------------------------------------------------------- helpers
@@ -523,7 +524,7 @@ fn a1_d1_staged_and_running() {
         let stage = Stage::Offered(Offered { slot: 1, token: 9 });
         meets_d1(Device { stage, owed: Some(3), ..device });
         let stage = Stage::Receiving(Receiving { slot: 1, token: 9, next: 0 });
-        meets_d1(Device { stage, ..device });
+        meets_d1(Device { stage, previous: block(0, 4, 65_535, 0), ..device });
         // Also at the last listed component, and not past it.
         let mut last = bench();
         last.components[1].running = Version(running);
@@ -624,6 +625,542 @@ fn a1_searched() {
             assert_eq!(broken, !same || lower);
         }
     }
+}
+
+// -------------------------------------------------------------------- A4
+
+/// A content reply with status and sequence.
+fn answered(sequence: u16, status: u8) -> Answer {
+    let [low, high] = sequence.to_le_bytes();
+    bytes(&[(0, low), (1, high), (4, status)])
+}
+
+/// Component 1 has taken a first block of four bytes and a middle one after
+/// it, the latter at this sequence; its unused data are not zero.
+fn after_middle(sequence: u16, staging: &mut [u8; 128]) -> (Device, [u8; LONG]) {
+    let first = block(FIRST, 4, sequence.wrapping_sub(1), 0);
+    let middle = block(0, 4, sequence, 4);
+    let (device, answer) = offered().content(staging, &first);
+    assert_eq!(answer, answered(sequence.wrapping_sub(1), 0));
+    assert_eq!(device.previous, first);
+    let (device, answer) = device.content(staging, &middle);
+    assert_eq!(answer, answered(sequence, 0));
+    assert_eq!(device.previous, middle);
+    (device, middle)
+}
+
+/// What a packet that changes nothing is answered with.
+fn only_answers(device: Device, packet: &[u8; LONG], status: u8) {
+    let mut staging = [0xA5; 128];
+    let sequence = u16::from_le_bytes([packet[2], packet[3]]);
+    let (next, answer) = device.content(&mut staging, packet);
+    assert_eq!((next, answer), (device, answered(sequence, status)), "{packet:02x?}");
+    assert_eq!(staging, [0xA5; 128]);
+}
+
+/// Bench with a receiving session on component 1, as a record from outside.
+fn receiving(next: u16, previous: [u8; LONG]) -> Device {
+    let stage = Stage::Receiving(Receiving { slot: 0, token: 0xA5, next });
+    Device { stage, previous, ..bench() }
+}
+
+/// Any number of copies is answered with 0 and written nowhere, and then the
+/// block after it is taken; also from 65,535 to 0.
+#[test]
+fn a4_middle_block_again() {
+    for sequence in [0, 1, 2, 0xFF, 0x100, 0x1234, 65_534, 65_535] {
+        for copies in [1, 2, 3, 300] {
+            let mut staging = [0x33; 128];
+            let (device, middle) = after_middle(sequence, &mut staging);
+            for _ in 0..copies {
+                only_answers(device, &middle, 0);
+            }
+            let after = sequence.wrapping_add(1);
+            let (next, answer) = device.content(&mut staging, &block(0, 4, after, 8));
+            assert_eq!(answer, answered(after, 0));
+            let stage =
+                Stage::Receiving(Receiving { slot: 0, token: 0xA5, next: after.wrapping_add(1) });
+            assert_eq!(next, Device { stage, previous: block(0, 4, after, 8), ..device });
+            assert_eq!(staging[..12], [0x5C; 12]);
+            assert_eq!(staging[12..64], [0xFF; 52]);
+            assert_eq!(staging[64..], [0x33; 64]);
+            // The one before the last is no longer the block just taken.
+            only_answers(next, &middle, 0x0B);
+        }
+    }
+}
+
+/// Check 3 comes first: a first block sent again is 0x0B. So is a block with
+/// its sequence and without the flag, whatever else is the same.
+#[test]
+fn a4_first_block_again() {
+    for sequence in [0, 7, 65_535] {
+        let first = block(FIRST, 4, sequence, 0);
+        let (device, _) = offered().content(&mut [0; 128], &first);
+        only_answers(device, &first, 0x0B);
+        only_answers(device, &block(0, 4, sequence, 0), 0x0B);
+        only_answers(device, &block(LAST, 4, sequence, 0), 0x0B);
+        only_answers(device, &block(FIRST | LAST, 4, sequence, 0), 0x0B);
+        // It is still the next one that is taken.
+        let next = sequence.wrapping_add(1);
+        let (_, answer) = device.content(&mut [0; 128], &block(0, 4, next, 0));
+        assert_eq!(answer, answered(next, 0));
+    }
+}
+
+/// Check 1 comes first: a last block ended the session, so its copy is 0x0A,
+/// whether the image was good or not, and also where it was the first too.
+#[test]
+fn a4_last_block_again() {
+    for torn in [0, 1] {
+        let mut sent = image(1, Version(0x0100_0300), 64);
+        sent[63] ^= torn;
+        let (device, answer) = send(offered(), &mut [0; 128], &sent);
+        assert_eq!(answer, answered(1, if torn == 0 { 0 } else { 0x05 }));
+        let mut last = block(LAST, 12, 1, 52);
+        last[8..20].copy_from_slice(&sent[52..]);
+        only_answers(device, &last, 0x0A);
+    }
+    let only = block(FIRST | LAST, 4, 9, 0);
+    let (device, answer) = offered().content(&mut [0; 128], &only);
+    assert_eq!(answer, answered(9, 0x05));
+    only_answers(device, &only, 0x0A);
+}
+
+/// A copy with one bit changed anywhere, unused data too. (At sequence 1 no
+/// bit makes it 2, which is the next.)
+#[test]
+fn a4_changed_copy() {
+    let (device, middle) = after_middle(1, &mut [0; 128]);
+    for bit in 0..8 * LONG {
+        let mut changed = middle;
+        changed[bit / 8] ^= 1 << (bit % 8);
+        only_answers(device, &changed, 0x0B);
+    }
+    let mut cleared = middle;
+    cleared[8 + 4..].fill(0);
+    only_answers(device, &cleared, 0x0B);
+    only_answers(device, &middle, 0);
+}
+
+/// What else is refused or answered in between leaves the previous packet,
+/// and a copy brings no owed READY.
+#[test]
+fn a4_previous_packet_stays() {
+    let mut staging = [0x33; 128];
+    let (device, middle) = after_middle(1, &mut staging);
+    let notify = [1, 0, 0xFE, 0x77, 0, 0, 0, 0, 0, 0, 0, 0, 0, 0, 0, 0];
+    let mut now = device;
+    for report in [
+        offer_with(&[]),
+        offer_with(&[(0, &[1]), (2, &[0xFF])]),
+        offer_with(&[(0, &[2]), (2, &[0xFF])]),
+        offer_with(&[(0, &[3]), (2, &[0xFF])]),
+        offer_with(&[(0, &[2]), (2, &[0xFE])]),
+        notify,
+        notify,
+    ] {
+        now = now.offer(&staging, &report).0;
+        only_answers(now, &middle, 0);
+    }
+    assert_eq!(now, Device { owed: Some(0x77), ..device });
+    // Content checks 2 to 5, and rows D2 and D3.
+    let others = [
+        (block(0, 0, 2, 0), 0x0B),
+        (block(1, 4, 2, 0), 0x0B),
+        (block(FIRST, 4, 2, 0), 0x0B),
+        (block(0, 4, 3, 0), 0x0B),
+        (block(0, 4, 2, 61), 0x09),
+    ];
+    for (packet, status) in others {
+        only_answers(now, &packet, status);
+        only_answers(now, &middle, 0);
+    }
+    for (lent, report) in [(127, &middle[..]), (128, &middle[..59])] {
+        let (next, answer) = now.content(&mut staging[..lent], report);
+        assert_eq!(next, now);
+        assert!(matches!(answer, Answer::Refused(..)));
+    }
+    // The READY comes with the last block.
+    let (next, answer) = now.content(&mut staging, &block(LAST, 4, 2, 8));
+    assert!(matches!(answer, Answer::ReplyThenReady(..)));
+    assert_eq!(next, bench());
+}
+
+/// Of all previous sequences one alone stands before the next. What else the
+/// packet holds D1 does not ask.
+#[test]
+fn a4_d1_previous() {
+    for next in [0, 1, 2, 0xFF, 0x100, 0x1234, 65_534, 65_535] {
+        let before = next_to(next);
+        for sequence in 0..=65_535 {
+            let device = receiving(next, block(0, 4, sequence, 0));
+            let broken = device.version_reply().refused == Some(Refusal::D1);
+            assert_eq!(broken, sequence != before);
+        }
+        let off = [next, before.wrapping_sub(1), next.wrapping_add(1), before.swap_bytes() ^ 1];
+        for sequence in off {
+            for flags in [0, FIRST, LAST] {
+                let device = receiving(next, block(flags, 4, sequence, 0));
+                meets_d1(device);
+                meets_d1(Device { owed: Some(3), ..device });
+            }
+        }
+        let others =
+            [(0, 4, 0), (FIRST, 4, 0), (LAST, 4, 0), (255, 4, 0), (0, 0, 0), (0, 53, 0), (0, 1, 64)];
+        for (flags, length, address) in others {
+            let device = receiving(next, block(flags, length, before, address));
+            assert_eq!(device.version_reply().refused, None);
+            assert_eq!((device.reset().refused, device.reset().value), (None, bench()));
+        }
+    }
+    // Zeros have the sequence 0.
+    assert_eq!(receiving(1, [0; LONG]).version_reply().refused, None);
+    meets_d1(receiving(0, [0; LONG]));
+    meets_d1(receiving(2, [0; LONG]));
+}
+
+/// The sequence just before.
+fn next_to(next: u16) -> u16 {
+    ((next as u32 + 65_535) % 65_536) as u16
+}
+
+/// A record from outside may hold what no session took: a copy of it is
+/// judged in the order of the checks, and one with last was no middle block.
+#[test]
+fn a4_previous_from_outside() {
+    let cases = [
+        (block(0, 4, 6, 0), 0),
+        (block(0, 52, 6, 12), 0),
+        // 2.
+        (block(0, 0, 6, 0), 0x0B),
+        (block(0, 53, 6, 0), 0x0B),
+        (block(0x20, 4, 6, 0), 0x0B),
+        // 3 and 4.
+        (block(FIRST, 4, 6, 0), 0x0B),
+        (block(LAST, 4, 6, 0), 0x0B),
+        (block(FIRST | LAST, 4, 6, 0), 0x0B),
+        // 4 comes before 5.
+        (block(0, 4, 6, 61), 0),
+        (block(0, 1, 6, 0xFFFF_FFFF), 0),
+    ];
+    for (previous, status) in cases {
+        only_answers(receiving(7, previous), &previous, status);
+    }
+}
+
+/// Blank after set-up, an ACCEPT, code 0, a reset and the last block; while a
+/// session does not receive, its bytes are not looked at and stay.
+#[test]
+fn a4_previous_blank() {
+    let noise = [0xC3; LONG];
+    let code = |code| offer_with(&[(0, &[code]), (2, &[0xFF])]);
+    let none = [0; 128];
+    assert_eq!(bench().previous, [0; LONG]);
+    let idle = Device { previous: noise, ..bench() };
+    let waiting = Device { previous: noise, ..offered() };
+    let busy = receiving(7, block(0, 4, 6, 0));
+    // An ACCEPT.
+    assert_eq!(idle.offer(&none, &offer_with(&[])).0, offered());
+    for device in [idle, waiting, busy] {
+        // Code 0, and a reset.
+        assert_eq!(device.offer(&none, &code(0)).0, bench());
+        assert_eq!(device.reset().value, bench());
+        // Codes 1, 2 and an unknown one, and an unknown extended one.
+        for report in [code(1), code(2), code(3), offer_with(&[(0, &[9]), (2, &[0xFE])])] {
+            assert_eq!(device.offer(&none, &report).0, device);
+        }
+        assert_eq!(device.version_reply(), bench().version_reply());
+    }
+    // REJECT and SKIP, content while idle, READY; BUSY, and a READY owed.
+    for changes in [(12, &[1][..]), (4, &[0, 2, 0, 1]), (8, &[2, 2, 0, 1])] {
+        assert_eq!(idle.offer(&none, &offer_with(&[changes])).0, idle);
+    }
+    only_answers(idle, &noise, 0x0A);
+    only_answers(idle, &block(FIRST, 4, 0, 0), 0x0A);
+    let notify = [1, 0, 0xFE, 0x77, 0, 0, 0, 0, 0, 0, 0, 0, 0, 0, 0, 0];
+    assert_eq!(idle.offer(&none, &notify), (idle, bytes(&[(3, 0x77), (12, 4)])));
+    assert_eq!(waiting.offer(&none, &offer_with(&[])).0, waiting);
+    assert_eq!(waiting.offer(&none, &notify).0, Device { owed: Some(0x77), ..waiting });
+    // An offered session takes no copy: it has taken no block.
+    let held = Device { previous: block(0, 4, 6, 0), ..offered() };
+    only_answers(held, &block(0, 4, 6, 0), 0x0B);
+    // The last block: 0, 0x04, 0x05 and 0x07, from each session that is open.
+    let mut torn = image(1, Version(0x0100_0300), 64);
+    torn[63] ^= 1;
+    let images = [
+        (image(1, Version(0x0100_0300), 64), 0),
+        (image(2, Version(0x0100_0300), 64), 0x04),
+        (torn, 0x05),
+        (image(1, Version(0x0100_0100), 64), 0x07),
+    ];
+    for (sent, status) in images {
+        let (next, answer) = send(waiting, &mut [0; 128], &sent);
+        assert_eq!((next.previous, answer), ([0; LONG], answered(1, status)));
+    }
+    let (next, answer) = waiting.content(&mut [0; 128], &block(FIRST | LAST, 4, 0, 0));
+    assert_eq!((next, answer), (bench(), answered(0, 0x05)));
+    // A first block is held instead of what stood there.
+    let (next, _) = waiting.content(&mut [0; 128], &block(FIRST, 4, 0, 0));
+    assert_eq!(next.previous, block(FIRST, 4, 0, 0));
+}
+
+/// A bundle of one offer with records of a byte each.
+fn bundle_of_records(records: usize) -> Vec<u8> {
+    let one = Version(0x0100_0300);
+    bundle_of(&[(plain_offer(1, one, (0, 0)), body(&image(1, one, records), 1))])
+}
+
+fn sending(record: u32, passed: bool) -> Host {
+    Host { packets: 9, ..at(HostStage::Sending { entry: 0, record, passed }) }
+}
+
+fn content_status(sequence: u16, status: u8) -> [u8; SHORT] {
+    build_content_reply(&ContentReply { sequence, status }).value
+}
+
+/// Before a middle block and before the last: one such reply changes the flag
+/// alone; then the block's own reply goes on, and a second one is H2.
+#[test]
+fn a4_host_passes_over_one() {
+    let bundle = bundle_of_records(8);
+    for record in 1..8u32 {
+        let sequence = record as u16;
+        let before = content_status(sequence - 1, 0);
+        let mut noisy = [0xFF; SHORT];
+        noisy[..2].copy_from_slice(&before[..2]);
+        noisy[4] = 0;
+        for reply in [before, noisy] {
+            let stepped = sending(record, false).step(&bundle, &reply);
+            assert_eq!((stepped.packet, stepped.refused), (None, None));
+            assert_eq!(stepped.host, sending(record, true));
+            // The next step is as it were without.
+            let plain = sending(record, false).step(&bundle, &content_status(sequence, 0));
+            let after = stepped.host.step(&bundle, &content_status(sequence, 0));
+            assert_eq!(after, plain);
+            assert!(after.packet.is_some());
+            if record < 7 {
+                assert_eq!(after.host, Host { packets: 10, ..sending(record + 1, false) });
+            } else {
+                assert_eq!((after.host.mask, after.host.stage), (1, HostStage::Closing));
+            }
+            let failed = stepped.host.step(&bundle, &content_status(sequence, 9));
+            assert_eq!(failed.host.stage, HostStage::Ended(End::H1(9)));
+            // A second one.
+            let second = stepped.host.step(&bundle, &reply);
+            assert_eq!((second.packet, second.host.stage), (None, HostStage::Ended(End::H2)));
+            assert_eq!(second.host.packets, 9);
+        }
+    }
+}
+
+/// Not passed over: another status, sequence or length; and any while the
+/// first block's reply is awaited, whatever the flag.
+#[test]
+fn a4_host_passes_over_no_other() {
+    let bundle = bundle_of_records(8);
+    let ends = |host: Host, reply: &[u8]| {
+        let stepped = host.step(&bundle, reply);
+        let stage = HostStage::Ended(End::H2);
+        assert_eq!((stepped.host, stepped.packet), (Host { stage, ..host }, None));
+    };
+    for record in 1..8u32 {
+        for status in 1..=255 {
+            ends(sending(record, false), &content_status(record as u16 - 1, status));
+        }
+        for sequence in (0..=65_535).filter(|s| *s != record as u16 - 1 && *s != record as u16) {
+            ends(sending(record, false), &content_status(sequence, 0));
+        }
+        let before = content_status(record as u16 - 1, 0);
+        ends(sending(record, false), &before[..15]);
+        ends(sending(record, false), &[&before[..], &[0]].concat());
+        ends(sending(record, false), &[]);
+    }
+    for passed in [false, true] {
+        for sequence in 1..=65_535 {
+            ends(sending(0, passed), &content_status(sequence, 0));
+        }
+        let stepped = sending(0, passed).step(&bundle, &content_status(0, 0));
+        assert_eq!(stepped.host, Host { packets: 10, ..sending(1, false) });
+    }
+}
+
+/// N1 asks nothing of the flag and stands before it; what is passed over is
+/// not counted.
+#[test]
+fn a4_host_and_n1() {
+    let bundle = bundle_of_records(8);
+    let copy = content_status(6, 0);
+    for passed in [false, true] {
+        let stage = HostStage::Sending { entry: 1, record: 7, passed };
+        let many = Host { packets: 1 << 31, ..sending(7, passed) };
+        for host in [at(stage), sending(8, passed), many] {
+            let stepped = host.step(&bundle, &copy);
+            assert_eq!(stepped.refused, Some(Fault { row: Refusal::N1, entry: 0 }));
+            assert_eq!((stepped.host, stepped.packet), (host, None));
+        }
+    }
+    let most = Host { packets: (1 << 31) - 1, ..sending(7, false) };
+    let stepped = most.step(&bundle, &copy);
+    assert_eq!(stepped.host, Host { packets: (1 << 31) - 1, ..sending(7, true) });
+    let stepped = stepped.host.step(&bundle, &content_status(7, 0));
+    assert_eq!((stepped.refused, stepped.host.packets), (None, 1 << 31));
+}
+
+/// No bundle of today has so many records; the step itself knows no border.
+#[test]
+fn a4_host_sequence_from_65_535_to_0() {
+    let bytes = bundle_of_records(8);
+    let mut bundle = check(&bytes).unwrap();
+    let record = bundle.entries[0].records[0];
+    bundle.entries[0].records = vec![record; 65_540];
+    let cases = [(65_535, 65_534, 65_535), (65_536, 65_535, 0), (65_537, 0, 1), (65_538, 1, 2)];
+    for (record, before, own) in cases {
+        let stepped = sending(record, false).step_over(&bundle, &content_status(before, 0));
+        assert_eq!((stepped.host, stepped.packet), (sending(record, true), None));
+        let again = stepped.host.step_over(&bundle, &content_status(before, 0));
+        assert_eq!(again.host.stage, HostStage::Ended(End::H2));
+        let after = stepped.host.step_over(&bundle, &content_status(own, 0));
+        assert_eq!(after.host, Host { packets: 10, ..sending(record + 1, false) });
+    }
+}
+
+// Whole runs.
+
+/// Neither first nor last.
+fn is_middle(packet: &Packet) -> bool {
+    matches!(packet, Packet::ForContent(sent) if sent[0] & (FIRST | LAST) == 0)
+}
+
+/// Packets and first answers of a run.
+fn exchanged(run: &Run) -> Vec<(Packet, Answer)> {
+    run.trace.iter().map(|exchange| (exchange.packet, exchange.answer)).collect()
+}
+
+/// E12's offers with bodies of records of at most `most` bytes.
+fn e12_cut(most: usize) -> [(Offer, Vec<u8>); 2] {
+    let [(one, _), (two, _)] = e12();
+    [(one, body(&image(1, one.version, 64), most)), (two, body(&image(2, two.version, 64), most))]
+}
+
+/// Every middle block twice, in both orders: counts and all else as without,
+/// and every copy is answered with 0.
+#[test]
+fn a4_run_with_every_middle_block_twice() {
+    for (most, records) in [(22, 3), (16, 4), (5, 13), (1, 64)] {
+        let [one, two] = e12_cut(most);
+        for (offers, packets, passes) in [([one.clone(), two.clone()], 9, 2), ([two, one], 5, 1)] {
+            let bundle = bundle_of(&offers);
+            let mut staging = [0x33; 128];
+            let left = run_where(0x17, &bundle, bench(), &mut staging, |_, sent| is_middle(sent));
+            let report = left.report();
+            assert_eq!((report.end, report.completed), (Some(End::Done), 2));
+            assert_eq!((report.packets, report.passes), (packets + 2 * records, passes));
+            let copies: Vec<Answer> = left.trace.iter().filter_map(|sent| sent.again).collect();
+            assert_eq!(copies.len(), 2 * (records as usize - 2));
+            for exchange in left.trace.iter().filter(|sent| sent.again.is_some()) {
+                assert_eq!(exchange.again, Some(exchange.answer));
+            }
+            let mut plain_staging = [0x33; 128];
+            let plain = run(0x17, &bundle, bench(), &mut plain_staging);
+            assert_eq!((left.host, left.device), (plain.host, plain.device));
+            assert_eq!((exchanged(&left), staging), (exchanged(&plain), plain_staging));
+        }
+    }
+}
+
+/// Each middle block alone, by its bit of the pattern.
+#[test]
+fn a4_run_with_one_middle_block_twice() {
+    let bundle = bundle_of(&e12_cut(16));
+    let mut plain_staging = [0x33; 128];
+    let plain = run(0x17, &bundle, bench(), &mut plain_staging);
+    let mut tried = 0;
+    for number in (0..plain.trace.len()).filter(|n| is_middle(&plain.trace[*n].packet)) {
+        let mut staging = [0x33; 128];
+        let left = run_doubled(0x17, &bundle, bench(), &mut staging, 1 << number);
+        assert_eq!((left.host, left.device), (plain.host, plain.device));
+        assert_eq!((exchanged(&left), staging), (exchanged(&plain), plain_staging));
+        let again: Vec<bool> = left.trace.iter().map(|sent| sent.again.is_some()).collect();
+        assert_eq!(again, (0..left.trace.len()).map(|n| n == number).collect::<Vec<bool>>());
+        tried += 1;
+    }
+    assert_eq!(tried, 4);
+}
+
+/// A first block twice: the copy's 0x0B is no reply that is passed over, and
+/// the host ends with H2; the device keeps the session.
+#[test]
+fn a4_run_with_a_first_block_twice() {
+    let [one, two] = e12_cut(16);
+    let mut staging = [0x33; 128];
+    let left = run_doubled(0x17, &bundle_of(&[two, one]), bench(), &mut staging, 1 << 3);
+    assert_eq!(
+        told(&left),
+        ["code 0 1", "code 1 1", "offer 2 1 0", "content 80 0", "content 00 0"]
+    );
+    assert_eq!(left.trace[3].again, Some(answered(0, 0x0B)));
+    let report = left.report();
+    assert_eq!((report.end, report.packets, report.completed), (Some(End::H2), 5, 0));
+    assert!(matches!(left.device.stage, Stage::Receiving(open) if open.next == 2));
+}
+
+/// A last block twice: its copy is 0x0A, which the host meets in place of an
+/// offer reply: token 0, status 0. Another token than 0 gives H2.
+#[test]
+fn a4_run_with_a_last_block_twice() {
+    let [one, two] = e12_cut(16);
+    let bundle = bundle_of(&[two.clone(), one]);
+    let left = run_doubled(0x17, &bundle, bench(), &mut [0x33; 128], 1 << 6);
+    assert_eq!(left.trace[6].again, Some(answered(3, 0x0A)));
+    let report = left.report();
+    assert_eq!((report.end, report.packets, report.completed), (Some(End::H2), 8, 1));
+    // Token 0 reads it as a SKIP, which code 2 does not await.
+    let left = run_doubled(0, &bundle_of(&[two]), bench(), &mut [0x33; 128], 1 << 6);
+    let report = left.report();
+    assert_eq!((report.end, report.packets, report.completed), (Some(End::H3), 8, 1));
+}
+
+/// A finding, not a promise: with token 0 the copy of a last block is taken
+/// for a SKIP of the next offer, and each later reply for the one before it.
+/// Component 2's body then goes to component 1, whose judgement refuses it.
+#[test]
+fn a4_token_0_takes_a_last_blocks_copy_for_a_skip() {
+    let [one, two] = e12_cut(16);
+    let left = run_doubled(0, &bundle_of(&[two, one]), bench(), &mut [0x33; 128], 1 << 6);
+    assert_eq!(left.report().end, Some(End::H1(0x04)));
+    assert_eq!(left.device.components[0].staged, None);
+    assert_eq!(left.device.components[1].staged, Some(Version(0x0100_0200)));
+}
+
+/// Demand 3 where any of the blocks that are neither first nor last come
+/// twice, and the copies do not count.
+#[test]
+fn a4_demand_3_searched() {
+    let mut dice = Dice(20_260_404);
+    let mut copies = 0;
+    for _ in 0..4_000 {
+        let device = some_device(&mut dice);
+        let mut offers = some_offers(&mut dice, &device, 4);
+        let before: Vec<u8> = (0..128).map(|_| dice.below(256) as u8).collect();
+        for _order in 0..2 {
+            let bundle = bundle_of(&offers);
+            let (token, salt) = (dice.below(256) as u8, dice.below(3) as usize);
+            let twice = |number: usize, sent: &Packet| is_middle(sent) && (number + salt) % 3 < 2;
+            let mut staging = before.clone();
+            let left = run_where(token, &bundle, device, &mut staging, twice);
+            let mut plain_staging = before.clone();
+            let plain = run(token, &bundle, device, &mut plain_staging);
+            assert_eq!((left.host, left.device), (plain.host, plain.device));
+            assert_eq!((exchanged(&left), &staging), (exchanged(&plain), &plain_staging));
+            let set = smallest(&device, &offers);
+            assert_eq!((left.host.mask, left.report().end), (set, Some(End::Done)));
+            assert_eq!((left.device, staging), left_by(set, &device, &before, &offers));
+            copies += left.trace.iter().filter(|sent| sent.again.is_some()).count();
+            offers.reverse();
+        }
+    }
+    assert!(copies >= 10_000, "{copies}");
 }
 
 // --------------------------------------------------------------- packets
@@ -829,7 +1366,7 @@ fn host_h2_before_h1_and_h3() {
     let wrong_token = build_offer_reply(&OfferReply { token: 0x18, reason: 0, status: 9 }).value;
     let stepped = at(HostStage::Opening).step(&bundle, &wrong_token);
     assert_eq!(stepped.host.stage, HostStage::Ended(End::H2));
-    let sending = at(HostStage::Sending { entry: 0, record: 1 });
+    let sending = at(HostStage::Sending { entry: 0, record: 1, passed: false });
     let wrong = build_content_reply(&ContentReply { sequence: 0, status: 9 }).value;
     assert_eq!(sending.step(&bundle, &wrong).host.stage, HostStage::Ended(End::H2));
     let right = build_content_reply(&ContentReply { sequence: 1, status: 9 }).value;
@@ -847,8 +1384,8 @@ fn host_n1_clauses() {
     let bad = [
         at(HostStage::Offering { entry: 2, busy: 0 }),
         at(HostStage::Waiting { entry: 2, busy: 1 }),
-        at(HostStage::Sending { entry: 2, record: 0 }),
-        at(HostStage::Sending { entry: 1, record: 2 }),
+        at(HostStage::Sending { entry: 2, record: 0, passed: false }),
+        at(HostStage::Sending { entry: 1, record: 2, passed: false }),
         at(HostStage::Offering { entry: 0, busy: 9 }),
         at(HostStage::Waiting { entry: 0, busy: 9 }),
         Host { passes: 3, ..sound },
@@ -868,7 +1405,7 @@ fn host_n1_clauses() {
     }
     let good = [
         at(HostStage::Offering { entry: 1, busy: 8 }),
-        at(HostStage::Sending { entry: 1, record: 1 }),
+        at(HostStage::Sending { entry: 1, record: 1, passed: false }),
         Host { passes: 2, packets: (1 << 31) - 1, mask: 3, ..sound },
     ];
     for host in good {
@@ -930,6 +1467,8 @@ fn some_device(dice: &mut Dice) -> Device {
             1 => Stage::Offered(Offered { slot, token: 1 }),
             _ => Stage::Receiving(Receiving { slot, token: 1, next: 5 }),
         };
+        // Only a receiving session needs the packet before; others may hold it.
+        device.previous = block(0, 1, 4, 0);
         if device.stage != Stage::Idle && dice.below(2) == 0 {
             device.owed = Some(3);
         }
@@ -939,8 +1478,9 @@ fn some_device(dice: &mut Dice) -> Device {
 
 /// Offers with good bodies for the components that the device has, most of
 /// the running variant. Every second time all are newer than what can run and
-/// most need one another, so that many passes are run.
-fn some_offers(dice: &mut Dice, device: &Device) -> Vec<(Offer, Vec<u8>)> {
+/// most need one another, so that many passes are run. Records have at most
+/// so many bytes.
+fn some_offers(dice: &mut Dice, device: &Device, most_data: u32) -> Vec<(Offer, Vec<u8>)> {
     let chained = dice.below(2) == 0;
     let most = MOST as u8;
     let mut ids: Vec<u8> = if chained { (1..=most).collect() } else { (1..=most + 2).collect() };
@@ -970,7 +1510,7 @@ fn some_offers(dice: &mut Dice, device: &Device) -> Vec<(Offer, Vec<u8>)> {
             Some(component) => component.region.length as usize,
             None => 10,
         };
-        offers.push((offer, body(&image(id, version, length), 1 + dice.below(20) as usize)));
+        offers.push((offer, body(&image(id, version, length), 1 + dice.below(most_data) as usize)));
     }
     offers
 }
@@ -1020,6 +1560,7 @@ fn left_by(set: u32, device: &Device, staging: &[u8], offers: &[(Offer, Vec<u8>)
     let mut staging = staging.to_vec();
     device.stage = Stage::Idle;
     device.owed = None;
+    device.previous = [0; LONG];
     for (index, (offer, _)) in offers.iter().enumerate() {
         if set & (1 << index) == 0 {
             continue;
@@ -1041,7 +1582,7 @@ fn demand_3_searched() {
     let mut other_variants = 0;
     for _ in 0..20_000 {
         let device = some_device(&mut dice);
-        let mut offers = some_offers(&mut dice, &device);
+        let mut offers = some_offers(&mut dice, &device, 20);
         let before: Vec<u8> = (0..128).map(|_| dice.below(256) as u8).collect();
         for _order in 0..2 {
             let bundle = bundle_of(&offers);

@@ -26,7 +26,9 @@ pub enum Stage {
     Listing,
     Offering { entry: u8, busy: u8 },
     Waiting { entry: u8, busy: u8 },
-    Sending { entry: u8, record: u32 },
+    /// A4: `passed` says that since this record went out a second reply to
+    /// the one before it came and was passed over.
+    Sending { entry: u8, record: u32, passed: bool },
     Closing,
     Ended(End),
 }
@@ -151,8 +153,8 @@ impl Host {
         }
     }
 
-    /// One step. It judges: bundle rows, N1, ended, fresh, H2, then H1 or
-    /// the table.
+    /// One step. It judges: bundle rows, N1, ended, fresh, H2 by length, A4's
+    /// second reply, H2 by token or sequence, then H1 or the table.
     pub fn step(self, bundle: &[u8], reply: &[u8]) -> Stepped {
         match check(bundle) {
             Err(fault) => self.refuse(fault),
@@ -170,8 +172,14 @@ impl Host {
             Stage::Ended(_) => Stepped { host: self, refused: None, packet: None },
             // The first step awaits no reply: code 0.
             Stage::Fresh => self.send_information(START_TRANSACTION, Stage::Opening),
-            _ if self.breaks_h2(reply) => self.ending(End::H2),
-            Stage::Sending { entry, record } => self.after_content(bundle, entry, record, reply),
+            _ if reply.len() != SHORT => self.ending(End::H2),
+            Stage::Sending { entry, record, passed: false } if repeats(record, reply) => {
+                self.pass_over(entry, record)
+            }
+            _ if self.not_ours(reply) => self.ending(End::H2),
+            Stage::Sending { entry, record, .. } => {
+                self.after_content(bundle, entry, record, reply)
+            }
             _ => self.after_offer(bundle, reply),
         }
     }
@@ -197,7 +205,7 @@ impl Host {
             Stage::Offering { entry, .. } | Stage::Waiting { entry, .. } => {
                 entry as usize >= bundle.entries.len()
             }
-            Stage::Sending { entry, record } => match bundle.entries.get(entry as usize) {
+            Stage::Sending { entry, record, .. } => match bundle.entries.get(entry as usize) {
                 None => true,
                 Some(found) => record as usize >= found.records.len(),
             },
@@ -213,17 +221,20 @@ impl Host {
         }
     }
 
-    /// H2: reply not 16 bytes, or token or sequence not ours.
-    fn breaks_h2(&self, reply: &[u8]) -> bool {
-        if reply.len() != SHORT {
-            return true;
-        }
+    /// H2, of a reply of 16 bytes: token or sequence not ours.
+    fn not_ours(&self, reply: &[u8]) -> bool {
         match self.stage {
             Stage::Sending { record, .. } => {
                 read_content_reply(reply).value.sequence != sequence_of(record)
             }
             _ => read_offer_reply(reply).value.token != self.token,
         }
+    }
+
+    /// A4: nothing is sent or counted, and the same reply is still awaited.
+    fn pass_over(self, entry: u8, record: u32) -> Stepped {
+        let stage = Stage::Sending { entry, record, passed: true };
+        Stepped { host: Host { stage, ..self }, refused: None, packet: None }
     }
 
     /// A reply to content: H1, the next record, or the offer is completed.
@@ -345,8 +356,17 @@ impl Host {
             data,
         })
         .value;
-        self.sending(Packet::ForContent(packet), Stage::Sending { entry, record })
+        let stage = Stage::Sending { entry, record, passed: false };
+        self.sending(Packet::ForContent(packet), stage)
     }
+}
+
+/// A4: the reply that let this record follow the one before it, as far as a
+/// reply is read: that record's sequence, and status 0. The first record of a
+/// body followed none.
+fn repeats(record: u32, reply: &[u8]) -> bool {
+    let read = read_content_reply(reply).value;
+    record > 0 && read.sequence == sequence_of(record - 1) && read.status == 0
 }
 
 /// Sequence from 0: the record's number modulo 65,536.

@@ -4,7 +4,7 @@
 use crate::device::{
     Component, Device, Listed, Offered, Receiving, Region, Stage, StagingOffset,
 };
-use crate::packets::MOST;
+use crate::packets::{LONG, MOST};
 use crate::version::Version;
 
 /// Kind, payload and the rest; nothing at the end or at a cut frame.
@@ -27,15 +27,25 @@ impl Numbers<'_> {
         self.number(2) as u16
     }
     pub fn four(&mut self) -> u32 {
-        self.number(4)
+        self.number(4) as u32
     }
-    fn number(&mut self, bytes: usize) -> u32 {
-        let mut value = 0u32;
+    pub fn eight(&mut self) -> u64 {
+        self.number(8)
+    }
+    fn number(&mut self, bytes: usize) -> u64 {
+        let mut value = 0u64;
         for at in (0..bytes).rev() {
-            value = value * 256 + self.rest[at] as u32;
+            value = value * 256 + self.rest[at] as u64;
         }
         self.rest = &self.rest[bytes..];
         value
+    }
+    /// A content packet's bytes as they stand.
+    fn packet(&mut self) -> [u8; LONG] {
+        let mut packet = [0; LONG];
+        packet.copy_from_slice(&self.rest[..LONG]);
+        self.rest = &self.rest[LONG..];
+        packet
     }
 }
 
@@ -61,6 +71,7 @@ pub fn read_record(numbers: &mut Numbers) -> Device {
     };
     let (owes, owed_token) = (numbers.one(), numbers.one());
     let owed = if owes == 1 { Some(owed_token) } else { None };
+    let previous = numbers.packet();
     let mut components = [Component::default(); MOST];
     for component in components.iter_mut() {
         let listed = read_listed(numbers);
@@ -72,7 +83,7 @@ pub fn read_record(numbers: &mut Numbers) -> Device {
             staged: if pending == 1 { Some(version) } else { None },
         };
     }
-    Device { platform, staging, count, components, stage, owed }
+    Device { platform, staging, count, components, stage, owed, previous }
 }
 
 pub fn hex(bytes: &[u8]) -> String {
@@ -88,6 +99,9 @@ pub fn record_line(device: &Device) -> String {
         stage_text(device.stage),
         owed_text(device.owed)
     );
+    if device.previous != [0; LONG] {
+        line += &format!(", previous {}", hex(&device.previous));
+    }
     for component in device.listed() {
         line += &format!("; {}", component_text(component));
     }

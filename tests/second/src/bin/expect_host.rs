@@ -45,25 +45,21 @@ fn read_host(payload: &[u8]) -> Host {
     let token = numbers.one();
     let kind = numbers.one();
     let (a, b) = (numbers.four(), numbers.four());
-    Host {
-        token,
-        stage: read_stage(kind, a, b),
-        mask: numbers.four(),
-        packets: numbers.four(),
-        passes: numbers.four(),
-        skipped: numbers.one() == 1,
-        landed: numbers.one() == 1,
-    }
+    let (mask, packets, passes) = (numbers.four(), numbers.four(), numbers.four());
+    let (skipped, landed) = (numbers.one() == 1, numbers.one() == 1);
+    let passed = numbers.one() == 1;
+    Host { token, stage: read_stage(kind, a, b, passed), mask, packets, passes, skipped, landed }
 }
 
-fn read_stage(kind: u8, a: u32, b: u32) -> Stage {
+/// `passed` belongs to the sending stage alone.
+fn read_stage(kind: u8, a: u32, b: u32, passed: bool) -> Stage {
     match kind {
         0 => Stage::Fresh,
         1 => Stage::Opening,
         2 => Stage::Listing,
         3 => Stage::Offering { entry: byte(a), busy: byte(b) },
         4 => Stage::Waiting { entry: byte(a), busy: byte(b) },
-        5 => Stage::Sending { entry: byte(a), record: b },
+        5 => Stage::Sending { entry: byte(a), record: b, passed },
         6 => Stage::Closing,
         _ => Stage::Ended(read_end(a, b)),
     }
@@ -105,7 +101,7 @@ fn record_text(host: &Host) -> String {
         Stage::Listing => "listing".to_string(),
         Stage::Offering { entry, busy } => format!("offering {entry} busy {busy}"),
         Stage::Waiting { entry, busy } => format!("waiting {entry} busy {busy}"),
-        Stage::Sending { entry, record } => format!("sending {entry} block {record}"),
+        Stage::Sending { entry, record, .. } => format!("sending {entry} block {record}"),
         Stage::Closing => "closing".to_string(),
         Stage::Ended(End::Done) => "done".to_string(),
         Stage::Ended(End::H1(status)) => format!("H1 status {status}"),
@@ -113,13 +109,15 @@ fn record_text(host: &Host) -> String {
         Stage::Ended(End::H3) => "H3".to_string(),
         Stage::Ended(End::H4) => "H4".to_string(),
     };
+    let passed = matches!(host.stage, Stage::Sending { passed: true, .. });
     format!(
-        "{stage}, token {:02x}, mask {:08x}, packets {}, passes {}{}{}",
+        "{stage}, token {:02x}, mask {:08x}, packets {}, passes {}{}{}{}",
         host.token,
         host.mask,
         host.packets,
         host.passes,
         if host.skipped { ", skipped" } else { "" },
-        if host.landed { ", landed" } else { "" }
+        if host.landed { ", landed" } else { "" },
+        if passed { ", passed" } else { "" }
     )
 }

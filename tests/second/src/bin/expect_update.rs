@@ -10,7 +10,7 @@ use second::bundle::{check, Fault};
 use second::device::{Answer, Device};
 use second::host::{End, Host, Packet};
 use second::refusal::Refusal;
-use second::run::run;
+use second::run::{run, run_doubled, Run};
 use second::script::{hex, next_frame, read_record, record_line, Numbers};
 
 fn main() -> std::io::Result<()> {
@@ -20,10 +20,12 @@ fn main() -> std::io::Result<()> {
     let mut out = Vec::new();
     let mut rest = &script[..];
     while let Some((kind, payload, after)) = next_frame(rest) {
-        if kind == b'#' {
-            out.extend(payload);
-        } else {
-            out.extend(case(payload, turns).as_bytes());
+        match kind {
+            b'#' => out.extend(payload),
+            // Only the turns have a run in which packets come twice.
+            b'T' if !turns => {}
+            b'T' => out.extend(doubled(payload).as_bytes()),
+            _ => out.extend(case(payload, turns).as_bytes()),
         }
         rest = after;
     }
@@ -42,10 +44,7 @@ fn case(payload: &[u8], turns: bool) -> String {
     if turns {
         let left = run(token, bundle, device, &mut staging);
         last = left.device;
-        let _ = writeln!(text, "{}", record_line(&device));
-        for exchange in &left.trace {
-            let _ = writeln!(text, "{}: {}", packet_text(&exchange.packet), answer_text(&exchange.packet, &exchange.answer));
-        }
+        text += &turns_text(&device, &left);
     } else if let Some(row) = refused(&device, bundle) {
         let _ = writeln!(text, "{row}; {}", report(&Host::fresh(token)));
     } else {
@@ -54,6 +53,33 @@ fn case(payload: &[u8], turns: bool) -> String {
         let _ = writeln!(text, "{}", report(&left.host));
     }
     let _ = writeln!(text, "{}\nstaging {}", record_line(&last), hex(&staging));
+    text
+}
+
+/// A run in which packets come twice: token, fill byte, pattern, the record,
+/// the bundle. The turns, the report, and what they leave.
+fn doubled(payload: &[u8]) -> String {
+    let mut numbers = Numbers { rest: payload };
+    let (token, fill, pattern) = (numbers.one(), numbers.one(), numbers.eight());
+    let device = read_record(&mut numbers);
+    let mut staging = vec![fill; device.staging as usize];
+    let left = run_doubled(token, numbers.rest, device, &mut staging, pattern);
+    let mut text = turns_text(&device, &left);
+    let _ = writeln!(text, "{}", report(&left.host));
+    let _ = writeln!(text, "{}\nstaging {}", record_line(&left.device), hex(&staging));
+    text
+}
+
+/// The record at the start, and each packet with its reply or its two.
+fn turns_text(device: &Device, left: &Run) -> String {
+    let mut text = record_line(device) + "\n";
+    for exchange in &left.trace {
+        let packet = packet_text(&exchange.packet);
+        let _ = writeln!(text, "{packet}: {}", answer_text(&exchange.packet, &exchange.answer));
+        if let Some(again) = &exchange.again {
+            let _ = writeln!(text, "{packet}, again: {}", answer_text(&exchange.packet, again));
+        }
+    }
     text
 }
 

@@ -4,7 +4,7 @@ use mathlib.Core.Path.{_≡_, refl, sym, ap, subst, _∙_}
 use mathlib.Core.Logic.{_⊎_, inl, inr}
 use mathlib.Core.Bool.{Bool, true, false, false≢true}
 use mathlib.Core.List.{List}
-use Prim.Native.Nat.{ℕ, zero, suc, _+_, _<_}
+use Prim.Native.Nat.{ℕ, zero, suc, _+_, _≤_, _<_}
 use native.Mathlib.Omega.{arith}
 use Rattle.bundle_layout.specs.Layout.{countIn}
 use Rattle.bundle_layout.specs.Rows as bundle
@@ -23,7 +23,7 @@ use Rattle.update.specs.Run.{boundOf}
 use Rattle.wire.specs.Checks.{All}
 use Rattle.update.specs.Ends.{hostSteps, Built, HostEnds}
 use Rattle.update.proofs.Packets.{all-built}
-use Rattle.update.proofs.Ready.{Ready, Goes, goes, step-moves, fresh-ready, owed-step}
+use Rattle.update.proofs.Ready.{Ready, Goes, stepsLeft, goes, step-moves, fresh-ready, fresh-steps, owed-step}
 
 -- a stage that has ended is an end
 is-end : (g : HostStage) → hasEnded g ≡ true → (e : End) × (g ≡ Ended e)
@@ -32,7 +32,7 @@ is-end Opening h = absurd (false≢true h)
 is-end Listing h = absurd (false≢true h)
 is-end (Offering t) h = absurd (false≢true h)
 is-end (Waiting t) h = absurd (false≢true h)
-is-end (Sending p) h = absurd (false≢true h)
+is-end (Sending a) h = absurd (false≢true h)
 is-end Closing h = absurd (false≢true h)
 is-end (Ended e) h = (e, refl)
 
@@ -64,7 +64,7 @@ module _ (b : List ℕ) (token : ℕ) (replies : ℕ → List ℕ) (α : Accepte
   step-at k = step-moves b α s (hostAt k) (replies k) (ready-at k)
 
   -- what each move leaves
-  goes-at : (k : ℕ) → Goes b (hostAt k .packets) (moveAt k)
+  pub goes-at : (k : ℕ) → Goes b (stepsLeft b (hostAt k .passes) (hostAt k .stage)) (moveAt k)
   goes-at k = goes b α (hostAt k) (replies k) (ready-at k)
 
   -- the next record is what the move leaves
@@ -76,19 +76,19 @@ module _ (b : List ℕ) (token : ℕ) (replies : ℕ → List ℕ) (α : Accepte
   pub ended-at : (k : ℕ) → hasEnded (hostAt k .stage) ≡ true → hostAt (suc k) ≡ hostAt k
   ended-at k e = next-at k ∙ ap (λ (m : Move). m .host) (stays (hostAt k .stage) (countIn b) (lastIn b (hostAt k .stage)) (hostAt k) (replies k) e)
 
-  -- after k steps: an end, or k packets
+  -- after k steps: an end, or at most as many steps left as the bound has more than k
   Counts : (k : ℕ) → Host → Type 0
-  Counts k h = (hasEnded (h .stage) ≡ true) ⊎ (h .packets ≡ k)
+  Counts k h = (hasEnded (h .stage) ≡ true) ⊎ (stepsLeft b (h .passes) (h .stage) + k ≤ boundOf b)
 
   -- so it is after every number of steps
   counts-at : (k : ℕ) → Counts k (hostAt k)
   unfolding hostSteps Counts
-  counts-at zero = inr refl
-  counts-at (suc k) = subst (Counts (suc k)) (sym (next-at k)) (go (counts-at k) (goes-at k .counted))
+  counts-at zero = inr (omega (arith, fresh-steps b α))
+  counts-at (suc k) = subst (Counts (suc k)) (sym (next-at k)) (go (counts-at k) (goes-at k .fewer))
     where
-      go : (hasEnded (hostAt k .stage) ≡ true) ⊎ (hostAt k .packets ≡ k)
-          → (hasEnded (moveAt k .host .stage) ≡ true) ⊎ (moveAt k .host .packets ≡ hostAt k .packets + 1)
-          → (hasEnded (moveAt k .host .stage) ≡ true) ⊎ (moveAt k .host .packets ≡ suc k)
+      go : (hasEnded (hostAt k .stage) ≡ true) ⊎ (stepsLeft b (hostAt k .passes) (hostAt k .stage) + k ≤ boundOf b)
+          → (hasEnded (moveAt k .host .stage) ≡ true) ⊎ (stepsLeft b (moveAt k .host .passes) (moveAt k .host .stage) < stepsLeft b (hostAt k .passes) (hostAt k .stage))
+          → (hasEnded (moveAt k .host .stage) ≡ true) ⊎ (stepsLeft b (moveAt k .host .passes) (moveAt k .host .stage) + suc k ≤ boundOf b)
       go (inl e) c = inl (ap (λ (m : Move). hasEnded (m .host .stage)) (stays (hostAt k .stage) (countIn b) (lastIn b (hostAt k .stage)) (hostAt k) (replies k) e) ∙ e)
       go (inr e) (inl c) = inl c
       go (inr e) (inr c) = inr (omega arith)
@@ -99,7 +99,7 @@ module _ (b : List ℕ) (token : ℕ) (replies : ℕ → List ℕ) (α : Accepte
   ends-at true e c = e
   ends-at false e (inl c) = c
   ends-at false e (inr c) =
-      absurd (omega (arith, ready-at (boundOf b) .room, owed-step b α (hostAt (boundOf b) .stage) e))
+      absurd (omega (arith, owed-step b α (hostAt (boundOf b) .passes) (hostAt (boundOf b) .stage) (ready-at (boundOf b) .stage) e))
 
   -- every packet is one that a builder answers
   built-at : (k : ℕ) → All Built (stepOf b (hostAt k) (replies k) .sent)

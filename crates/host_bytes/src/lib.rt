@@ -131,12 +131,7 @@ pub fn read_host(b: &[u8]) -> Host
     let landed = words::byte_at(b, LANDED_AT);
     let passed = words::byte_at(b, PASSED_AT);
     if (b.len() == HOST_SIZE) & are_flags(number, first, skipped, landed, passed) {
-        let stage = stage_in(
-            number,
-            first,
-            words::word32_at(b, SECOND_AT),
-            passed == 1,
-        );
+        let stage = stage_in(number, first, words::word32_at(b, SECOND_AT), passed == 1);
         Host {
             token: words::byte_at(b, TOKEN_AT),
             stage,

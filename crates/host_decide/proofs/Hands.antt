@@ -42,8 +42,10 @@ module _ (n : ℕ) (last : Bool) (h : Host) (reply : List ℕ) where
   handed (Offering t) =
       offering-cases (Handed (Offering t)) n h reply (stops (Offering t)) t refl (λ status. offers (Offering t) (t .entry + 1) (noted h status)) (λ m. tt)
   handed (Waiting t) = waiting-cases (Handed (Waiting t)) n h reply (stops (Waiting t)) t tt
-  handed (Sending p) =
-      sending-cases (Handed (Sending p)) n last p h reply (λ u. stops (Sending p)) (λ u v. offers (Sending p) (p .entry + 1) (completes h (p .entry))) (λ u v. refl)
+  handed (Sending a) =
+      sending-cases (Handed (Sending a)) n last a h reply (λ u. stops (Sending a)) (λ u v. tt)
+      (λ u v. offers (Sending a) (a .place .entry + 1) (completes h (a .place .entry)))
+      (λ u v. refl)
   handed Closing = closing-cases (Handed Closing) n h reply (stops Closing) (λ u. tt)
   handed (Ended e) = tt
 

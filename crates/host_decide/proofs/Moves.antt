@@ -1,27 +1,30 @@
 -- What a host may do on a reply, by its stage: a fact of every move that the table allows is a fact of the move that is decided. Assumes nothing.
 use mathlib.Core.Path.{_≡_, refl}
-use mathlib.Core.Bool.{Bool, true, false, not, cond, _&&_, _||_}
+use mathlib.Core.Bool.{Bool, true, false, not, cond, _&&_}
 use mathlib.Core.List.{List, []}
-use Prim.Native.Nat.{ℕ, zero, suc, _+_, _<_}
+use Prim.Native.Nat.{ℕ, zero, suc, _+_, _≤_, _<_}
 use native.Mathlib.Omega.{arith}
-use borrow.Author.Tests.{ltb-true}
-use lib.Dec.{ltb, eqb}
+use borrow.Author.Tests.{ltb-true, leb-true, not-true}
+use lib.Dec.{ltb, leb, eqb}
 use lib.ListN.{length, getD}
 use Rattle.wire.specs.Codes.{SUCCESS, INFO-END-OFFER-LIST}
+use Rattle.wire.proofs.Tests.{both}
 use Rattle.wire_offer.specs.Reply as offerReply
 use Rattle.wire_content.specs.Reply.{replyIn}
+use Rattle.wire_content.specs.declared.reply.ContentReply.{ContentReply}
 use Rattle.host_decide.specs.Decide as host
 use Rattle.host_record.specs.Fits.{BUSY-LIMIT}
 use Rattle.host_table.specs.Table.{table, classOf}
 use Rattle.host_record.specs.Record.{sequenceOf}
-use Rattle.host_decide.specs.Decide.{sends, ends, list, offerFrom, noted, completes, replays, act, noTurn, foreignOffer, hears, goesOn, hearsBlock}
+use Rattle.host_decide.specs.Decide.{sends, ends, list, offerFrom, noted, completes, replays, sendBlock, act, noTurn, foreignOffer, hears, repeatsTaken, passOver, goesOn, hearsBlock}
 use Rattle.host_record.specs.declared.record.Host.{Host}
 use Rattle.host_record.specs.declared.record.Turn.{Turn}
 use Rattle.host_record.specs.declared.record.Place.{Place}
-use Rattle.host_record.specs.declared.record.HostStage.the-variants.{Offering, Waiting, Sending, Closing}
+use Rattle.host_record.specs.declared.record.Awaited.{Awaited}
+use Rattle.host_record.specs.declared.record.HostStage.the-variants.{Offering, Waiting, Closing}
 use Rattle.host_record.specs.declared.record.End.{End}
 use Rattle.host_record.specs.declared.record.End.the-variants.{Foreign, Status}
-use Rattle.host_decide.specs.declared.Action.the-variants.{Information, Notify, Offer, Block}
+use Rattle.host_decide.specs.declared.Action.the-variants.{Information, Notify, Offer}
 use Rattle.host_decide.specs.declared.Move.{Move}
 
 -- a fact of both sides of a test
@@ -80,7 +83,7 @@ module _ (Q : Move → Type 0) (n : ℕ) (h : Host) (reply : List ℕ) (stops : 
 
   -- the reply to an offer
   pub offering-cases : (t : Turn)
-      → Q (sends h (Sending (record { entry = t .entry; block = 0 })) (Block (record { entry = t .entry; block = 0 })))
+      → Q (sendBlock (record { entry = t .entry; block = 0 }) h)
       → ((s : ℕ) → Q (offerFrom n (t .entry + 1) (noted h s)))
       → (t .busy < BUSY-LIMIT → Q (sends h (Waiting (record { entry = t .entry; busy = t .busy + 1 })) Notify))
       → Q (hears 2 n t h reply)
@@ -101,25 +104,36 @@ module _ (Q : Move → Type 0) (n : ℕ) (h : Host) (reply : List ℕ) (stops : 
   closing-cases f =
       hears-cases 4 noTurn (λ s. stops _) (λ s. by-test Q (replays n h) _ _ f (λ e. stops _)) (λ s. stops _) (λ s. stops _) (λ s. stops _) (λ s. stops _)
 
+-- a reply is passed over only past block 0, and only once
+repeated : (a : Awaited) (r : ContentReply) → repeatsTaken a r ≡ true → (1 ≤ a .place .block) × (a .passed ≡ false)
+repeated a r e =
+    let w = both (leb 1 (a .place .block)) (not (a .passed)) (both _ _ e .0) in (leb-true 1 (a .place .block) (w .0), not-true (a .passed) (w .1))
+
 -- the reply to a block
-pub sending-cases : (Q : Move → Type 0) (n : ℕ) (last : Bool) (p : Place) (h : Host) (reply : List ℕ)
-    → (isTaken p reply ≡ false → (e : End) → Q (ends h e))
-    → (isTaken p reply ≡ true → last ≡ true → Q (offerFrom n (p .entry + 1) (completes h (p .entry))))
-    → (isTaken p reply ≡ true → last ≡ false
-    → Q (sends h (Sending (record { entry = p .entry; block = p .block + 1 })) (Block (record { entry = p .entry; block = p .block + 1 }))))
-    → Q (hearsBlock n last p h reply)
+pub sending-cases : (Q : Move → Type 0) (n : ℕ) (last : Bool) (a : Awaited) (h : Host) (reply : List ℕ)
+    → (isTaken (a .place) reply ≡ false → (e : End) → Q (ends h e))
+    → (1 ≤ a .place .block → a .passed ≡ false → Q (passOver (a .place) h))
+    → (isTaken (a .place) reply ≡ true → last ≡ true → Q (offerFrom n (a .place .entry + 1) (completes h (a .place .entry))))
+    → (isTaken (a .place) reply ≡ true → last ≡ false → Q (sendBlock (record { entry = a .place .entry; block = a .place .block + 1 }) h))
+    → Q (hearsBlock n last a h reply)
 unfolding hearsBlock
-sending-cases Q n last p h reply stops ends goes =
-    go (eqb (length reply) 16) (eqb (replyIn reply .sequence) (sequenceOf (p .block))) (eqb (replyIn reply .status) SUCCESS) last stops ends goes
+sending-cases Q n last a h reply stops passes ends goes =
+    let r = replyIn reply in
+    go (eqb (length reply) 16) (repeatsTaken a r) (eqb (r .sequence) (sequenceOf (a .place .block))) (eqb (r .status) SUCCESS) last stops
+    (λ e. let w = repeated a r e in passes (w .0) (w .1))
+    ends goes
   where
-    go : (x y z last : Bool)
+    go : (x t y z last : Bool)
         → ((x && (y && z)) ≡ false → (e : End) → Q (host.ends h e))
-        → ((x && (y && z)) ≡ true → last ≡ true → Q (offerFrom n (p .entry + 1) (completes h (p .entry))))
-        → ((x && (y && z)) ≡ true → last ≡ false
-        → Q (sends h (Sending (record { entry = p .entry; block = p .block + 1 })) (Block (record { entry = p .entry; block = p .block + 1 }))))
-        → Q (cond (not x || not y) (host.ends h Foreign) (cond z (goesOn n last p h) (host.ends h (Status (replyIn reply .status)))))
-    go false y z last f g k = f refl Foreign
-    go true false z last f g k = f refl Foreign
-    go true true false last f g k = f refl _
-    go true true true true f g k = g refl refl
-    go true true true false f g k = k refl refl
+        → (t ≡ true → Q (passOver (a .place) h))
+        → ((x && (y && z)) ≡ true → last ≡ true → Q (offerFrom n (a .place .entry + 1) (completes h (a .place .entry))))
+        → ((x && (y && z)) ≡ true → last ≡ false → Q (sendBlock (record { entry = a .place .entry; block = a .place .block + 1 }) h))
+        → Q (cond (not x) (host.ends h Foreign)
+        (cond t (passOver (a .place) h)
+        (cond (not y) (host.ends h Foreign) (cond z (goesOn n last (a .place) h) (host.ends h (Status (replyIn reply .status)))))))
+    go false t y z last f o g k = f refl Foreign
+    go true true y z last f o g k = o refl
+    go true false false z last f o g k = f refl Foreign
+    go true false true false last f o g k = f refl _
+    go true false true true true f o g k = g refl refl
+    go true false true true false f o g k = k refl refl

@@ -33,6 +33,7 @@ use Rattle.host_decide.specs.declared.Action.{Action}
 use Rattle.host_decide.specs.declared.Action.the-variants as action
 use Rattle.host_decide.specs.declared.Move.{Move}
 use Rattle.host_record.specs.declared.fits.Body.{Body}
+use Rattle.host_record.specs.Record.{sentAt}
 use Rattle.host_record.specs.Fits.{BUSY-LIMIT, PACKET-LIMIT, turnBreaks, placeBreaks, stageBreaks, recordBreaks, lastOf, listedAt, recordsOn, bodyOf, inHand}
 use Rattle.host_decide.specs.Decide.{ends, offerFrom, noted, completes, decideIn, decideOf, decisionOf}
 use Rattle.host_packet.specs.Packet.{blockBytes}
@@ -71,7 +72,7 @@ module _ (n : ℕ) (f g : ℕ → ℕ) (same : (i : ℕ) → i < n → f i ≡ g
   stage-same Listing = refl
   stage-same (Offering t) = refl
   stage-same (Waiting t) = refl
-  stage-same (Sending p) = place-same p
+  stage-same (Sending a) = place-same (a .place)
   stage-same Closing = refl
   stage-same (Ended e) = refl
 
@@ -81,7 +82,7 @@ module _ (n : ℕ) (f g : ℕ → ℕ) (same : (i : ℕ) → i < n → f i ≡ g
   last-same Listing h = refl
   last-same (Offering t) h = refl
   last-same (Waiting t) h = refl
-  last-same (Sending p) h = rw (same (p .entry) (leb-false n (p .entry) (neither (leb n (p .entry)) _ h .0)))
+  last-same (Sending a) h = let i = a .place .entry in rw (same i (leb-false n i (neither (leb n i) _ h .0)))
   last-same Closing h = refl
   last-same (Ended e) h = refl
 
@@ -90,7 +91,7 @@ abbrev pub checked : List ℕ → ℕ → Body
 checked b i = bodyOf (checkOf b) i
 
 -- a block in hand is of an entry and a record that the bundle has
-pub place-inside : (b : List ℕ) (p : Place) → badStage b (Sending p) ≡ false → (p .entry < countIn b) × (p .block < recordsAt b (p .entry))
+pub place-inside : (b : List ℕ) (p : Place) → badStage b (Sending (sentAt p)) ≡ false → (p .entry < countIn b) × (p .block < recordsAt b (p .entry))
 place-inside b p w =
     let q = neither (leb (countIn b) (p .entry)) _ w in
     let r = neither (leb OFFER-LIMIT (p .entry)) (leb (recordsAt b (p .entry)) (p .block)) (q .1) in
@@ -135,21 +136,18 @@ module _ (b : List ℕ) (α : Accepted b) (s : bundle.bundleRow b ≡ bundle.ser
   pub first-stood : (cursor i : ℕ) → i < countIn b → Stood cursor (record { entry = i; block = 0 })
   first-stood cursor i l = record { below = omega arith; reads = ap (λ (e : Entry). recordsOf (between b (e .offset) (e .offset + e .length))) (listed-is i l) ∙ body-reads i l }
 
-  next-stood : (cursor : ℕ) (p : Place) → CursorIn b (Sending p) cursor → Stood cursor (record { entry = p .entry; block = p .block + 1 })
+  next-stood : (cursor : ℕ) (p : Place) → CursorIn b (Sending (sentAt p)) cursor → Stood cursor (record { entry = p .entry; block = p .block + 1 })
   next-stood cursor p h =
       let e = ne-eqb (p .block + 1) 0 (λ z. omega arith) in
       record { below = rw e (h .0); reads = rw (e, add-one (p .block)) (h .1) }
 
-  -- an action that the bundle has the bytes for, and the stage that it leaves
-  abbrev Still : HostStage → Type 0
-  Still g = (x : ℕ) → CursorIn b g x
-
+  -- an action that the bundle has the bytes for, and the stage that it leaves: the cursor stays right, or the block's record stands at it
   abbrev Fine : (cursor : ℕ) → Action → HostStage → Type 0
-  Fine cursor action.Nothing g = Still g
-  Fine cursor (action.Information code) g = Still g
-  Fine cursor action.Notify g = Still g
-  Fine cursor (action.Offer e) g = (e < countIn b) × Still g
-  Fine cursor (action.Block p) g = (g ≡ Sending p) × (p .entry < countIn b) × (p .block < recordsAt b (p .entry)) × Stood cursor p
+  Fine cursor action.Nothing g = CursorIn b g cursor
+  Fine cursor (action.Information code) g = CursorIn b g cursor
+  Fine cursor action.Notify g = CursorIn b g cursor
+  Fine cursor (action.Offer e) g = (e < countIn b) × CursorIn b g cursor
+  Fine cursor (action.Block p) g = (g ≡ Sending (sentAt p)) × (p .entry < countIn b) × (p .block < recordsAt b (p .entry)) × Stood cursor p
 
   -- what the action sends is the step's packet, and the cursor is right
   abbrev Same : (after : Host) → Action → InnerStep → Type 0
@@ -160,17 +158,17 @@ module _ (b : List ℕ) (α : Accepted b) (s : bundle.bundleRow b ≡ bundle.ser
     abbrev made : Action → InnerStep
     made a = madeOf b (checked b hand) cursor before after a
 
-    offer-same : (e : ℕ) → e < countIn b → Still (after .stage) → Same after (action.Offer e) (made (action.Offer e))
+    offer-same : (e : ℕ) → e < countIn b → CursorIn b (after .stage) cursor → Same after (action.Offer e) (made (action.Offer e))
     unfolding laidOf packetOf
-    offer-same e l still =
+    offer-same e l k =
         let t : tableEnd (e + 1) ≤ length b = omega (arith, α .table) in
-        let k : 16 ≤ ENTRY = omega arith in
-        rw (le-leb (tableEnd (e + 1)) (length b) t, α .places e l, take-take 16 ENTRY (drop (tableEnd e) b) k) (refl, still cursor)
+        let m : 16 ≤ ENTRY = omega arith in
+        rw (le-leb (tableEnd (e + 1)) (length b) t, α .places e l, take-take 16 ENTRY (drop (tableEnd e) b) m) (refl, k)
 
     block-by : (p : Place) → p .entry < countIn b → (r : Next)
         → Goes b (recordStart (checked b (p .entry)) cursor (p .block)) (checked b (p .entry) .end) (blockAt b p) (drop (suc (p .block)) (blocksAt b (p .entry))) r
         → (stepOfLaid (laidRecord b (checked b (p .entry)) cursor p r) before after .step ≡ moved b (record { action = action.Block p; host = after }))
-        × CursorIn b (Sending p) (laidRecord b (checked b (p .entry)) cursor p r .cursor)
+        × CursorIn b (Sending (sentAt p)) (laidRecord b (checked b (p .entry)) cursor p r .cursor)
     unfolding packetOf
     block-by p l next.End h = absurd h
     block-by p l next.Bad h = absurd h
@@ -182,9 +180,9 @@ module _ (b : List ℕ) (α : Accepted b) (s : bundle.bundleRow b ≡ bundle.ser
 
     made-same : (a : Action) → OfEntry hand a → Fine cursor a (after .stage) → Same after a (made a)
     unfolding laidOf packetOf
-    made-same action.Nothing o f = (refl, f cursor)
-    made-same (action.Information code) o f = (refl, f cursor)
-    made-same action.Notify o f = (refl, f cursor)
+    made-same action.Nothing o f = (refl, f)
+    made-same (action.Information code) o f = (refl, f)
+    made-same action.Notify o f = (refl, f)
     made-same (action.Offer e) o f = offer-same e (f .0) (f .1)
     made-same (action.Block p) o f =
         let at = recordStart (checked b (p .entry)) cursor (p .block) in
@@ -200,10 +198,10 @@ module _ (b : List ℕ) (α : Accepted b) (s : bundle.bundleRow b ≡ bundle.ser
     FineMove m = Fine cursor (m .action) (m .host .stage)
 
     stops : (e : End) → FineMove (ends h e)
-    stops e = λ x. tt
+    stops e = tt
 
     offers : (e : ℕ) (g : Host) → FineMove (offerFrom (countIn b) e g)
-    offers e g = offer-cases FineMove (countIn b) e g (λ l. (l, λ x. tt)) (λ x. tt)
+    offers e g = offer-cases FineMove (countIn b) e g (λ l. (l, tt)) tt
 
     turn-inside : (t : Turn) → turnBreaks (countIn b) t ≡ false → t .entry < countIn b
     turn-inside t w = leb-false (countIn b) (t .entry) (neither (leb (countIn b) (t .entry)) (ltb BUSY-LIMIT (t .busy)) w .0)
@@ -211,20 +209,21 @@ module _ (b : List ℕ) (α : Accepted b) (s : bundle.bundleRow b ≡ bundle.ser
     fine-by : (g : HostStage) → h .stage ≡ g → badStage b g ≡ false → CursorIn b g cursor
         → FineMove (decideIn g (countIn b) (lastIn b g) h reply)
     unfolding decideIn
-    fine-by Fresh z w k = λ x. tt
-    fine-by Opening z w k = opening-cases FineMove (countIn b) h reply stops (λ x. tt)
+    fine-by Fresh z w k = tt
+    fine-by Opening z w k = opening-cases FineMove (countIn b) h reply stops tt
     fine-by Listing z w k = listing-cases FineMove (countIn b) h reply stops (offers 0 h)
     fine-by (Offering t) z w k =
         let l = turn-inside t w in
         offering-cases FineMove (countIn b) h reply stops t (refl, l, α .records (t .entry) l, first-stood cursor (t .entry) l)
-        (λ status. offers (t .entry + 1) (noted h status)) (λ m x. tt)
-    fine-by (Waiting t) z w k = waiting-cases FineMove (countIn b) h reply stops t (turn-inside t w, λ x. tt)
-    fine-by (Sending p) z w k =
+        (λ status. offers (t .entry + 1) (noted h status)) (λ m. tt)
+    fine-by (Waiting t) z w k = waiting-cases FineMove (countIn b) h reply stops t (turn-inside t w, tt)
+    fine-by (Sending a) z w k =
+        let p = a .place in
         let i = place-inside b p w in
-        sending-cases FineMove (countIn b) (isLast b p) p h reply (λ u. stops) (λ u v. offers (p .entry + 1) (completes h (p .entry)))
+        sending-cases FineMove (countIn b) (isLast b p) a h reply (λ u. stops) (λ u v. k) (λ u v. offers (p .entry + 1) (completes h (p .entry)))
         (λ u v. (refl, i .0, omega (arith, i .1, eqb-false (p .block + 1) (recordsAt b (p .entry)) v), next-stood cursor p k))
-    fine-by Closing z w k = closing-cases FineMove (countIn b) h reply stops (λ u x. tt)
-    fine-by (Ended e) z w k = λ x. subst (λ (g : HostStage). CursorIn b g x) (sym z) tt
+    fine-by Closing z w k = closing-cases FineMove (countIn b) h reply stops (λ u. tt)
+    fine-by (Ended e) z w k = subst (λ (g : HostStage). CursorIn b g cursor) (sym z) tt
 
     -- what is decided over the contents is what is decided over the bundle
     breaks-is : recordBreaks (checkOf b .count) (recordsOn (checkOf b) (inHand (h .stage))) h ≡ breaksN1 b h

@@ -55,8 +55,9 @@ cursor-found b bytes s Opening w = tt
 cursor-found b bytes s Listing w = tt
 cursor-found b bytes s (Offering t) w = tt
 cursor-found b bytes s (Waiting t) w = tt
-cursor-found b bytes s (Sending p) w =
+cursor-found b bytes s (Sending a) w =
     let α = accepted b bytes s in
+    let p = a .place in
     let i = place-inside b p w in
     let o = first-stood b α s 0 (p .entry) (i .0) in
     rw (← add-one (p .block)) (left b _ (end-inside b α s (p .entry) (i .0)) (p .block + 1) _ (blocksAt b (p .entry)) (o .below, o .reads) (omega arith))

@@ -32,7 +32,7 @@ module _ (n k : ℕ) (few : n < 256) (fits : k < 2 ^ 32) where
   stage-spare Listing h = tt
   stage-spare (Offering t) h = turn-room t h
   stage-spare (Waiting t) h = turn-room t h
-  stage-spare (Sending p) h = place-room p h
+  stage-spare (Sending a) h = place-room (a .place) h
   stage-spare Closing h = tt
   stage-spare (Ended e) h = tt
 

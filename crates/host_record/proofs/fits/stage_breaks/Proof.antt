@@ -10,7 +10,7 @@ waiting : tie.Need-returns-5
 waiting c = rw (c .before .before .stage2 .given .1) (c .turn-breaks2 .ensures)
 
 sending : tie.Need-returns-6
-sending c = rw (c .before .before .stage3 .given .1) (c .place-breaks .ensures)
+sending c = rw (c .before .before .before .stage3 .given .1) (c .place-breaks .ensures)
 
 pub stage-breaks-spec : {M : Type 1} → statement M
 stage-breaks-spec =

@@ -1,12 +1,12 @@
 -- What the device reads in the offers and blocks of the host. Assumes nothing.
 use Prim.Native.Nat.{ℕ, _+_, _^_, _≤_, _<_}
 use mathlib.Core.Path.{_≡_, refl, ap}
-use mathlib.Core.Bool.{Bool, true, false, cond}
+use mathlib.Core.Bool.{Bool, true, false, not, cond, _||_}
 use mathlib.Core.List.{List, [], _∷_, _++_}
 use native.Mathlib.Nat.{mod-lt}
 use native.Mathlib.Omega.{arith}
 use borrow.Author.Tests.{ne-eqb, le-leb, le-ltb}
-use lib.Dec.{leb, eqb}
+use lib.Dec.{leb, ltb, eqb}
 use lib.ListN.{length, getD, set, take, drop, length-set}
 use lib.Seq.{take-append-seam}
 use Rattle.wire.specs.Codes.{KIND-INFORMATION, KIND-EXTENDED, FLAG-FIRST-BLOCK, FLAG-LAST-BLOCK, ID-LIMIT}
@@ -25,6 +25,7 @@ use Rattle.device.proofs.Blocks.{Fitting}
 use Rattle.host_record.specs.Record.{sequenceOf}
 use Rattle.host.specs.Step.{entryAt, isLast, flagsAt, blockAt, blockPacket}
 use Rattle.host_record.specs.declared.record.Place.{Place}
+use Rattle.update.specs.Run.{isMiddle}
 use Rattle.update.specs.Claim.{offerAt}
 use Rattle.host_packet.proofs.Flags.{flags-sound, flags-last}
 use Rattle.update.proofs.Packets.{offerPacket, offer-packet, offer-id}
@@ -59,6 +60,13 @@ flags-first true true = refl
 flags-first true false = refl
 flags-first false true = refl
 flags-first false false = refl
+
+-- neither flag
+flags-none : (x y : Bool) → ltb (cond x FLAG-FIRST-BLOCK 0 + cond y FLAG-LAST-BLOCK 0) FLAG-LAST-BLOCK ≡ not (x || y)
+flags-none true true = refl
+flags-none true false = refl
+flags-none false true = refl
+flags-none false false = refl
 
 -- the data that counts is the record's
 data-back : (bytes zeros : List ℕ) → take (length bytes) (cleared (length bytes) (bytes ++ zeros)) ≡ bytes
@@ -99,6 +107,16 @@ module _ (b : List ℕ) where
   -- its last flag
   pub block-is-last : (p : Place) → device.isLast (headAt p) ≡ isLast b p
   block-is-last p = flags-last (eqb (p .block) 0) (isLast b p)
+
+  -- its sequence
+  pub block-sequence : (p : Place) → headIn (blockPacket b p) .sequence ≡ sequenceOf (p .block)
+  unfolding contentBytes
+  block-sequence p = round 2 (sequenceOf (p .block)) (mod-lt (p .block) (omega arith))
+
+  -- a block is neither first nor last exactly where it has neither flag
+  pub block-middle : (p : Place) → length (blockPacket b p) ≡ 60 → isMiddle (blockPacket b p) ≡ not (eqb (p .block) 0 || isLast b p)
+  unfolding contentBytes
+  block-middle p l = rw l (flags-none (eqb (p .block) 0) (isLast b p))
 
   module _ (α : Accepted b) where
     -- the offer of an entry, with our token

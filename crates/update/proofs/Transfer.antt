@@ -69,7 +69,7 @@ drop-rest [] (suc k) x xs e = cc
 drop-rest (a ∷ l) zero x xs e = cc
 drop-rest (a ∷ l) (suc k) x xs e = drop-rest l k x xs e
 
-module _ (b : List ℕ) (α : Accepted b) (t : ℕ) (small : t < 256) (d : Device) (ps : List Component) (slot e : ℕ) (l : e < countIn b) where
+module _ (b : List ℕ) (twice : Schedule) (α : Accepted b) (t : ℕ) (small : t < 256) (d : Device) (ps : List Component) (slot e : ℕ) (l : e < countIn b) where
   -- the region of the slot
   abbrev r : Region
   r = componentAt ps slot .fixed .region
@@ -77,6 +77,15 @@ module _ (b : List ℕ) (α : Accepted b) (t : ℕ) (small : t < 256) (d : Devic
   -- block k of the body
   abbrev pub spot : ℕ → Place
   spot k = record { entry = e; block = k }
+
+  -- the packet that the session holds while it waits for block k
+  abbrev pub before : ℕ → List ℕ
+  before zero = blankPacket
+  before (suc k) = blockPacket b (spot k)
+
+  -- the device whose session waits for it
+  abbrev pub waits : ℕ → Device
+  waits k = held d ps (awaits slot t k) (before k)
 
   -- the buffer after block k, if it is x
   abbrev next : (k : ℕ) → Block → List ℕ → List ℕ
@@ -101,28 +110,50 @@ module _ (b : List ℕ) (α : Accepted b) (t : ℕ) (small : t < 256) (d : Devic
   pub record Opens : Type 0 where
     pub len : componentAt ps slot .fixed .region .len < 256 ^ 4
     pub room : componentAt ps slot .fixed .region .base .0 + componentAt ps slot .fixed .region .len ≤ d .«staging_len»
-    pub d1 : (k : ℕ) → breaksD1 (held d ps (awaits slot t k)) ≡ false
+    pub d1 : (k : ℕ) → breaksD1 (held d ps (awaits slot t k) (before k)) ≡ false
 
   module _ (o : Opens) (m q : ℕ) (sk la : Bool) where
-    -- block k is on its way
-    abbrev pub blocking : (k packets : ℕ) → (s : List ℕ) → List Exchange → System
-    blocking k p s trace = afterPacket (blockPacket b (spot k)) (hostAs t (Sending (spot k)) m p q sk la) (held d ps (awaits slot t k)) s trace
+    -- block k arrives twice, sent after this list
+    abbrev doubled : (k : ℕ) → List Exchange → Bool
+    doubled k trace = isMiddle (blockPacket b (spot k)) && twice (length trace)
+
+    -- the host that awaits its reply, after one was passed over or not
+    abbrev host : (passed : Bool) → (k packets : ℕ) → Host
+    host passed k p = hostAs t (Sending (record { place = spot k; passed = passed })) m p q sk la
+
+    -- block k arrives, with these replies on their way
+    abbrev pub blocking : (passed : Bool) → (k packets : ℕ) → (s : List ℕ) → (replies : List (List ℕ)) → List Exchange → System
+    blocking passed k p s replies trace = arriving (doubled k trace) (blockPacket b (spot k)) (host passed k p) (waits k) s replies trace
 
     module _ (k : ℕ) (i : k < length (blocksAt b e)) (s : List ℕ) (d2 : length s ≡ d .«staging_len») where
       -- D1 and D2 let the block pass
-      sound : Sound (held d ps (awaits slot t k)) s
+      sound : Sound (waits k) s
       sound = record { d1 = o .d1 k; d2 = d2 }
 
       -- it is 60 bytes long
       size : length (blockPacket b (spot k)) ≡ 60
       size = block-length b α (spot k) l i
 
-      -- a block goes to the content entry, and is answered
-      pub block-answered : Answered (answerTo (blockPacket b (spot k)) (held d ps (awaits slot t k)) s)
-      block-answered = rw (eq-60 size) (answers-block (held d ps (awaits slot t k)) s (blockPacket b (spot k)) sound refl size)
-        where
-          eq-60 : length (blockPacket b (spot k)) ≡ 60 → eqb (length (blockPacket b (spot k))) 16 ≡ false
-          eq-60 z = ne-eqb (length (blockPacket b (spot k))) 16 (λ w. omega arith)
+      -- so it goes to the content entry
+      to-content : channelOf (blockPacket b (spot k)) ≡ Content
+      to-content = rw (ne-eqb (length (blockPacket b (spot k))) 16 (λ w. omega (arith, size)))
+
+      -- and is answered
+      block-answered : Answered (answerTo (blockPacket b (spot k)) (waits k) s)
+      block-answered = rw to-content (answers-block (waits k) s (blockPacket b (spot k)) sound refl size)
+
+      -- the first is no middle one
+      pub first-plain : k ≡ 0 → isMiddle (blockPacket b (spot k)) ≡ false
+      first-plain z = block-middle b (spot k) size ∙ rw (eq-eqb k 0 z)
+
+      -- so it is served
+      pub first-serves : k ≡ 0 → Serves b twice (blockPacket b (spot k)) (waits k) s
+      first-serves z = serves-plain b twice (first-plain z) block-answered
+
+      -- what is a middle one
+      module _ (middle : isMiddle (blockPacket b (spot k)) ≡ true) where
+        apart : (eqb k 0 ≡ false) × (isLast b (spot k) ≡ false)
+        apart = neither (eqb k 0) (isLast b (spot k)) (not-true _ (sym (block-middle b (spot k) size) ∙ middle))
 
       module _ (inside : blockAt b (spot k) .address .0 + length (blockAt b (spot k) .bytes) ≤ r .len) (s′ : List ℕ)
           (becomes : next k (blockAt b (spot k)) s ≡ s′) where
@@ -146,53 +177,94 @@ module _ (b : List ℕ) (α : Accepted b) (t : ℕ) (small : t < 256) (d : Devic
             ∙ becomes
 
         -- so the buffer is s′ afterwards
-        staging-is : serveStaging (held d ps (awaits slot t k)) (channelOf (blockPacket b (spot k))) s (blockPacket b (spot k)) ≡ s′
+        staging-is : leftBy (blockPacket b (spot k)) (waits k) s ≡ s′
         staging-is =
-            rw (ne-eqb (length (blockPacket b (spot k))) 16 (λ w. omega (arith, size)))
-            (block-staging d ps slot t (headAt b (spot k)) s (blockPacket b (spot k)) size reads k fits sound ∙ puts-it)
+            rw to-content
+            (block-staging d ps slot t (headAt b (spot k)) (before k) s (blockPacket b (spot k)) size reads k fits sound ∙ puts-it)
+
+        -- a block that is not the last is answered, and the session waits for the next
+        answer-is : isLast b (spot k) ≡ false → answerTo (blockPacket b (spot k)) (waits k) s ≡ answeredWith (taken k) owed.Nothing (waits (suc k))
+        answer-is z =
+            rw to-content
+            (block-next d ps slot t (headAt b (spot k)) (before k) s (blockPacket b (spot k)) size reads k fits sound (block-is-last b (spot k) ∙ z))
+
+        -- the buffer keeps its length
+        module _ (d2′ : length s′ ≡ d .«staging_len») where
+          -- D1 and D2 let its copy pass
+          sound-again : Sound (waits (suc k)) s′
+          sound-again = record { d1 = o .d1 (suc k); d2 = d2′ }
+
+          -- its copy gets the same reply, and changes nothing
+          copy-is : isMiddle (blockPacket b (spot k)) ≡ true
+              → (answerTo (blockPacket b (spot k)) (waits (suc k)) s′ ≡ answeredWith (taken k) owed.Nothing (waits (suc k)))
+              × (leftBy (blockPacket b (spot k)) (waits (suc k)) s′ ≡ s′)
+          copy-is z =
+              let a = apart z in
+              let f = fits .first ∙ a .0 in
+              let n = block-is-last b (spot k) ∙ a .1 in (
+                rw to-content (block-again d ps slot t (headAt b (spot k)) s′ (blockPacket b (spot k)) size reads k fits sound-again f n),
+                rw to-content (again-staging d ps slot t (headAt b (spot k)) s′ (blockPacket b (spot k)) size reads k fits sound-again f n),
+              )
+
+          -- it arrives, once or twice
+          block-arrives : (trace : List Exchange) → isLast b (spot k) ≡ false
+              → Arrives (doubled k trace) (blockPacket b (spot k)) (waits k) (waits (suc k)) s s′ (taken k)
+          block-arrives trace z = record {
+            answer = answer-is z;
+            bytes = staging-is;
+            copy = λ w. copy-is (both (isMiddle (blockPacket b (spot k))) _ w .0);
+          }
+
+          -- so it is served
+          block-serves : Serves b twice (blockPacket b (spot k)) (waits k) s
+          block-serves = record {
+            answered = block-answered;
+            repeats = λ z. let a = answer-is (apart z .1) in let w = copy-is z in
+                record { answer = rw (a, staging-is) (w .0); bytes = rw (a, staging-is) (w .1) };
+          }
 
         -- the answer to a block
-        heard-by : (p : ℕ) (x : Bool) → isLast b (spot k) ≡ x
-            → decideOf (countIn b) (isLast b (spot k)) (hostAs t (Sending (spot k)) m p q sk la) (taken k)
-            ≡ goesOn (countIn b) x (spot k) (hostAs t (Sending (spot k)) m p q sk la)
-        heard-by p x z =
-            hears-taken (countIn b) (isLast b (spot k)) (hostAs t (Sending (spot k)) m p q sk la) (spot k)
-            ∙ ap (λ (y : Bool). goesOn (countIn b) y (spot k) (hostAs t (Sending (spot k)) m p q sk la)) z
+        heard-by : (passed : Bool) (p : ℕ) (x : Bool) → isLast b (spot k) ≡ x
+            → decideOf (countIn b) (isLast b (spot k)) (host passed k p) (taken k) ≡ goesOn (countIn b) x (spot k) (host passed k p)
+        heard-by passed p x z =
+            hears-taken (countIn b) (isLast b (spot k)) (host passed k p) (record { place = spot k; passed = passed })
+            ∙ ap (λ (y : Bool). goesOn (countIn b) y (spot k) (host passed k p)) z
 
         -- a block that is not the last
-        x-mid : (p : ℕ) (trace : List Exchange) → isLast b (spot k) ≡ false
-            → Answered (answerTo (blockPacket b (spot (suc k))) (held d ps (awaits slot t (suc k))) s′)
-            → Goes b (blocking k p s trace)
-            (afterPacket (blockPacket b (spot (suc k))) (hostAs t (Sending (spot (suc k))) m (p + 1) q sk la) (held d ps (awaits slot t (suc k))) s′ (trace ++ (said (blockPacket b (spot k)) (taken k) ∷ [])))
+        x-mid : (passed : Bool) (p : ℕ) (trace : List Exchange) → length s′ ≡ d .«staging_len» → isLast b (spot k) ≡ false
+            → Serves b twice (blockPacket b (spot (suc k))) (waits (suc k)) s′
+            → Goes b twice (blocking passed k p s [] trace)
+            (blocking false (suc k) (p + 1) s′ (copies (doubled k trace) (taken k)) (trace ++ (said (blockPacket b (spot k)) (taken k) ∷ [])))
         unfolding packetOf
-        x-mid p trace z f =
-            turn b (blockPacket b (spot k)) (blockPacket b (spot (suc k))) (hostAs t (Sending (spot k)) m p q sk la) (hostAs t (Sending (spot (suc k))) m (p + 1) q sk la)
-            (held d ps (awaits slot t k)) (held d ps (awaits slot t (suc k))) s s′ (taken k) trace
-            (rw (ne-eqb (length (blockPacket b (spot k))) 16 (λ w. omega (arith, size)))
-            (block-next d ps slot t (headAt b (spot k)) s (blockPacket b (spot k)) size reads k fits sound (block-is-last b (spot k) ∙ z)))
-            staging-is
-            (ap (λ (x : Move). moved b x .sent) (heard-by p false z) ∙ ap (λ (n : ℕ). blockPacket b (spot n) ∷ []) (add-one k))
-            (ap (λ (x : Move). x .host) (heard-by p false z) ∙ ap (λ (n : ℕ). hostAs t (Sending (spot n)) m (p + 1) q sk la) (add-one k))
-            f
+        x-mid passed p trace d2′ z f =
+            turn b twice (doubled k trace) _ (blockPacket b (spot k)) (blockPacket b (spot (suc k))) (host passed k p) (host false (suc k) (p + 1))
+            (waits k) (waits (suc k)) s s′ (taken k) trace (block-arrives d2′ trace z) refl
+            (ap (λ (x : Move). moved b x .sent) (heard-by passed p false z) ∙ ap (λ (n : ℕ). blockPacket b (spot n) ∷ []) (add-one k))
+            (ap (λ (x : Move). x .host) (heard-by passed p false z) ∙ ap (λ (n : ℕ). host false n (p + 1)) (add-one k))
+            refl f
 
         -- the last block of a right image
-        x-last : (p : ℕ) (trace : List Exchange) (img : List ℕ) (v : Version) → isLast b (spot k) ≡ true → regionBytes r s′ ≡ img → isRight img ≡ true
+        x-last : (passed : Bool) (p : ℕ) (trace : List Exchange) (img : List ℕ) (v : Version) → isLast b (spot k) ≡ true → regionBytes r s′ ≡ img → isRight img ≡ true
             → imageId img ≡ componentAt ps slot .fixed .id → imageVersion img ≡ v → imageVersionFits (componentAt ps slot) v ≡ true
             → Sound (idleWith d (set ps slot (withStaged (componentAt ps slot) v))) s′
-            → Goes b (blocking k p s trace)
-            (turning b α t small d (suc e) (withBit m e) (p + 1) q sk true (set ps slot (withStaged (componentAt ps slot) v)) s′ (trace ++ (said (blockPacket b (spot k)) (taken k) ∷ [])))
-        x-last p trace img v z w right id version new sound′ =
-            turn b (blockPacket b (spot k)) (turnPacket b α t small (suc e)) (hostAs t (Sending (spot k)) m p q sk la)
-            (hostAs t (turnStage b α t small (suc e)) (withBit m e) (p + 1) q sk true)
-            (held d ps (awaits slot t k)) (idleWith d (set ps slot (withStaged (componentAt ps slot) v))) s s′ (taken k) trace
-            (rw (ne-eqb (length (blockPacket b (spot k))) 16 (λ y. omega (arith, size)))
-            (block-last d ps slot t (headAt b (spot k)) s (blockPacket b (spot k)) size reads k fits sound img v (block-is-last b (spot k) ∙ z) (ap (regionBytes r) puts-it ∙ w) right id version new))
-            staging-is
-            (ap (λ (x : Move). moved b x .sent) (heard-by p true z) ∙ turn-sent b α t small (e + 1) (Sending (spot k)) (withBit m e) p q sk true
-            ∙ ap (λ (n : ℕ). turnPacket b α t small n ∷ []) (add-one e))
-            (ap (λ (x : Move). x .host) (heard-by p true z) ∙ turn-host b α t small (e + 1) (Sending (spot k)) (withBit m e) p q sk true
-            ∙ ap (λ (n : ℕ). hostAs t (turnStage b α t small n) (withBit m e) (p + 1) q sk true) (add-one e))
-            (turn-answered b α t small (suc e) (idleWith d (set ps slot (withStaged (componentAt ps slot) v))) s′ sound′)
+            → Goes b twice (blocking passed k p s [] trace)
+            (turning b twice α t small d (suc e) (withBit m e) (p + 1) q sk true (set ps slot (withStaged (componentAt ps slot) v)) s′ (trace ++ (said (blockPacket b (spot k)) (taken k) ∷ [])))
+        x-last passed p trace img v z w right id version new sound′ =
+            rw (block-middle b (spot k) size ∙ rw (z, or-true (eqb k 0)))
+            (turn b twice false false (blockPacket b (spot k)) (turnPacket b twice α t small (suc e)) (host passed k p)
+            (hostAs t (turnStage b twice α t small (suc e)) (withBit m e) (p + 1) q sk true)
+            (waits k) (idleWith d (set ps slot (withStaged (componentAt ps slot) v))) s s′ (taken k) trace
+            (arrives-once
+            (rw to-content
+            (block-last d ps slot t (headAt b (spot k)) (before k) s (blockPacket b (spot k)) size reads k fits sound img v (block-is-last b (spot k) ∙ z) (ap (regionBytes r) puts-it ∙ w) right id version new))
+            staging-is)
+            refl
+            (ap (λ (x : Move). moved b x .sent) (heard-by passed p true z) ∙ turn-sent b twice α t small (e + 1) (Sending (record { place = spot k; passed = passed })) (withBit m e) p q sk true
+            ∙ ap (λ (n : ℕ). turnPacket b twice α t small n ∷ []) (add-one e))
+            (ap (λ (x : Move). x .host) (heard-by passed p true z) ∙ turn-host b twice α t small (e + 1) (Sending (record { place = spot k; passed = passed })) (withBit m e) p q sk true
+            ∙ ap (λ (n : ℕ). hostAs t (turnStage b twice α t small n) (withBit m e) (p + 1) q sk true) (add-one e))
+            (rw (turn-plain b twice α t small (suc e)))
+            (turn-serves b twice α t small (suc e) (idleWith d (set ps slot (withStaged (componentAt ps slot) v))) s′ sound′))
 
     -- the region before a block, and after it
     ground-length : (k : ℕ) (s : List ℕ) → length s ≡ d .«staging_len» → length (groundOf k (r .len) (regionBytes r s)) ≡ r .len

@@ -3,7 +3,7 @@ use mathlib.Core.Bool.{_&&_}
 use mathlib.Core.List.{List}
 use Prim.Native.Nat.{ℕ, _+_}
 use native.Mathlib.Omega.{arith}
-use lib.ListN.{length, take, drop}
+use lib.ListN.{length, take}
 use Rattle.wire.specs.Bytes.{Bytes}
 use Rattle.wire.specs.declared.address.RegionAddress.{RegionAddress}
 use Rattle.image.specs.Region.{placeOf, isInside, holds, within, regionBytes, blank, put, eraseOf, writeOf}

@@ -13,14 +13,13 @@ use Rattle.device_component.specs.Record.{listed}
 use Rattle.device_component.specs.Setup.{isRefused, rowOf, setupVerdict}
 use Rattle.device_component.specs.declared.record.Listed.{Listed}
 use Rattle.device_component.specs.declared.setup.SetupVerdict.{SetupVerdict}
-use Rattle.device_session.specs.Stage.{atSlot, atToken, following, isReceiving}
+use Rattle.device_session.specs.Stage.{atSlot, atToken, following}
 use Rattle.device_session.specs.declared.stage.Stage.{Stage}
 use Rattle.device_session.specs.declared.stage.Stage.the-variants.{Receiving}
 use Rattle.device_session.proofs.sound.Laws.{keeps}
 use Rattle.device_receiving.specs.Content as receiving
 use Rattle.device_receiving.specs.Content.{isFirst, isLast, isCopy, badShape}
 use Rattle.device_receiving.specs.Receive.{goesOn, onBlock}
-use Rattle.device_receiving.specs.declared.checks.ContentVerdict.{ContentVerdict}
 use Rattle.device_receiving.specs.declared.checks.ContentVerdict.the-variants.{Answer, Take}
 use Rattle.device_receiving.proofs.checks.Laws.{ContentSays, content-says, copies, again-says}
 use Rattle.device_receiving.proofs.content.Laws.{kept, packet-held}

@@ -1,8 +1,4 @@
 -- `content::on_block` meets its contract: the end of the image, or one sequence on. Assumes nothing.
-use mathlib.Core.Path.{_≡_}
-use mathlib.Core.Bool.{Bool}
-use Rattle.wire_content.specs.Head.{headIn}
-use Rattle.device_receiving.specs.Content.{isLast}
 use Rattle.device_receiving.specs.Receive.{onBlock}
 use Rattle.wire.proofs.Chain.{by}
 use borrow.Author.Needs.{needs}

@@ -3,10 +3,9 @@ use mathlib.Core.Path.{_≡_, refl}
 use mathlib.Core.List.{List}
 use Prim.Native.Nat.{ℕ}
 use native.Mathlib.Omega.{arith}
-use lib.ListN.{length, drop}
+use lib.ListN.{length}
 use Rattle.wire.specs.Checks.{firstOf, any}
 use Rattle.wire_offer.specs.Kind.{Kind, offer, information, extended, kindIn}
-use Rattle.wire_content.specs.Head.{headIn}
 use Rattle.device_component.specs.Setup.{setupVerdict}
 use Rattle.device_session.specs.Sound as sound
 use Rattle.device_receiving.specs.Receive.{onContent}
@@ -45,14 +44,14 @@ module _ (row : Row) (d : Device) (answer : Outcome) where
 pub content-served : (d : Device) (staging report : List ℕ) → contentEntry d staging report .row ≡ served → refusalOf 60 d (length staging) (length report) ≡ served
 unfolding contentEntry
 content-served d staging report e =
-    served-row (refusalOf 60 d (length staging) (length report)) d (received d (onContent (sessionComponent d) (d .session) (headIn report) (drop 8 report) staging)) e
+    served-row (refusalOf 60 d (length staging) (length report)) d (received d (onContent (sessionComponent d) (d .session) report staging)) e
 
 pub refused-changes-nothing : RefusedChangesNothing
 unfolding serveEntry serveStaging offerEntry contentEntry contentStaging
 refused-changes-nothing d Offer staging report k e =
     let r = refused-row (refusalOf 16 d (length staging) (length report)) d (onKind d (kindIn report)) k (kind-served d (kindIn report)) e in (rw r, refl)
 refused-changes-nothing d Content staging report k e =
-    let r = refused-row (refusalOf 60 d (length staging) (length report)) d (received d (onContent (sessionComponent d) (d .session) (headIn report) (drop 8 report) staging)) k refl e in
+    let r = refused-row (refusalOf 60 d (length staging) (length report)) d (received d (onContent (sessionComponent d) (d .session) report staging)) k refl e in
     (rw r, rw r)
 
 pub blank-refused : BlankRefused

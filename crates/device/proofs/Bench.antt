@@ -1,5 +1,6 @@
 -- E1 to E10, by computation. Assumes nothing.
 use mathlib.Core.Path.{refl}
+use Rattle.wire.specs.Bytes.{same}
 use Rattle.wire.specs.Checks.{firstOf, any, pairs}
 use Rattle.wire_offer.specs.Offer.{fieldsIn}
 use Rattle.wire_offer.specs.Kind.{kindIn}
@@ -18,6 +19,6 @@ use Rattle.device.specs.Entries.{versionEntry, serveEntry, serveStaging}
 use Rattle.device.specs.Bench.{BenchHolds}
 
 pub bench-holds : BenchHolds
-unfolding firstOf any pairs fieldsIn kindIn flat replyBytes within blank put eraseOf writeOf firstFrom find badIds badRegions setupVerdict breaksD1 refusalOf rejections needUnmet offerVerdict onOffer offerEntry contentVerdict takeBlock onBlock contentEntry contentStaging versionEntry serveEntry serveStaging
+unfolding same firstOf any pairs fieldsIn kindIn flat replyBytes within blank put eraseOf writeOf firstFrom find badIds badRegions setupVerdict breaksD1 refusalOf rejections needUnmet offerVerdict onOffer offerEntry contentVerdict takeBlock onBlock contentEntry contentStaging versionEntry serveEntry serveStaging
 bench-holds =
     (refl, refl, refl, (refl, refl, refl, (refl, refl, refl, (refl, refl, refl, (refl, refl, refl, (refl, refl, refl, (refl, refl, refl, (refl, refl, refl, (refl, refl, refl, (refl, refl, refl, (refl, refl, refl, (refl, refl, refl, tt))))))))))))

@@ -1,21 +1,16 @@
 -- Bytes stay bytes where a region is cut out, erased or written. Assumes nothing.
 use mathlib.Core.Bool.{_&&_}
 use mathlib.Core.List.{List}
-use Prim.Native.Nat.{ℕ, zero, suc, _+_, _<_}
+use Prim.Native.Nat.{ℕ, _+_}
 use native.Mathlib.Omega.{arith}
-use lib.ListN.{length, take, drop, replicate}
+use lib.ListN.{length, take}
 use Rattle.wire.specs.Bytes.{Bytes}
 use Rattle.wire.specs.declared.address.RegionAddress.{RegionAddress}
 use Rattle.image.specs.Region.{placeOf, isInside, holds, within, regionBytes, blank, put, eraseOf, writeOf}
 use Rattle.image.specs.declared.region.Region.{Region}
 use Rattle.wire.proofs.Bounds.{first-bytes, rest-bytes, join-bytes}
 use Rattle.wire.proofs.Chain.{either}
-
--- n times a byte
-replicate-bytes : (n b : ℕ) → b < 256 → Bytes (replicate n b)
-replicate-bytes zero b h i = omega arith
-replicate-bytes (suc n) b h zero = h
-replicate-bytes (suc n) b h (suc i) = replicate-bytes n b h i
+use Rattle.device_session.proofs.effect.Laws.{replicate-bytes}
 
 module _ (r : Region) (s : List ℕ) (h : Bytes s) where
   pub region-bytes : Bytes (regionBytes r s)

@@ -6,7 +6,7 @@ use mathlib.Core.List.{List, _∷_}
 use native.Mathlib.Omega.{arith}
 use borrow.Author.Tests.{eq-eqb, ne-eqb, le-leb}
 use lib.Dec.{leb, eqb}
-use lib.ListN.{length, drop}
+use lib.ListN.{length}
 use Rattle.wire.specs.Checks.{firstOf}
 use Rattle.wire.specs.Codes.{OFFER-ACCEPT, OFFER-UNSUPPORTED}
 use Rattle.wire.proofs.Chain.{either}
@@ -25,7 +25,7 @@ use Rattle.device_offering.specs.Signal.{onInformation}
 use Rattle.device_receiving.specs.Content.{isLast}
 use Rattle.device_receiving.specs.Receive.{onBlock, onVerdict}
 use Rattle.device_receiving.specs.declared.checks.ContentVerdict.{ContentVerdict}
-use Rattle.device_receiving.specs.declared.checks.ContentVerdict.the-variants.{Refuse, Take}
+use Rattle.device_receiving.specs.declared.checks.ContentVerdict.the-variants.{Answer, Take}
 use Rattle.device_receiving.specs.declared.content.Taken.{Taken}
 use Rattle.device.specs.declared.record.Device.{Device}
 use Rattle.device.specs.declared.answer.Channel.the-variants.{Offer, Content}
@@ -94,8 +94,8 @@ answers-code d s p x h l e = rw (serves-kind d s p (information x) h l e) (go (e
 -- so is a block, where nothing is owed
 pub answers-block : (d : Device) (s p : List ℕ) → Sound d s → d .session .owed ≡ owed.Nothing → length p ≡ 60 → Answered (serveEntry d Content s p)
 unfolding serveEntry contentEntry onBlock
-answers-block d s p h o l = rw (rows-pass 60 d s (length p) h l) (go (contentVerdict d (headIn p)))
+answers-block d s p h o l = rw (rows-pass 60 d s (length p) h l) (go (contentVerdict d p))
   where
-    go : (v : ContentVerdict) → Answered (received d (onVerdict (sessionComponent d) (d .session) (headIn p) (drop 8 p) s v))
-    go (Refuse status) = (refl, refl)
+    go : (v : ContentVerdict) → Answered (received d (onVerdict (sessionComponent d) (d .session) p s v))
+    go (Answer status) = (refl, refl)
     go (Take slot) = either (λ (t : Taken). Answered (received d t)) (isLast (headIn p)) _ _ (rw o (refl, refl)) (refl, refl)

@@ -34,7 +34,9 @@ use Rattle.wire.specs.Version.{FitsVersion}
 use Rattle.device_component.specs.declared.list.Found.the-variants as found
 use Rattle.device.specs.declared.record.Device.{Device}
 use Rattle.device_session.specs.declared.effect.Session.{Session}
+use Rattle.device_session.proofs.effect.Laws as session
 use Rattle.device_session.proofs.effect.Laws.{idle-fits, stage-fits, owing-fits}
+use Rattle.device_receiving.proofs.content.Laws.{held-fits}
 use Rattle.device_session.specs.declared.stage.Stage.{Stage}
 use Rattle.device_session.specs.declared.stage.Stage.the-variants.{Idle, Offered, Receiving}
 use Rattle.device.specs.declared.answer.Channel.{Channel}
@@ -88,11 +90,12 @@ move-fits f h b stays = f
 move-fits {d} f h b idles = fits-with d f (d .components) (f .slots) (f .each) _ idle-fits
 move-fits {d} {report = report} f h b (opens k a q) =
     let m = find-at _ (d .count) (d .components) k (a .component) .0 in
-    fits-with d f (d .components) (f .slots) (f .each) _ (stage-fits (d .session) _ (f .session) (omega (arith, f .count), h 3))
+    fits-with d f (d .components) (f .slots) (f .each) _ (stage-fits (d .session) _ _ (f .session) (omega (arith, f .count), h 3) session.blank-fits)
 move-fits {d} f h b (owes e) = fits-with d f (d .components) (f .slots) (f .each) _ (owing-fits (d .session) _ (f .session) (h 3))
-move-fits {d} f h b (goes k e) =
+move-fits {d} {report = report} f h b (goes k e l) =
     let s = f .session .stage in
-    fits-with d f (d .components) (f .slots) (f .each) _ (stage-fits (d .session) _ (f .session) (slot-fits (d .session .stage) k s e, token-fits (d .session .stage) s, omega arith))
+    fits-with d f (d .components) (f .slots) (f .each) _
+    (stage-fits (d .session) _ _ (f .session) (slot-fits (d .session .stage) k s e, token-fits (d .session .stage) s, omega arith) (held-fits report h))
 move-fits {d} {staging = staging} {report = report} f h b (stages k e v q w) =
     let c = f .each k in
     let r = component d k .fixed .region in

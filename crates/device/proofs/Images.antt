@@ -4,7 +4,7 @@ use mathlib.Core.Bool.{Bool, true, false}
 use mathlib.Core.List.{List, [], _∷_}
 use mathlib.Core.Logic.{_⊎_, inl, inr}
 use Prim.Native.Nat.{ℕ, zero, suc}
-use lib.ListN.{length, getD, drop, set}
+use lib.ListN.{length, getD, set}
 use Rattle.wire.specs.declared.version.Version.{Version}
 use Rattle.wire_offer.specs.Kind.{Kind, kindIn}
 use Rattle.wire_content.specs.Head.{headIn}
@@ -20,10 +20,10 @@ use Rattle.device_component.specs.declared.record.Staged.{Staged}
 use Rattle.device_component.specs.declared.record.Staged.the-variants.{Nothing, Pending}
 use Rattle.device_session.specs.Stage.{atSlot}
 use Rattle.device_receiving.specs.declared.checks.ContentVerdict.{ContentVerdict}
-use Rattle.device_receiving.specs.declared.checks.ContentVerdict.the-variants.{Refuse, Take}
-use Rattle.device_receiving.specs.Content.{isLast, takeBlock}
+use Rattle.device_receiving.specs.declared.checks.ContentVerdict.the-variants.{Answer, Take}
+use Rattle.device_receiving.specs.Content.{isLast}
 use Rattle.device_receiving.specs.Finish.{judge, finish}
-use Rattle.device_receiving.specs.Receive.{onBlock, onVerdict, stagingBy}
+use Rattle.device_receiving.specs.Receive.{onBlock, written, onVerdict, stagingBy}
 use Rattle.device_receiving.proofs.content.Laws.{kept}
 use Rattle.device.specs.declared.record.Device.{Device}
 use Rattle.device.specs.declared.answer.Channel.the-variants.{Offer, Content}
@@ -83,22 +83,22 @@ module _ (d : Device) (staging report : List ℕ) (k : ℕ) (v : Version) where
             let same : w ≡ v = one-version w v (sym (ap (λ (c : Component). c .staged) (q .1)) ∙ h) in
             inr (rw (q .0, ← same) e, rw (q .0, ← same) f)
 
-    after-block : (n : ℕ) (s : List ℕ) → Own (set (d .components) slot (onBlock (component d slot) (d .session) n (headIn report) s .component)) s
+    after-block : (n : ℕ) (s : List ℕ) → Own (set (d .components) slot (onBlock (component d slot) (d .session) n report s .component)) s
     unfolding onBlock finish
     after-block n s = go (isLast (headIn report)) refl where
-      go : (b : Bool) → isLast (headIn report) ≡ b → Own (set (d .components) slot (onBlock (component d slot) (d .session) n (headIn report) s .component)) s
+      go : (b : Bool) → isLast (headIn report) ≡ b → Own (set (d .components) slot (onBlock (component d slot) (d .session) n report s .component)) s
       go true e = rw e (after-judge s _ refl)
       go false e = rw e (unchanged slot s)
 
     after-verdict : (w : ContentVerdict)
-        → Own (set (d .components) slot (onVerdict (component d slot) (d .session) (headIn report) (drop 8 report) staging w .component))
-        (stagingBy (component d slot .fixed .region) (headIn report) (drop 8 report) staging w)
-    after-verdict (Refuse s) = unchanged slot staging
-    after-verdict (Take n) = after-block n (takeBlock (component d slot .fixed .region) (headIn report) (drop 8 report) staging)
+        → Own (set (d .components) slot (onVerdict (component d slot) (d .session) report staging w .component))
+        (stagingBy (component d slot .fixed .region) report staging w)
+    after-verdict (Answer s) = unchanged slot staging
+    after-verdict (Take n) = after-block n (written (component d slot .fixed .region) report staging)
 
   after-row : (row : Row) (w : ContentVerdict)
-      → Own (unlessRefused row d (received d (onVerdict (sessionComponent d) (d .session) (headIn report) (drop 8 report) staging w)) .device .components)
-      (keptBy row staging (stagingBy (sessionComponent d .fixed .region) (headIn report) (drop 8 report) staging w))
+      → Own (unlessRefused row d (received d (onVerdict (sessionComponent d) (d .session) report staging w)) .device .components)
+      (keptBy row staging (stagingBy (sessionComponent d .fixed .region) report staging w))
   after-row served w = after-verdict (atSlot (d .session .stage)) w
   after-row (D n) w = inl
 
@@ -110,6 +110,6 @@ offer-components d (D n) p = refl
 pub stages-own-image : StagesOwnImage
 unfolding serveEntry serveStaging offerEntry contentEntry contentStaging
 stages-own-image d Content staging report k v =
-    after-row d staging report k v (refusalOf 60 d (length staging) (length report)) (contentVerdict d (headIn report))
+    after-row d staging report k v (refusalOf 60 d (length staging) (length report)) (contentVerdict d report)
 stages-own-image d Offer staging report k v =
     λ h. inl (ap (λ (components : List Component). getD components k blankComponent .staged) (sym (offer-components d (refusalOf 16 d (length staging) (length report)) (kindIn report))) ∙ h)

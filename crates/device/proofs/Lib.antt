@@ -11,6 +11,7 @@ pub mod Staging
 pub mod Sessions
 pub mod Replies
 pub mod Calls
+pub mod Copies
 pub mod Offering
 pub mod Blocks
 pub mod Opened

@@ -4,8 +4,8 @@ use mathlib.Core.Bool.{Bool, true, false}
 use mathlib.Core.List.{List}
 use Prim.Native.Nat.{ℕ}
 use lib.Dec.{eqb, leb}
-use lib.ListN.{length, getD, drop, set}
-use Rattle.wire.specs.Codes.{KIND-INFORMATION, KIND-EXTENDED, NOTIFY-ON-READY, INFO-START-ENTIRE-TRANSACTION, INFO-END-OFFER-LIST}
+use lib.ListN.{length, getD, set}
+use Rattle.wire.specs.Codes.{LONG-SIZE, KIND-INFORMATION, KIND-EXTENDED, NOTIFY-ON-READY, INFO-START-ENTIRE-TRANSACTION, INFO-END-OFFER-LIST}
 use Rattle.wire.specs.declared.version.Version.{Version}
 use Rattle.wire_offer.specs.Kind.{offer, kindIn}
 use Rattle.wire_offer.specs.Offer as offers
@@ -20,7 +20,7 @@ use Rattle.device_component.specs.Record.{isPending, withStaged}
 use Rattle.device_component.specs.Versions.{imageVersionFits}
 use Rattle.device_component.specs.declared.list.Found.the-variants as found
 use Rattle.device_session.specs.Stage.{isOpen, openSlot, atSlot}
-use Rattle.device_session.specs.Effect.{inStage, owing}
+use Rattle.device_session.specs.Effect.{blankPacket, inStage, owing}
 use Rattle.device_session.specs.declared.stage.Stage.the-variants.{Offered}
 use Rattle.device_session.specs.declared.owed.Owed.{Owed}
 use Rattle.device_session.specs.declared.owed.Owed.the-variants as owed
@@ -30,11 +30,11 @@ use Rattle.device_offering.specs.Signal.{onInformation, onNotify, onExtended}
 use Rattle.device_offering.specs.declared.verdict.OfferVerdict.{OfferVerdict}
 use Rattle.device_offering.specs.declared.verdict.OfferVerdict.the-variants.{Busy, Reject, Skip, Accept}
 use Rattle.device_offering.proofs.checks.Laws.{OfferSays, offer-says}
-use Rattle.device_receiving.specs.Content.{isLast, takeBlock}
+use Rattle.device_receiving.specs.Content.{isLast, isCopy}
 use Rattle.device_receiving.specs.Finish.{judge, finish}
-use Rattle.device_receiving.specs.Receive.{goesOn, onBlock, onVerdict, onContent}
+use Rattle.device_receiving.specs.Receive.{goesOn, onBlock, written, onVerdict, onContent}
 use Rattle.device_receiving.specs.declared.checks.ContentVerdict.{ContentVerdict}
-use Rattle.device_receiving.specs.declared.checks.ContentVerdict.the-variants.{Refuse, Take}
+use Rattle.device_receiving.specs.declared.checks.ContentVerdict.the-variants.{Answer, Take}
 use Rattle.device_receiving.specs.declared.content.Taken.{Taken}
 use Rattle.device_receiving.proofs.checks.Laws.{ContentSays, content-says}
 use Rattle.device_receiving.proofs.content.Laws.{kept}
@@ -47,17 +47,19 @@ use Rattle.device.specs.Offer.{onKind, offerEntry}
 use Rattle.device.specs.Content.{sessionComponent, contentVerdict, received, contentEntry}
 use Rattle.device.specs.Entries.{serveEntry}
 use Rattle.device.specs.Sessions.{Accepts}
+use Rattle.device.proofs.Passes.{serves}
 
 -- what the entry of a channel can do to the record d, where the report is an offer or a signal, or content for this staging buffer
 pub data Move (d : Device) (channel : Channel) (staging report : List ℕ) : Device → Type 0 where
   stays : Move d channel staging report d
   idles : Move d channel staging report (toIdle d)
   opens : (k : ℕ) → Accepts d channel staging report k → isPending (component d k .staged) ≡ false
-      → Move d channel staging report (withSession d (d .components) (inStage (d .session) (Offered (record { slot = k; token = offers.fieldsIn report .token }))))
+      → Move d channel staging report (withSession d (d .components) (inStage (d .session) (Offered (record { slot = k; token = offers.fieldsIn report .token })) blankPacket))
   owes : isOpen (d .session .stage) ≡ true → Move d channel staging report (withSession d (d .components) (owing (d .session) (owed.Token (getD report 3 0))))
-  goes : (k : ℕ) → openSlot (d .session .stage) ≡ found.At k → Move d channel staging report (withSession d (d .components) (goesOn (d .session) k (headIn report)))
+  goes : (k : ℕ) → openSlot (d .session .stage) ≡ found.At k → length report ≡ LONG-SIZE
+      → Move d channel staging report (withSession d (d .components) (goesOn (d .session) k report))
   stages : (k : ℕ) → openSlot (d .session .stage) ≡ found.At k → (v : Version)
-      → imageIn (regionBytes (component d k .fixed .region) (takeBlock (component d k .fixed .region) (headIn report) (drop 8 report) staging)) (component d k .fixed .id) ≡ Bears v
+      → imageIn (regionBytes (component d k .fixed .region) (written (component d k .fixed .region) report staging)) (component d k .fixed .id) ≡ Bears v
       → imageVersionFits (component d k) v ≡ true → Move d channel staging report (idleWith d (set (d .components) k (withStaged (component d k) v)))
 
 -- where nothing refuses the call, the entry's own answer counts
@@ -121,10 +123,10 @@ module _ (d : Device) (staging report : List ℕ) where
 
   module _ (k : ℕ) (h : openSlot (d .session .stage) ≡ found.At k) where
     -- the staging buffer after a block
-    abbrev written : List ℕ
-    written = takeBlock (component d k .fixed .region) (headIn report) (drop 8 report) staging
+    abbrev buffer : List ℕ
+    buffer = written (component d k .fixed .region) report staging
 
-    after-judge : (m : Image) → imageIn (regionBytes (component d k .fixed .region) written) (component d k .fixed .id) ≡ m
+    after-judge : (m : Image) → imageIn (regionBytes (component d k .fixed .region) buffer) (component d k .fixed .id) ≡ m
         → Move d Content staging report (idleWith d (set (d .components) k (judge (component d k) m .component)))
     after-judge Damaged e = rw (kept (d .components) k) idles
     after-judge Foreign e = rw (kept (d .components) k) idles
@@ -133,17 +135,17 @@ module _ (d : Device) (staging report : List ℕ) where
       go true f = rw f (stages k h v e f)
       go false f = rw (f, kept (d .components) k) idles
 
-    after-block : Move d Content staging report (taken k (onBlock (component d k) (d .session) k (headIn report) written))
+    after-block : length report ≡ LONG-SIZE → Move d Content staging report (taken k (onBlock (component d k) (d .session) k report buffer))
     unfolding onBlock finish
-    after-block = go (isLast (headIn report)) refl where
-      go : (b : Bool) → isLast (headIn report) ≡ b → Move d Content staging report (taken k (onBlock (component d k) (d .session) k (headIn report) written))
+    after-block l = go (isLast (headIn report)) refl where
+      go : (b : Bool) → isLast (headIn report) ≡ b → Move d Content staging report (taken k (onBlock (component d k) (d .session) k report buffer))
       go true e = rw e (after-judge _ refl)
-      go false e = rw (e, kept (d .components) k) (goes k h)
+      go false e = rw (e, kept (d .components) k) (goes k h l)
 
-  after-content : (v : ContentVerdict) → ContentSays (sessionComponent d .fixed .region) (d .session .stage) (headIn report) v
-      → Move d Content staging report (received d (onVerdict (sessionComponent d) (d .session) (headIn report) (drop 8 report) staging v) .device)
-  after-content (Refuse s) h = rw (kept (d .components) (atSlot (d .session .stage))) stays
-  after-content (Take k) h = rw (h .0) (after-block k (h .0))
+  after-content : length report ≡ LONG-SIZE → (v : ContentVerdict) → ContentSays (sessionComponent d .fixed .region) (d .session .stage) (headIn report) v
+      → Move d Content staging report (received d (onVerdict (sessionComponent d) (d .session) report staging v) .device)
+  after-content l (Answer s) h = rw (kept (d .components) (atSlot (d .session .stage))) stays
+  after-content l (Take k) h = rw (h .0) (after-block k (h .0) l)
 
   -- each entry for packets does one of the six
   pub serve-moves : (channel : Channel) → Move d channel staging report (serveEntry d channel staging report .device)
@@ -151,5 +153,6 @@ module _ (d : Device) (staging report : List ℕ) where
   serve-moves Offer = unless (Move d Offer staging report) (refusalOf 16 d (length staging) (length report)) d (onKind d (kindIn report)) stays after-kind
   serve-moves Content =
       unless (Move d Content staging report) (refusalOf 60 d (length staging) (length report)) d
-      (received d (onContent (sessionComponent d) (d .session) (headIn report) (drop 8 report) staging)) stays
-      (λ r. after-content (contentVerdict d (headIn report)) (content-says (sessionComponent d .fixed .region) (d .session .stage) (headIn report)))
+      (received d (onContent (sessionComponent d) (d .session) report staging)) stays
+      (λ r. after-content (serves 60 d (length staging) (length report) r .report) (contentVerdict d report)
+      (content-says (sessionComponent d .fixed .region) (d .session .stage) (isCopy (d .session .previous) report) (headIn report)))

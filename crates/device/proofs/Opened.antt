@@ -18,19 +18,26 @@ use Rattle.device.specs.Refusals.{breaksD1}
 use Rattle.device_component.proofs.setup.Laws.{setup-staged}
 use Rattle.device.proofs.Lists.{any-set}
 use Rattle.device_session.proofs.sound.Laws.{passes, keeps}
-use Rattle.device.proofs.Blocks.{held, awaits, awaits-slot}
+use Rattle.device.proofs.Blocks.{held, awaits, awaits-slot, Precedes, awaits-previous}
 
 -- code 0 keeps D1
 pub idle-passes : (d : Device) → breaksD1 d ≡ false → breaksD1 (toIdle d) ≡ false
-idle-passes d h = let p = passes h in keeps (record { setup = p .setup; slot = refl; owed = refl; staged = p .staged })
+idle-passes d h = let p = passes h in keeps (record { setup = p .setup; slot = refl; previous = refl; owed = refl; staged = p .staged })
 
 module _ (d : Device) (components : List Component) (slot : ℕ) (listed : slot < d .count) (h : breaksD1 (idleWith d components) ≡ false) where
-  -- a session that is open on a listed component that is not pending
-  pub open-passes : (token k : ℕ) → isPending (componentAt components slot .staged) ≡ false → breaksD1 (held d components (awaits slot token k)) ≡ false
-  open-passes token k free =
+  -- a session that is open on a listed component that is not pending, and holds the packet of the block before
+  pub open-passes : (token k : ℕ) (previous : List ℕ) → Precedes k previous → isPending (componentAt components slot .staged) ≡ false
+      → breaksD1 (held d components (awaits slot token k) previous) ≡ false
+  open-passes token k previous q free =
       let p = passes h in
       let o = awaits-slot slot token k in
-      keeps (record { setup = p .setup; slot = rw (o, lt-leb (d .count) slot listed, free); owed = rw o; staged = p .staged })
+      keeps (record {
+        setup = p .setup;
+        slot = rw (o, lt-leb (d .count) slot listed, free);
+        previous = awaits-previous slot token k previous q;
+        owed = rw o;
+        staged = p .staged;
+      })
 
   -- a listed component becomes pending with a version that is not below running
   pub staged-passes : (v : Version) → imageVersionFits (componentAt components slot) v ≡ true
@@ -42,4 +49,4 @@ module _ (d : Device) (components : List Component) (slot : ℕ) (listed : slot 
       let same = setup-staged (d .«staging_len») (d .count) components slot v in
       let kept : any stale (take (d .count) (set components slot c)) ≡ false
       = rw (take-set-lt (d .count) components slot c listed) (any-set stale (take (d .count) components) slot c (rw f) (p .staged)) in
-      keeps (record { setup = rw same (p .setup); slot = refl; owed = refl; staged = kept })
+      keeps (record { setup = rw same (p .setup); slot = refl; previous = refl; owed = refl; staged = kept })

@@ -5,12 +5,11 @@ use mathlib.Core.Bool.{Bool, true, false, not, cond, _&&_}
 use mathlib.Core.List.{List, [], _∷_}
 use Prim.Native.Nat.{ℕ}
 use lib.Dec.{eqb, leb}
-use lib.ListN.{length, drop}
+use lib.ListN.{length}
 use Rattle.wire.specs.Codes.{NOTIFY-ON-READY, INFO-START-ENTIRE-TRANSACTION, INFO-END-OFFER-LIST}
 use Rattle.wire.proofs.Chain.{either}
 use Rattle.wire_offer.specs.Kind.{Kind, offer, information, extended, kindIn}
 use Rattle.wire_content.specs.Head.{headIn}
-use Rattle.wire_content.specs.declared.head.ContentHead.{ContentHead}
 use Rattle.device_component.specs.declared.list.Found.the-variants.{At}
 use Rattle.device_session.specs.Stage.{isOpen, openSlot}
 use Rattle.device_session.specs.Owed.{owes}
@@ -21,10 +20,10 @@ use Rattle.device_session.specs.declared.stage.Stage.the-variants.{Idle, Offere
 use Rattle.device_session.specs.declared.effect.Effect.{Effect}
 use Rattle.device_offering.specs.Offer.{onOffer}
 use Rattle.device_offering.specs.Signal.{onInformation, onNotify, onExtended}
-use Rattle.device_receiving.specs.Content.{isLast, takeBlock}
-use Rattle.device_receiving.specs.Receive.{onBlock, onVerdict}
+use Rattle.device_receiving.specs.Content.{isLast, isCopy}
+use Rattle.device_receiving.specs.Receive.{onBlock, written, onVerdict}
 use Rattle.device_receiving.specs.declared.checks.ContentVerdict.{ContentVerdict}
-use Rattle.device_receiving.specs.declared.checks.ContentVerdict.the-variants.{Refuse, Take}
+use Rattle.device_receiving.specs.declared.checks.ContentVerdict.the-variants.{Answer, Take}
 use Rattle.device_receiving.proofs.checks.Laws.{ContentSays, content-says}
 use Rattle.device.specs.declared.record.Device.{Device}
 use Rattle.device.specs.Refusals.{Outcome, servedWith, refusalOf, readySent}
@@ -75,17 +74,20 @@ is-open (Receiving r) k e = refl
 abbrev Sends : Device → Outcome → Type 0
 Sends d a = a .sent ≡ a .replies .reply ∷ readySent (cond (becomesIdle d (a .device)) (d .session .owed) owed.Nothing)
 
-module _ (d : Device) (c : ContentHead) (bytes s : List ℕ) where
-  verdict-sends : (v : ContentVerdict) → ContentSays (sessionComponent d .fixed .region) (d .session .stage) c v → Sends d (received d (onVerdict (sessionComponent d) (d .session) c bytes s v))
+module _ (d : Device) (report s : List ℕ) where
+  verdict-sends : (v : ContentVerdict) → ContentSays (sessionComponent d .fixed .region) (d .session .stage) (headIn report) v
+      → Sends d (received d (onVerdict (sessionComponent d) (d .session) report s v))
   unfolding onBlock
-  verdict-sends (Refuse status) h = rw (stays-open (isOpen (d .session .stage)))
-  verdict-sends (Take k) h = go (isLast c) refl where
-    go : (b : Bool) → isLast c ≡ b → Sends d (received d (onBlock (sessionComponent d) (d .session) k c (takeBlock (sessionComponent d .fixed .region) c bytes s)))
+  verdict-sends (Answer status) h = rw (stays-open (isOpen (d .session .stage)))
+  verdict-sends (Take k) h = go (isLast (headIn report)) refl where
+    go : (b : Bool) → isLast (headIn report) ≡ b
+        → Sends d (received d (onBlock (sessionComponent d) (d .session) k report (written (sessionComponent d .fixed .region) report s)))
     go true e = rw (e, is-open (d .session .stage) k (h .0))
     go false e = rw (e, is-open (d .session .stage) k (h .0))
 
 pub content-replies : ContentReplies
 unfolding contentEntry
 content-replies d staging report e =
-    let v = contentVerdict d (headIn report) in
-    rw (content-served d staging report e) (verdict-sends d (headIn report) (drop 8 report) staging v (content-says (sessionComponent d .fixed .region) (d .session .stage) (headIn report)))
+    rw (content-served d staging report e)
+    (verdict-sends d report staging (contentVerdict d report)
+    (content-says (sessionComponent d .fixed .region) (d .session .stage) (isCopy (d .session .previous) report) (headIn report)))

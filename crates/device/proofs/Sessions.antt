@@ -34,7 +34,7 @@ move-opens k idles e = let z : _≡_ {A = ℕ} 0 1 = cc in absurd (omega arith)
 move-opens {d} {channel = channel} {staging = staging} {report = report} k (opens j a q) e =
     let same : j ≡ k = cc in inr (subst (Accepts d channel staging report) same a)
 move-opens k (owes h) e = inl e
-move-opens k (goes j h) e = inl (h ∙ e)
+move-opens k (goes j h l) e = inl (h ∙ e)
 move-opens k (stages j h v w f) e = let z : _≡_ {A = ℕ} 0 1 = cc in absurd (omega arith)
 
 pub opens-by-accept : OpensByAccept

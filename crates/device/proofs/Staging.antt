@@ -15,11 +15,11 @@ use Rattle.image.specs.Region.{isInside, regionBytes, blank, put, eraseOf}
 use Rattle.image.specs.declared.region.Region.{Region}
 use Rattle.image.proofs.region.Within.{region-length, blank-length, within-same, inside, erase-inside, put-place, erase-length, write-put, write-length}
 use Rattle.device_receiving.specs.declared.checks.ContentVerdict.{ContentVerdict}
-use Rattle.device_receiving.specs.declared.checks.ContentVerdict.the-variants.{Refuse, Take}
+use Rattle.device_receiving.specs.declared.checks.ContentVerdict.the-variants.{Answer, Take}
 use Rattle.device.specs.declared.record.Device.{Device}
 use Rattle.device.specs.Record.{FitsDevice}
 use Rattle.device.specs.Refusals.{Row, served, D, refusalOf}
-use Rattle.device_receiving.specs.Content.{isFirst, takeBlock}
+use Rattle.device_receiving.specs.Content.{isFirst, isCopy, takeBlock}
 use Rattle.device_receiving.proofs.checks.Laws.{ContentSays, content-says}
 use Rattle.device.specs.Content.{window, sessionComponent, contentVerdict, contentEntry, contentStaging}
 use Rattle.device.specs.Promises.{TakesBlock, StagingChanges}
@@ -160,8 +160,8 @@ changes d staging report f = go (refusalOf 60 d (length staging) (length report)
   c : ContentHead
   c = headIn report
 
-  by-verdict : (v : ContentVerdict) → contentVerdict d c ≡ v → ContentSays (sessionComponent d .fixed .region) (d .session .stage) c v → refusalOf 60 d (length staging) (length report) ≡ served → ByBlock d staging report
-  by-verdict (Refuse s) e says r = (rw (r, e), inl (rw (r, e)))
+  by-verdict : (v : ContentVerdict) → contentVerdict d report ≡ v → ContentSays (sessionComponent d .fixed .region) (d .session .stage) c v → refusalOf 60 d (length staging) (length report) ≡ served → ByBlock d staging report
+  by-verdict (Answer s) e says r = (rw (r, e), inl (rw (r, e)))
   by-verdict (Take k) e says r =
       let v = serves 60 d (length staging) (length report) r in
       let i : isInside (window d k) (length staging) ≡ true = rw (v .staging) (region-inside k (v .record-passes) (f .slots) (open-slot k (v .record-passes) (says .0) .0)) in
@@ -180,7 +180,7 @@ changes d staging report f = go (refusalOf 60 d (length staging) (length report)
       )
 
   go : (row : Row) → refusalOf 60 d (length staging) (length report) ≡ row → ByBlock d staging report
-  go served r = by-verdict (contentVerdict d c) refl (content-says (sessionComponent d .fixed .region) (d .session .stage) c) r
+  go served r = by-verdict (contentVerdict d report) refl (content-says (sessionComponent d .fixed .region) (d .session .stage) (isCopy (d .session .previous) report) c) r
   go (D k) r = (rw r, inl (rw r))
 
 pub staging-changes : StagingChanges

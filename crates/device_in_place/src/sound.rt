@@ -71,8 +71,7 @@ fn breaks(b: &[u8], n: usize) -> bool
     let component = component_at(b, slot_of(slot));
     (staging_too_long(n) | bad_count(count))
         | (wrong_slot(count, component, slot)
-            | (wrong_previous(stage, previous)
-                | (owes_on(slot, owed) | some_unsound(b, n, count))))
+            | (wrong_previous(stage, previous) | (owes_on(slot, owed) | some_unsound(b, n, count))))
 }
 
 // D1, D2 and D3, in this order, for a staging buffer of n bytes, a report of m bytes, and reports that are `size` bytes long.

@@ -12,7 +12,7 @@ use Rattle.device_component.specs.Rules.{unsound}
 use Rattle.device_component.specs.declared.record.Component.{Component}
 use Rattle.device_component.specs.declared.setup.SetupVerdict.the-variants.{Fine, S1, S2, S3, S4}
 use Rattle.device_session.specs.declared.effect.Session.{Session}
-use Rattle.device_session.specs.Sound.{opensWrong, owesIdle, breaksD1}
+use Rattle.device_session.specs.Sound.{opensWrong, holdsWrong, owesIdle, breaksD1}
 
 -- two tests of each member, one after the other
 exchange : (a b x y : Bool) → ((a || b) || (x || y)) ≡ ((a || x) || (b || y))
@@ -51,13 +51,14 @@ together false false true e s = refl
 together false false false e s = or-comm e s
 
 -- the last test with the first ones, or after the others
-after : (t k x w o s : Bool) → ((t || (k || x)) || (w || (o || s))) ≡ ((t || k) || (w || (o || (x || s))))
-after true k x w o s = refl
-after false true x w o s = refl
-after false false true true o s = refl
-after false false true false true s = refl
-after false false true false false s = refl
-after false false false w o s = refl
+after : (t k x w p o s : Bool) → ((t || (k || x)) || (w || (p || (o || s)))) ≡ ((t || k) || (w || (p || (o || (x || s)))))
+after true k x w p o s = refl
+after false true x w p o s = refl
+after false false true true p o s = refl
+after false false true false true o s = refl
+after false false true false false true s = refl
+after false false true false false false s = refl
+after false false false w p o s = refl
 
 module _ (n : ℕ) where
   -- flawed components and two that clash: S3, S4 and what is staged
@@ -72,9 +73,9 @@ module _ (n : ℕ) where
 
   -- D1
   pub grouped : (count : ℕ) (components : List Component) (session : Session) → breaksD1 n count components session
-      ≡ ((stagingTooLong n || badCount count) || (opensWrong count components session || (owesIdle session || unsound n (take count components))))
+      ≡ ((stagingTooLong n || badCount count) || (opensWrong count components session || (holdsWrong session || (owesIdle session || unsound n (take count components)))))
   unfolding breaksD1 setupVerdict
   grouped count components session =
       rw (refuses (stagingTooLong n) (badCount count) (badIds (take count components)) (badRegions n (take count components)))
-      (after (stagingTooLong n) (badCount count) (badIds (take count components) || badRegions n (take count components)) (opensWrong count components session) (owesIdle session) (any (λ c. not (keepsStaged c (c .staged))) (take count components))
+      (after (stagingTooLong n) (badCount count) (badIds (take count components) || badRegions n (take count components)) (opensWrong count components session) (holdsWrong session) (owesIdle session) (any (λ c. not (keepsStaged c (c .staged))) (take count components))
       ∙ rw (unsound-as (take count components)))

@@ -1,4 +1,4 @@
--- D1 as its four clauses, and what holds of a device that passes it. Assumes nothing.
+-- D1 as its five clauses, and what holds of a device that passes it. Assumes nothing.
 use mathlib.Core.Path.{_≡_, refl}
 use mathlib.Core.Bool.{true, false, true≢false}
 use mathlib.Core.List.{List}
@@ -21,12 +21,13 @@ use Rattle.device_component.specs.declared.setup.SetupVerdict.the-variants.{Fin
 use Rattle.device_component.proofs.setup.Laws.{fine-staging, fine-count, fine-region}
 use Rattle.device_session.specs.declared.effect.Session.{Session}
 use Rattle.device_session.specs.Stage.{openSlot}
-use Rattle.device_session.specs.Sound.{breaksSetup, wrongSlot, opensWrong, owesIdle, stagedUnfit, breaksD1}
+use Rattle.device_session.specs.Sound.{breaksSetup, wrongSlot, opensWrong, holdsWrong, owesIdle, stagedUnfit, breaksD1}
 
 -- no clause of D1 applies
 pub record Passes (n count : ℕ) (components : List Component) (session : Session) : Type 0 where
   pub setup : breaksSetup n count components ≡ false
   pub slot : opensWrong count components session ≡ false
+  pub previous : holdsWrong session ≡ false
   pub owed : owesIdle session ≡ false
   pub staged : stagedUnfit count components ≡ false
 
@@ -44,11 +45,13 @@ module _ {n count : ℕ} {components : List Component} {session : Session} where
   passes h =
       let a = neither (breaksSetup n count components) _ h in
       let b = neither (opensWrong count components session) _ (a .1) in
-      let c = neither (owesIdle session) (stagedUnfit count components) (b .1) in record { setup = a .0; slot = b .0; owed = c .0; staged = c .1 }
+      let p = neither (holdsWrong session) _ (b .1) in
+      let c = neither (owesIdle session) (stagedUnfit count components) (p .1) in
+      record { setup = a .0; slot = b .0; previous = p .0; owed = c .0; staged = c .1 }
 
   pub keeps : Passes n count components session → breaksD1 n count components session ≡ false
   unfolding breaksD1
-  keeps p = rw (p .setup, p .slot, p .owed) (p .staged)
+  keeps p = rw (p .setup, p .slot, p .previous, p .owed) (p .staged)
 
   setup-fine : Passes n count components session → setupVerdict n count components ≡ Fine
   setup-fine p = fine _ (p .setup)

@@ -8,20 +8,26 @@ use Rattle.device_receiving.proofs.content.on_block.Tie as tie
 returns : tie.Need-returns
 unfolding onBlock
 returns c =
+    let k = c .before .before .before .before in
+    let h = k .before .before .before .before .pre in
     rw (
-      by (c .before .before .before .before .before .is-last .ensures) (c .before .before .before .before .if1 .taken),
+      rw h at (by (k .before .is-last .ensures) (k .if1 .taken)),
       c .block-reply .ensures,
       c .before .idle .ensures,
       c .before .before .before .finish .ensures,
+      h,
     )
 
 returns-2 : tie.Need-returns-2
 unfolding onBlock
 returns-2 c =
+    let k = c .before .before in
+    let h = k .before .before .before .before .pre in
     rw (
-      by (c .before .before .before .is-last .ensures) (c .before .before .if1 .left),
+      rw h at (by (k .before .is-last .ensures) (k .if1 .left)),
       c .block-reply2 .ensures,
       c .before .goes-on .ensures,
+      h,
     )
 
 pub on-block-spec : {M : Type 1} → statement M

@@ -1,32 +1,24 @@
--- `content::on_report` meets its contract: the data stand behind the head's eight bytes. Assumes nothing.
-use mathlib.Core.Path.{_≡_, refl, sym, _∙_}
-use mathlib.Core.Bool.{Bool, true, false}
-use mathlib.Core.List.{List}
-use Prim.Native.Nat.{ℕ, min, _-_}
-use native.Mathlib.Omega.{arith}
-use lib.Dec.{leb}
-use lib.ListN.{length, take, drop, length-drop, drop-of-length-le}
-use lib.Seq.{take-all}
+-- `content::on_report` meets its contract: by the verdict. Assumes nothing.
+use Rattle.wire.proofs.Chain.{by}
 use borrow.Author.Needs.{needs}
-use borrow.Author.Tests.{leb-true, leb-false}
 use Rattle.device_receiving.proofs.content.on_report.Statement.{statement}
 use Rattle.device_receiving.proofs.content.on_report.Tie as tie
 
--- what stands behind the first eight bytes, or behind all where there are fewer
-behind : (p : List ℕ) (n : ℕ) → n ≡ min 8 (length p) → take (length p - n) (drop n p) ≡ drop 8 p
-behind p n e = take-all (length p - n) (drop n p) (simp length-drop (omega arith)) ∙ go (leb 8 (length p)) refl
-  where
-    go : (x : Bool) → x ≡ leb 8 (length p) → drop n p ≡ drop 8 p
-    go true q = let z : n ≡ 8 = omega (arith, leb-true 8 (length p) (sym q)) in rw z
-    go false q =
-        let l = leb-false 8 (length p) (sym q) in
-        drop-of-length-le p {i = n} (omega (arith, l)) ∙ sym (drop-of-length-le p {i = 8} (omega (arith, l)))
-
 returns : tie.Need-returns
 returns c =
-    let k = c .before .before .before .before .before in
-    let a = k .before .before .before .before .args in
-    rw (k .before .read-head .ensures, behind (a .report .now) (k .least .result) (k .least .ensures)) at (c .before .before .on-content .ensures)
+    let k = c .before .before .before .before in
+    let h = k .before .before .before .before .read-head .ensures in
+    let e = rw (k .before .is-copy .ensures, h) at (by (k .judge-content .ensures) (c .before .before .verdict .given .1)) in
+    (rw (e, c .block-reply .ensures, h), rw e)
+
+returns-2 : tie.Need-returns-2
+returns-2 c =
+    let w = c .before .before .before .before in
+    let v = w .before .before .before in
+    let k = v .before .before in
+    let h = k .before .before .before .before .read-head .ensures in
+    let e = rw (k .before .is-copy .ensures, h) at (by (k .judge-content .ensures) (v .verdict2 .given .1)) in
+    (rw (e, c .on-block .ensures, w .write-block .ensures), rw e (w .write-block .ensures))
 
 pub on-report-spec : {M : Type 1} → statement M
 on-report-spec =
@@ -34,9 +26,12 @@ on-report-spec =
     (tie.spec
     (λ c κs. search needs)
     (λ c κs. search needs)
-    (λ c. search needs)
-    (λ c. search needs)
+    (λ c κs. search needs)
     (λ c. search needs)
     (λ c κs. search needs)
     (λ c. search needs)
-    returns)
+    (λ c κs. search needs)
+    (λ c κs. search needs)
+    returns
+    (λ c. search needs)
+    returns-2)

@@ -1,9 +1,8 @@
 -- `Device::content` meets its contract: D1 to D3, or the answer to a block. Assumes nothing.
 use mathlib.Core.Path.{_≡_, sym, _∙_}
 use denote.Ref.{now}
-use lib.ListN.{length, drop}
+use lib.ListN.{length}
 use Rattle.wire.proofs.Chain.{by}
-use Rattle.wire_content.specs.Head.{headIn}
 use Rattle.device_receiving.specs.Receive.{stagingAfter}
 use Rattle.device.specs.Refusals.{served, refusalOf}
 use Rattle.device.specs.Content.{sessionComponent, contentEntry, contentStaging}
@@ -18,7 +17,7 @@ returns c =
     let a = c .before .before .before .before .before .before .args in
     let q = c .before .before .before .refusal .ensures in
     let t = rw q at (by (c .before .before .is-refused .ensures) (c .before .if1 .taken)) in
-    (c .refused .ensures ∙ rw q (sym (one-refuses _ _ _ t)), sym (one-keeps (refusalOf 60 (a .self) (length (now (a .staging))) (length (now (a .report)))) (now (a .staging)) (stagingAfter (sessionComponent (a .self) .fixed .region) (a .self .session .stage) (headIn (now (a .report))) (drop 8 (now (a .report))) (now (a .staging))) t))
+    (c .refused .ensures ∙ rw q (sym (one-refuses _ _ _ t)), sym (one-keeps (refusalOf 60 (a .self) (length (now (a .staging))) (length (now (a .report)))) (now (a .staging)) (stagingAfter (sessionComponent (a .self) .fixed .region) (a .self .session) (now (a .report)) (now (a .staging))) t))
 
 -- no row refuses the call
 serves-it : (c : tie.Else1) → let a = c .before .before .before .before .before .args in refusalOf 60 (a .self) (length (now (a .staging))) (length (now (a .report))) ≡ served

@@ -2,8 +2,7 @@
 use mathlib.Core.Path.{_≡_}
 use mathlib.Core.List.{List}
 use Prim.Native.Nat.{ℕ}
-use lib.ListN.{drop, set}
-use Rattle.wire_content.specs.Head.{headIn}
+use lib.ListN.{set}
 use Rattle.device_component.specs.declared.record.Component.{Component}
 use Rattle.device_session.specs.Stage.{atSlot}
 use Rattle.device_receiving.specs.Receive.{onContent, stagingAfter}
@@ -19,10 +18,10 @@ use Rattle.device.proofs.record.Device.on_content.Tie as tie
 -- what is done with the component in a slot, where that is the session's
 stored : (d : Device) (p s s′ : List ℕ) (slot : ℕ) (c : Component) (t : Taken) (cs : List Component) (a : Outcome)
     → slot ≡ atSlot (d .session .stage) → c ≡ component d slot
-    → (t ≡ onContent c (d .session) (headIn p) (drop 8 p) s) × (s′ ≡ stagingAfter (c .fixed .region) (d .session .stage) (headIn p) (drop 8 p) s)
+    → (t ≡ onContent c (d .session) p s) × (s′ ≡ stagingAfter (c .fixed .region) (d .session) p s)
     → cs ≡ set (d .components) slot (t .component) → a ≡ servedWith d cs (t .effect)
-    → (a ≡ received d (onContent (sessionComponent d) (d .session) (headIn p) (drop 8 p) s))
-    × (s′ ≡ stagingAfter (sessionComponent d .fixed .region) (d .session .stage) (headIn p) (drop 8 p) s)
+    → (a ≡ received d (onContent (sessionComponent d) (d .session) p s))
+    × (s′ ≡ stagingAfter (sessionComponent d .fixed .region) (d .session) p s)
 stored d p s s′ slot c t cs a x y z v w = let h = rw (y, x) at z in (rw (w, v, h .0, x), h .1)
 
 returns : tie.Need-returns

@@ -3,7 +3,7 @@ use Prim.Native.Nat.{ℕ}
 use mathlib.Core.Path.{_≡_, sym, ap, subst, _∙_}
 use mathlib.Core.List.{List, []}
 use Rattle.device.specs.declared.record.Device.{Device}
-use Rattle.update.specs.Run.{lastOf}
+use Rattle.update.specs.Run.{once, lastOf}
 use Rattle.update.specs.Answer.{Row, served, B, D, Ran, refusedBy, ended, runOf}
 use Rattle.update.specs.Demand.{GoodBodies, Premise, DemandOf}
 use Rattle.update.proofs.Demand.{demand-three}
@@ -24,6 +24,6 @@ module _ (b : List ℕ) (token : ℕ) (d : Device) (staging : List ℕ) (ran : R
   refused-answered row r e f = (e ∙ sym f, λ good s. absurd (subst Refuses (sym (ap (λ (x : Ran). x .row) e) ∙ s) r))
 
   -- none does
-  pub served-answered : (GoodBodies b d → Premise b token d staging) → ran ≡ ended (lastOf b token d staging [])
-      → runOf b token d staging ≡ ended (lastOf b token d staging []) → Answered
-  served-answered premise e f = (e ∙ sym f, λ good s. (e, demand-three b token d staging [] (premise good)))
+  pub served-answered : (GoodBodies b d → Premise b token d staging) → ran ≡ ended (lastOf b once token d staging [])
+      → runOf b token d staging ≡ ended (lastOf b once token d staging []) → Answered
+  served-answered premise e f = (e ∙ sym f, λ good s. (e, demand-three b once token d staging [] (premise good)))

@@ -9,7 +9,7 @@ use Rattle.wire.specs.Checks.{firstOf}
 use Rattle.bundle_layout.specs.Rows as rows
 use Rattle.device.specs.Refusals.{breaksD1}
 use Rattle.device.specs.declared.record.Device.{Device}
-use Rattle.update.specs.Run.{lastOf}
+use Rattle.update.specs.Run.{once, lastOf}
 use Rattle.update.specs.Answer.{B, D, refusedBy, ended, runOf}
 
 module _ (b : List ℕ) (token : ℕ) (d : Device) (staging : List ℕ) where
@@ -31,6 +31,6 @@ module _ (b : List ℕ) (token : ℕ) (d : Device) (staging : List ℕ) where
 
   -- none: the end of the run
   pub no-row : rows.bundleRow b ≡ rows.served → breaksD1 d ≡ false → eqb (length staging) (d .«staging_len») ≡ true
-      → runOf b token d staging ≡ ended (lastOf b token d staging [])
+      → runOf b token d staging ≡ ended (lastOf b once token d staging [])
   unfolding runOf firstOf
   no-row e f g = rw (e, f, g)

@@ -3,6 +3,7 @@ use mathlib.Core.Path.{refl}
 use mathlib.Core.List.{flatten}
 use native.Mathlib.Omega.{arith}
 use lib.ListN.{replicate}
+use Rattle.wire.specs.Bytes.{same}
 use Rattle.wire.specs.Checks.{firstOf, any, pairs}
 use Rattle.wire.proofs.Tests.{all-bytes}
 use Rattle.crc16.specs.Crc.{bitStep, bitSteps, byteStep, crcFrom, crcOf}
@@ -37,7 +38,7 @@ use Rattle.host_table.specs.Table.{table}
 use Rattle.host_decide.specs.Decide.{act, hears, hearsBlock, decideIn}
 use Rattle.host.specs.Step.{breaksN1, packetOf, stepOn, stepOf}
 use Rattle.update.specs.Trace.{passesIn}
-use Rattle.update.specs.Run.{deliver, exchange, run, recordsFrom}
+use Rattle.update.specs.Run.{turned, exchange, run, recordsFrom}
 use Rattle.update.specs.Claim.{writes, imageOf}
 use Rattle.update.proofs.Goodness.{bodies-good}
 use Rattle.update.proofs.Fitting.{blank-fits, all-fit, component-fits}
@@ -45,7 +46,7 @@ use Rattle.update.specs.Bench.{placed, image, oneFirst, twoFirst, OneFir
 
 -- what the examples compute with: to unfold it is to unfold all that its line names
 unfoldable pub computing : Unit {0}
-unfolding firstOf any pairs bitStep bitSteps byteStep crcFrom crcOf flatten tableBytes bundleBytes written placed headIn parse entriesFrom entriesIn bodyIn firstEntry rowB5 repeated rowB6 gap rowB7 rowB8 bundleRow offer.fieldsIn kindIn content.fieldsIn content.cleared content.contentBytes within regionBytes blank put eraseOf writeOf imageIn firstFrom find badIds badRegions setupVerdict breaksD1 refusalOf rejections needUnmet offerVerdict onOffer onInformation offerEntry contentVerdict takeBlock finish onBlock contentEntry contentStaging serveEntry serveStaging table act hears hearsBlock decideIn breaksN1 packetOf stepOn stepOf deliver exchange run recordsFrom passesIn writes imageOf
+unfolding same firstOf any pairs bitStep bitSteps byteStep crcFrom crcOf flatten tableBytes bundleBytes written placed headIn parse entriesFrom entriesIn bodyIn firstEntry rowB5 repeated rowB6 gap rowB7 rowB8 bundleRow offer.fieldsIn kindIn content.fieldsIn content.cleared content.contentBytes within regionBytes blank put eraseOf writeOf imageIn firstFrom find badIds badRegions setupVerdict breaksD1 refusalOf rejections needUnmet offerVerdict onOffer onInformation offerEntry contentVerdict takeBlock finish onBlock contentEntry contentStaging serveEntry serveStaging table act hears hearsBlock decideIn breaksN1 packetOf stepOn stepOf turned exchange run recordsFrom passesIn writes imageOf
 computing = tt
 
 bench-fits : FitsDevice (bench Idle)

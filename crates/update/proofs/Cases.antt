@@ -1,7 +1,9 @@
--- The chain of seven, the mixed case and the need cycle, by computation. Assumes nothing.
+-- The chain of seven, the mixed case, the need cycle, the blocks that arrive twice and the longest run of a host, by computation. Assumes nothing.
 use mathlib.Core.Path.{refl}
+use mathlib.Core.Bool.{true}
 use Prim.Native.Nat.{ℕ, _*_, _-_, _≤_}
 use native.Mathlib.Omega.{arith}
+use lib.Dec.{eqb}
 use lib.ListN.{replicate}
 use Rattle.wire.specs.Codes.{COMPONENT-LIMIT}
 use Rattle.wire.proofs.Tests.{all-bytes}
@@ -9,13 +11,15 @@ use Rattle.device_component.specs.Record.{FitsComponent}
 use Rattle.device_component.specs.declared.record.Staged.the-variants.{Nothing}
 use Rattle.device.specs.Record.{FitsDevice}
 use Rattle.device_session.proofs.effect.Laws.{idle-fits}
+use Rattle.update.specs.Run.{once}
+use Rattle.update.specs.Ends.{hostSteps}
 use Rattle.update.specs.Demand.{Premise}
 use Rattle.update.proofs.Bench.{computing}
 use Rattle.update.proofs.Goodness.{bodies-good}
 use Rattle.update.proofs.Fitting.{blank-fits, all-fit, component-fits}
 use Rattle.wire.specs.Version.{versionOf}
 use Rattle.device_component.specs.declared.record.Staged.the-variants.{Pending}
-use Rattle.update.specs.Cases.{at100, image16, seven, chain, mixed, mixedBundle, ChainReaches, MixedDevice, MixedStaging, MixedRuns, CycleStops}
+use Rattle.update.specs.Cases.{at100, image16, seven, chain, mixed, mixedBundle, ChainReaches, MixedDevice, MixedStaging, MixedRuns, CycleStops, quartered, RunsWith, DoubledRuns, BoundReached}
 
 -- a component of the cases
 at100-fits : (id : ℕ) → id ≤ COMPONENT-LIMIT → FitsComponent (at100 id)
@@ -45,6 +49,7 @@ seven-fits = record {
 }
 
 mixed-fits : FitsDevice mixed
+unfolding computing
 mixed-fits = record {
   platform = omega arith;
   staging = omega arith;
@@ -58,7 +63,7 @@ mixed-fits = record {
           (at100-fits 3 (omega arith), (at100-fits 4 (omega arith), (blank-fits, (blank-fits, (blank-fits, tt))))),
         ),
       );
-  session = record { stage = (omega arith, omega arith, omega arith); owed = omega arith };
+  session = record { stage = (omega arith, omega arith, omega arith); owed = omega arith; size = refl; bytes = all-bytes (mixed .session .previous) refl };
 }
 
 pub cycle-stops : CycleStops
@@ -108,3 +113,40 @@ mixed-staging = refl
 pub mixed-runs : MixedRuns
 unfolding computing image16
 mixed-runs = record { premise = mixed-premise; done = refl; says = refl; device = mixed-device; staging = mixed-staging }
+
+-- each packet once
+none-twice : RunsWith once 0
+unfolding computing image16
+none-twice = record { says = refl; counts = (refl, refl); device = refl; staging = refl; runs = refl; done = refl }
+
+-- one block twice
+one-twice : RunsWith (λ j. eqb j 5) 1
+unfolding computing image16
+one-twice = record { says = refl; counts = (refl, refl); device = refl; staging = refl; runs = refl; done = refl }
+
+-- every block that may
+all-twice : RunsWith (λ j. true) 2
+unfolding computing image16
+all-twice = record { says = refl; counts = (refl, refl); device = refl; staging = refl; runs = refl; done = refl }
+
+pub doubled-runs : DoubledRuns
+unfolding computing image16
+doubled-runs = record {
+  premise = record {
+    small = omega arith;
+    fits = seven-fits;
+    bytes = all-bytes (replicate 112 0) refl;
+    bundle = all-bytes quartered refl;
+    d1 = refl;
+    d2 = refl;
+    accepted = refl;
+    good = bodies-good quartered seven refl;
+  };
+  none = none-twice;
+  one = one-twice;
+  all = all-twice;
+}
+
+pub bound-reached : BoundReached
+unfolding computing image16 hostSteps
+bound-reached = record { bound = refl; runs = refl; done = refl; packets = refl }

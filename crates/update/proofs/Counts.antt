@@ -3,22 +3,26 @@
 use mathlib.Core.Path.{_≡_, refl, sym, ap, ap₂, subst, _∙_}
 use mathlib.Core.Bool.{Bool, true, false, cond, _&&_, _||_, false≢true}
 use mathlib.Core.List.{List, [], _∷_, _++_, append-nil}
-use Prim.Native.Nat.{ℕ, zero, suc, _+_, _≤_, _<_}
+use Prim.Native.Nat.{ℕ, zero, suc, _+_, _-_, _≤_, _<_}
 use native.Mathlib.Omega.{arith}
 use borrow.Author.Tests.{eqb-true, eqb-false, eq-eqb, ne-eqb}
 use lib.Count.{ones}
 use lib.Dec.{eqb}
 use lib.ListN.{length}
+use Rattle.wire.specs.Codes.{SUCCESS}
+use Rattle.wire.proofs.Tests.{both}
+use Rattle.wire_content.specs.Reply.{replyIn}
 use Rattle.bundle_layout.specs.Layout.{countIn, idIn}
 use Rattle.bundle_layout.specs.Rows as bundle
 use Rattle.bundle.proofs.Accepted.{Accepted, accepted}
-use Rattle.host_record.specs.Record.{hasBit, withBit, hasEnded}
+use Rattle.host_record.specs.Record.{hasBit, withBit, sequenceOf, hasEnded}
 use Rattle.host_decide.specs.Decide.{sends, ends, list, offerFrom, sendBlock, noted, completes, decideIn}
 use Rattle.host_packet.specs.Answer.{Step}
 use Rattle.host.specs.Step.{entryAt, blocksAt, isLast, lastIn, blockPacket, packetOf, moved}
 use Rattle.host_record.specs.declared.record.Host.{Host}
 use Rattle.host_record.specs.declared.record.Turn.{Turn}
 use Rattle.host_record.specs.declared.record.Place.{Place}
+use Rattle.host_record.specs.declared.record.Awaited.{Awaited}
 use Rattle.host_record.specs.declared.record.HostStage.{HostStage}
 use Rattle.host_record.specs.declared.record.HostStage.the-variants.{Fresh, Opening, Listing, Offering, Waiting, Sending, Closing, Ended}
 use Rattle.host_record.specs.declared.record.End.{End}
@@ -27,7 +31,7 @@ use Rattle.host_decide.specs.declared.Action.the-variants.{Nothing, Information
 use Rattle.host_decide.specs.declared.Move.{Move}
 use Rattle.update.specs.Trace as trace
 use Rattle.update.specs.Trace.{Exchange, opensPass, passesIn, completedIn}
-use Rattle.update.specs.Heard.{passesOver, takenFor, traceAfter, awaitedAfter}
+use Rattle.update.specs.Heard.{passesOver, takenFor, traceAfter, awaitedAfter, lastTaken}
 use Rattle.update.specs.Ends.{HostRun, hostSteps, completedOf, HostMasks, HostCounts, HostTallies}
 use Rattle.host_decide.proofs.Moves.{isTaken, opening-cases, listing-cases, offering-cases, waiting-cases, closing-cases, sending-cases, offer-cases}
 use Rattle.update.proofs.Mask.{no-bit, with-bit, onesBelow, ones-below}
@@ -37,11 +41,11 @@ use Rattle.update.proofs.Ends.{hostAt, moveAt, ready-at, step-at}
 use Rattle.update.proofs.Trace.{aboutIn, length-more, passes-more, about-more, completed-more}
 
 -- the id of an entry
-abbrev idAt : (b : List ℕ) → ℕ → ℕ
+abbrev pub idAt : (b : List ℕ) → ℕ → ℕ
 idAt b i = idIn (entryAt b i)
 
 -- a mask is what a list shows
-abbrev Marks : (b : List ℕ) → List Exchange → (mask : ℕ) → Type 0
+abbrev pub Marks : (b : List ℕ) → List Exchange → (mask : ℕ) → Type 0
 Marks b xs mask = (i : ℕ) → i < countIn b → hasBit mask i ≡ completedIn 0 xs (idAt b i)
 
 -- counts and a mask are those of a list, of which no reply is awaited
@@ -55,36 +59,40 @@ abbrev Heard : (b : List ℕ) → Host → List Exchange → Type 0
 Heard b h xs = Tells b xs (h .packets) (h .passes) (h .mask)
 
 -- whether a packet whose reply is awaited opens a pass
-abbrev opens : (awaited : List (List ℕ)) → ℕ
+abbrev pub opens : (awaited : List (List ℕ)) → ℕ
 opens [] = 0
 opens (p ∷ ps) = cond (opensPass p) 1 0
 
 -- the awaited reply completes nothing, whatever it is
-abbrev Plain : (awaited : List (List ℕ)) → Type 0
+abbrev pub Plain : (awaited : List (List ℕ)) → Type 0
 Plain [] = Unit {0}
 Plain (p ∷ ps) = (reply : List ℕ) → trace.completes p reply ≡ false
 
 -- which entry the last offer of a list is for, once the awaited reply stands in it
-abbrev About : (b : List ℕ) → (entry : ℕ) → List Exchange → (awaited : List (List ℕ)) → Type 0
+abbrev pub About : (b : List ℕ) → (entry : ℕ) → List Exchange → (awaited : List (List ℕ)) → Type 0
 About b entry xs ps = (reply : List ℕ) → aboutIn 0 (xs ++ takenFor ps reply) ≡ idAt b entry
 
+-- where a block that is not the first of its body is awaited, the reply taken last is that to the block before
+abbrev pub TookBefore : Place → (taken : List ℕ) → Type 0
+TookBefore p taken = 1 ≤ p .block → replyIn taken ≡ record { sequence = sequenceOf (p .block - 1); status = SUCCESS }
+
 -- what is awaited in each stage, and which entry the last offer was for
-abbrev Shown : (b : List ℕ) → HostStage → List Exchange → (awaited : List (List ℕ)) → Type 0
+abbrev pub Shown : (b : List ℕ) → HostStage → List Exchange → (awaited : List (List ℕ)) → Type 0
 Shown b Fresh xs ps = Plain ps
 Shown b Opening xs ps = Plain ps
 Shown b Listing xs ps = Plain ps
 Shown b (Offering t) xs ps = Plain ps × About b (t .entry) xs ps
 Shown b (Waiting t) xs ps = Plain ps × About b (t .entry) xs ps
-Shown b (Sending a) xs ps = (ps ≡ blockPacket b (a .place) ∷ []) × (aboutIn 0 xs ≡ idAt b (a .place .entry))
+Shown b (Sending a) xs ps = (ps ≡ blockPacket b (a .place) ∷ []) × (aboutIn 0 xs ≡ idAt b (a .place .entry)) × TookBefore (a .place) (lastTaken xs)
 Shown b Closing xs ps = Plain ps
 Shown b (Ended e) xs ps = ps ≡ []
 
 -- what is known of a record in stage g, after a list of packets with their replies and one whose reply is awaited
-record KnownAt (b : List ℕ) (h : Host) (g : HostStage) (xs : List Exchange) (ps : List (List ℕ)) : Type 0 where
-  packets : h .packets ≡ length xs + length ps
-  passes : h .passes ≡ passesIn xs + opens ps
-  marks : Marks b xs (h .mask)
-  shown : Shown b g xs ps
+pub record KnownAt (b : List ℕ) (h : Host) (g : HostStage) (xs : List Exchange) (ps : List (List ℕ)) : Type 0 where
+  pub packets : h .packets ≡ length xs + length ps
+  pub passes : h .passes ≡ passesIn xs + opens ps
+  pub marks : Marks b xs (h .mask)
+  pub shown : Shown b g xs ps
 
 -- what is known after a move from a list of which no reply is awaited
 abbrev Next : (b : List ℕ) → List Exchange → Move → Type 0
@@ -103,6 +111,18 @@ taken-length xs (p ∷ q ∷ ps) reply l = absurd (omega arith)
 taken-passes : (xs : List Exchange) (ps : List (List ℕ)) (reply : List ℕ) → passesIn (xs ++ takenFor ps reply) ≡ passesIn xs + opens ps
 taken-passes xs [] reply = ap passesIn (append-nil xs) ∙ omega arith
 taken-passes xs (p ∷ ps) reply = passes-more xs _
+
+-- the reply taken last
+last-more : (xs : List Exchange) (x : Exchange) → lastTaken (xs ++ (x ∷ [])) ≡ x .reply
+last-more [] x = refl
+last-more (y ∷ []) x = refl
+last-more (y ∷ z ∷ xs) x = last-more (z ∷ xs) x
+
+-- what is read in a reply that shows a block taken
+taken-reads : (p : Place) (reply : List ℕ) → isTaken p reply ≡ true → replyIn reply ≡ record { sequence = sequenceOf (p .block); status = SUCCESS }
+taken-reads p reply e =
+    let w = both (eqb (replyIn reply .sequence) (sequenceOf (p .block))) (eqb (replyIn reply .status) SUCCESS) (both (eqb (length reply) 16) _ e .1) in
+    ap₂ (λ (x y : ℕ). record { sequence = x; status = y }) (eqb-true _ _ (w .0)) (eqb-true _ _ (w .1))
 
 module _ (b : List ℕ) (α : Accepted b) where
   -- an exchange that completes nothing
@@ -152,13 +172,13 @@ module _ (b : List ℕ) (α : Accepted b) where
 
   -- a block of the entry that the last offer was for
   next-block : (h : Host) (xs : List Exchange) (p : Place) → Heard b h xs → p .entry < countIn b → p .block < length (blocksAt b (p .entry))
-      → aboutIn 0 xs ≡ idAt b (p .entry) → Next b xs (sendBlock p h)
+      → aboutIn 0 xs ≡ idAt b (p .entry) → TookBefore p (lastTaken xs) → Next b xs (sendBlock p h)
   unfolding packetOf
-  next-block h xs p k l m a = record {
+  next-block h xs p k l m a w = record {
     packets = omega (arith, k .packets);
     passes = rw (block-opens b α p l m) (omega (arith, k .passes));
     marks = k .marks;
-    shown = (refl, a);
+    shown = (refl, a, w);
   }
 
   module _ (xs : List Exchange) (mask : ℕ) (p : Place) (reply : List ℕ) (l : p .entry < countIn b) (m : p .block < length (blocksAt b (p .entry)))
@@ -211,6 +231,32 @@ module _ (b : List ℕ) (α : Accepted b) where
       offer-cases (After b xs ps reply) (countIn b) e h (next-offer h _ (record { entry = e; busy = 0 }) k s)
       (record { packets = omega (arith, k .packets); passes = omega (arith, k .passes); marks = k .marks; shown = λ reply. refl })
 
+  module _ (h : Host) (xs : List Exchange) (a : Awaited) (reply : List ℕ) (s : h .token < 256) (l : a .place .entry < countIn b)
+      (m : a .place .block < length (blocksAt b (a .place .entry))) (k : KnownAt b h (Sending a) xs (blockPacket b (a .place) ∷ [])) where
+    -- the block with its reply, with this mask
+    took : (mask : ℕ) → Marks b (xs ++ takenFor (blockPacket b (a .place) ∷ []) reply) mask
+        → Tells b (xs ++ takenFor (blockPacket b (a .place) ∷ []) reply) (h .packets) (h .passes) mask
+    took mask w = takes h (Sending a) xs (blockPacket b (a .place) ∷ []) reply mask k (omega arith) w
+
+    -- .. where the mask stays
+    took-same : (isTaken (a .place) reply && isLast b (a .place)) ≡ false → Heard b h (xs ++ takenFor (blockPacket b (a .place) ∷ []) reply)
+    took-same y = took (h .mask) (due-same xs (h .mask) (a .place) reply l m (k .shown .1) (k .marks) y)
+
+    -- every move on a reply to a block
+    sending-after : After b xs (blockPacket b (a .place) ∷ []) reply (decideIn (Sending a) (countIn b) (lastIn b (Sending a)) h reply)
+    unfolding decideIn packetOf
+    sending-after =
+        sending-cases (After b xs (blockPacket b (a .place) ∷ []) reply) (countIn b) (isLast b (a .place)) a h reply
+        (λ t. next-ends h _ (took-same (rw t)))
+        (λ y f. record { packets = k .packets; passes = k .passes; marks = k .marks; shown = (refl, k .shown .1, k .shown .2) })
+        (λ t f. after-from (completes h (a .place .entry)) xs (blockPacket b (a .place) ∷ []) reply (a .place .entry + 1)
+        (took (withBit (h .mask) (a .place .entry)) (due-more xs (h .mask) (a .place) reply l m (k .shown .1) (k .marks) (rw (t, f)))) s)
+        (λ t f. next-block h _ (record { entry = a .place .entry; block = a .place .block + 1 }) (took-same (rw (t, f))) l
+        (omega (arith, m, eqb-false (a .place .block + 1) (length (blocksAt b (a .place .entry))) f))
+        (about-same xs (h .mask) (a .place) reply l m (k .shown .1) (k .marks))
+        (λ y. let c : a .place .block ≡ a .place .block + 1 - 1 = omega arith in
+        ap replyIn (last-more xs _) ∙ taken-reads (a .place) reply t ∙ ap (λ (n : ℕ). record { sequence = sequenceOf n; status = SUCCESS }) c))
+
   -- every move, by its stage
   after-by : (h : Host) (xs : List Exchange) (ps : List (List ℕ)) (reply : List ℕ) (g : HostStage) → h .stage ≡ g → ReadyAt b h g → KnownAt b h g xs ps → length ps ≤ 1
       → After b xs ps reply (decideIn g (countIn b) (lastIn b g) h reply)
@@ -227,30 +273,15 @@ module _ (b : List ℕ) (α : Accepted b) where
   after-by h xs ps reply (Offering t) z r k l =
       let w = takes-plain h (Offering t) xs ps reply k l (k .shown .0) in
       offering-cases (After b xs ps reply) (countIn b) h reply (next-ends h _ w) t
-      (next-block h _ (record { entry = t .entry; block = 0 }) w (r .stage .0) (α .records (t .entry) (r .stage .0)) (k .shown .1 reply))
+      (next-block h _ (record { entry = t .entry; block = 0 }) w (r .stage .0) (α .records (t .entry) (r .stage .0)) (k .shown .1 reply)
+      (λ z. absurd (omega arith)))
       (λ s. after-from (noted h s) xs ps reply (t .entry + 1) w (r .token))
       (λ q. next-notify h _ (record { entry = t .entry; busy = t .busy + 1 }) w (k .shown .1 reply))
   after-by h xs ps reply (Waiting t) z r k l =
       let w = takes-plain h (Waiting t) xs ps reply k l (k .shown .0) in
       waiting-cases (After b xs ps reply) (countIn b) h reply (next-ends h _ w) t (next-offer h _ t w (r .token) (r .stage .0))
-  after-by h xs ps reply (Sending a) z r k l = rw (k .shown .0) (go (rw (k .shown .0) at k))
-    where
-      p : Place
-      p = a .place
-
-      go : KnownAt b h (Sending a) xs (blockPacket b (a .place) ∷ []) → After b xs (blockPacket b (a .place) ∷ []) reply (decideIn (Sending a) (countIn b) (lastIn b (Sending a)) h reply)
-      go k =
-          let e = k .shown .1 in
-          let took = λ (mask : ℕ). takes h (Sending a) xs (blockPacket b p ∷ []) reply mask k (omega arith) in
-          let same = λ (y : (isTaken p reply && isLast b p) ≡ false). took (h .mask) (due-same xs (h .mask) p reply (r .stage .0) (r .stage .1) e (k .marks) y) in
-          sending-cases (After b xs (blockPacket b p ∷ []) reply) (countIn b) (isLast b p) a h reply
-          (λ t. next-ends h _ (same (rw t)))
-          (λ s f. record { packets = k .packets; passes = k .passes; marks = k .marks; shown = (refl, e) })
-          (λ t f. after-from (completes h (p .entry)) xs (blockPacket b p ∷ []) reply (p .entry + 1)
-          (took (withBit (h .mask) (p .entry)) (due-more xs (h .mask) p reply (r .stage .0) (r .stage .1) e (k .marks) (rw (t, f)))) (r .token))
-          (λ t f. next-block h _ (record { entry = p .entry; block = p .block + 1 }) (same (rw (t, f))) (r .stage .0)
-          (omega (arith, r .stage .1, eqb-false (p .block + 1) (length (blocksAt b (p .entry))) f))
-          (about-same xs (h .mask) p reply (r .stage .0) (r .stage .1) e (k .marks)))
+  after-by h xs ps reply (Sending a) z r k l =
+      rw (k .shown .0) (sending-after h xs a reply (r .token) (r .stage .0) (r .stage .1) (rw (k .shown .0) at k))
   after-by h xs ps reply Closing z r k l =
       let w = takes-plain h Closing xs ps reply k l (k .shown) in
       closing-cases (After b xs ps reply) (countIn b) h reply (next-ends h _ w) (λ e. next-list h _ w)
@@ -283,7 +314,7 @@ module _ (b : List ℕ) (token : ℕ) (replies : ℕ → List ℕ) (α : Accepte
   at k = hostSteps b token replies k
 
   -- every record is known
-  known-at : (k : ℕ) → KnownAt b (at k .host) (at k .host .stage) (at k .trace) (at k .awaited) × (length (at k .awaited) ≤ 1)
+  pub known-at : (k : ℕ) → KnownAt b (at k .host) (at k .host .stage) (at k .trace) (at k .awaited) × (length (at k .awaited) ≤ 1)
   unfolding hostSteps passesIn completedIn
   known-at zero = (record { packets = refl; passes = refl; marks = λ i l. no-bit i; shown = tt }, omega arith)
   known-at (suc k) =

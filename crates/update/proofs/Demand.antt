@@ -19,19 +19,20 @@ use Rattle.bundle.proofs.Accepted.{Accepted, accepted}
 use Rattle.device.specs.Record.{find, component, toIdle}
 use Rattle.device.specs.declared.record.Device.{Device}
 use Rattle.host_record.specs.Record as ending
-use Rattle.host_record.specs.Record.{reportOf}
+use Rattle.host_record.specs.Record.{hasEnded, reportOf}
 use Rattle.host.specs.Step.{blocksAt}
 use Rattle.host_record.specs.declared.record.Host.{Host}
 use Rattle.host_record.specs.declared.record.HostStage.the-variants.{Ended}
 use Rattle.host_record.specs.declared.record.End.the-variants.{Done}
 use Rattle.update.specs.Trace.{Exchange, passesIn}
 use Rattle.update.specs.Ends.{Counted, completedOf}
-use Rattle.update.specs.Run.{System, lastOf}
+use Rattle.update.specs.Run.{System, Schedule, lastOf}
 use Rattle.update.specs.Claim.{offerAt, Good, isEligible, Closed, Smallest, Leaves}
 use Rattle.update.specs.Demand.{Premise, stagedIn, Reordered, Same, DemandThree}
 use Rattle.update.proofs.Eligible.{eligible-says}
 use Rattle.update.proofs.Landed.{same-slot, one-offer}
 use Rattle.update.proofs.Filled.{fine-setup, fills-same}
+use Rattle.update.proofs.Talks.{end-stays}
 use Rattle.update.proofs.Whole.{Core, core}
 use Rattle.update.proofs.Orders.{flip, same-offer, same-blocks, same-set, same-leaves, same-fills, leaves-same}
 
@@ -96,10 +97,11 @@ reordered b b′ token token′ d staging P bytes small accept π =
 
 -- demand 3
 pub demand-three : DemandThree
-demand-three b token d staging reply P =
+demand-three b twice token d staging reply P =
     record {
       done = c .done;
-      stays = c .stays;
+      stays = (c .stays, end-stays b (s .host) (ap hasEnded (c .done)));
+      silence = c .silence;
       served = c .served;
       passes = c .passes;
       packets = c .packets;
@@ -116,14 +118,14 @@ demand-three b token d staging reply P =
     α = accepted b (P .bundle) (P .accepted)
 
     s : System
-    s = lastOf b token d staging reply
+    s = lastOf b twice token d staging reply
 
-    c : Core b token d staging reply (lastOf b token d staging reply)
-    c = core b token d staging reply P
+    c : Core b twice token d staging reply (lastOf b twice token d staging reply)
+    c = core b twice token d staging reply P
 
-    order : (b′ : List ℕ) (token′ : ℕ) (reply′ : List ℕ) → Bytes b′ → token′ < 256 → rows.bundleRow b′ ≡ rows.served
-        → (π : Reordered b b′) → Same b b′ π (lastOf b token d staging reply) (lastOf b′ token′ d staging reply′)
-    order b′ token′ reply′ bytes small accept π =
+    order : (b′ : List ℕ) (twice′ : Schedule) (token′ : ℕ) (reply′ : List ℕ) → Bytes b′ → token′ < 256 → rows.bundleRow b′ ≡ rows.served
+        → (π : Reordered b b′) → Same b b′ π (lastOf b twice token d staging reply) (lastOf b′ twice′ token′ d staging reply′)
+    order b′ twice′ token′ reply′ bytes small accept π =
         record {
           set = same;
           device = sym (leaves-same b α d (stagedIn b s) (s .device) (s′ .device) (c .device) (same-leaves b b′ π d (stagedIn b s) (stagedIn b′ s′) same (s′ .device) (c′ .device)));
@@ -133,10 +135,10 @@ demand-three b token d staging reply P =
         }
       where
         s′ : System
-        s′ = lastOf b′ token′ d staging reply′
+        s′ = lastOf b′ twice′ token′ d staging reply′
 
-        c′ : Core b′ token′ d staging reply′ (lastOf b′ token′ d staging reply′)
-        c′ = core b′ token′ d staging reply′ (reordered b b′ token token′ d staging P bytes small accept π)
+        c′ : Core b′ twice′ token′ d staging reply′ (lastOf b′ twice′ token′ d staging reply′)
+        c′ = core b′ twice′ token′ d staging reply′ (reordered b b′ token token′ d staging P bytes small accept π)
 
-        same : (i : ℕ) → i < countIn b → stagedIn b′ (lastOf b′ token′ d staging reply′) (π .to i) ≡ stagedIn b (lastOf b token d staging reply) i
-        same = same-set b b′ π d (stagedIn b (lastOf b token d staging reply)) (stagedIn b′ (lastOf b′ token′ d staging reply′)) (c .smallest) (c′ .smallest)
+        same : (i : ℕ) → i < countIn b → stagedIn b′ (lastOf b′ twice′ token′ d staging reply′) (π .to i) ≡ stagedIn b (lastOf b twice token d staging reply) i
+        same = same-set b b′ π d (stagedIn b (lastOf b twice token d staging reply)) (stagedIn b′ (lastOf b′ twice′ token′ d staging reply′)) (c .smallest) (c′ .smallest)

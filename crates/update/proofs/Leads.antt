@@ -179,13 +179,11 @@ module _ (b : List ℕ) (twice : Schedule) where
   unfolding goes turned
   passes p h h′ d s x q trace z m n e = record { comes = rw (z, m, n, e); fine = λ y w. let u : _≡_ {A = ℕ} 0 1 = cc in absurd (omega arith) }
 
-  pub pass : (c : Bool) (p : List ℕ) (h h′ : Host) (d d′ : Device) (s s′ r x : List ℕ) (trace : List Exchange)
-      → Arrives c p d d′ s s′ r → hasEnded (h .stage) ≡ false → steps h x .sent ≡ [] → steps h x .host ≡ h′ → hasEnded (h′ .stage) ≡ false
+  pub pass : (c : Bool) (p : List ℕ) (h h′ : Host) (d : Device) (s x : List ℕ) (trace : List Exchange)
+      → hasEnded (h .stage) ≡ false → steps h x .sent ≡ [] → steps h x .host ≡ h′ → hasEnded (h′ .stage) ≡ false
       → Goes (arriving c p h d s (x ∷ []) trace) (arriving c p h′ d s [] trace)
-  pass c p h h′ d d′ s s′ r x trace a z m n e =
-      subst (λ (y : System). Goes y (arriving c p h′ d s [] trace)) (sym (arrived c p h d d′ s s′ r (x ∷ []) trace a))
-      (subst (λ (y : System). Goes (sending p h d′ s′ (x ∷ r ∷ copies c r) trace) y) (sym (arrived c p h′ d d′ s s′ r [] trace a))
-      (passes p h h′ d′ s′ x (r ∷ copies c r) trace z m n e))
+  pass false p h h′ d s x trace z m n e = passes p h h′ _ _ x _ trace z m n e
+  pass true p h h′ d s x trace z m n e = passes p h h′ _ _ x _ trace z m n e
 
   -- or nothing is sent, and the host has ended
   stops : (p : List ℕ) (h h′ : Host) (d : Device) (s r : List ℕ) (q : List (List ℕ)) (trace : List Exchange)

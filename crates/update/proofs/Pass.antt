@@ -32,18 +32,19 @@ use Rattle.device.specs.declared.record.Device.{Device}
 use Rattle.device.proofs.Calls.{Sound}
 use Rattle.device_offering.proofs.checks.Laws.{Ruling, rules}
 use Rattle.device.proofs.Offering.{offerVerdict}
+use Rattle.device.proofs.Blocks.{Precedes}
 use Rattle.device.proofs.Opened.{open-passes}
 use Rattle.host_record.specs.Record.{hasBit, withBit}
 use Rattle.host.specs.Step.{blocksAt}
 use Rattle.update.specs.Trace.{Exchange}
-use Rattle.update.specs.Run.{System}
+use Rattle.update.specs.Run.{System, Schedule}
 use Rattle.update.specs.Claim.{offerAt, imageOf, Good, isEligible, Fills}
 use Rattle.update.proofs.Leads.{said, more-length, Leads, leads-none, leads-step, leads-then}
 use Rattle.update.proofs.Mask.{with-bit}
 use Rattle.update.proofs.Packets.{offerPacket}
-use Rattle.update.proofs.Sent.{withToken}
+use Rattle.update.proofs.Sent.{withToken, block-sequence}
 use Rattle.update.proofs.Turns.{replied, turning, x-reject, x-skip, x-accept}
-use Rattle.update.proofs.Transfer.{Opens, blocking, Right, contents, contents-length, block-answered, transmits}
+use Rattle.update.proofs.Transfer.{before, Opens, blocking, Right, contents, contents-length, first-serves, transmits}
 use Rattle.update.proofs.Eligible.{Fresher, eligible-says, token-rejections, token-need}
 use Rattle.update.proofs.Landed.{offers, at-slot, Holding, same-find, spared, holding-more, eligible-now, meets-now, same-slot}
 use Rattle.update.proofs.Filled.{image-length, region-inside, fills-more}
@@ -59,14 +60,14 @@ pub record Given (b : List ℕ) (t : ℕ) (d : Device) (s : List ℕ) : Type 0 w
   pub len : (k : ℕ) → component d k .fixed .region .len < 256 ^ 4
   pub good : (i k : ℕ) → i < countIn b → find d (offerAt b i .id) ≡ found.At k → Good (component d k) (offerAt b i) (blocksAt b i)
 
-module _ (b : List ℕ) (t : ℕ) (d : Device) (s : List ℕ) (G : Given b t d s) where
+module _ (b : List ℕ) (twice : Schedule) (t : ℕ) (d : Device) (s : List ℕ) (G : Given b t d s) where
   -- what is known of the bundle
   abbrev α : Accepted b
   α = G .accepted
 
   -- entry e is next, with the pass p so far
   abbrev pub due : (e : ℕ) → Pass → (mask packets passes : ℕ) → List Component → (r : List ℕ) → List Exchange → System
-  due e p m n q ps r trace = turning b (G .accepted) t (G .small) d e m n q (p .skipped) (p .landed) ps r trace
+  due e p m n q ps r trace = turning b twice (G .accepted) t (G .small) d e m n q (p .skipped) (p .landed) ps r trace
 
   -- a set has landed: the mask, the components and the staging buffer
   pub record Landed (S : Set) (m : ℕ) (ps : List Component) (r : List ℕ) : Type 0 where
@@ -81,7 +82,7 @@ module _ (b : List ℕ) (t : ℕ) (d : Device) (s : List ℕ) (G : Given b t d s
     pub components : List Component
     pub staging : List ℕ
     pub trace : List Exchange
-    pub leads : Leads b x (due e p mask packets q components staging trace)
+    pub leads : Leads b twice x (due e p mask packets q components staging trace)
     pub landed : Landed (p .set) mask components staging
     pub count : length trace ≡ c + p .sent
 
@@ -119,13 +120,18 @@ module _ (b : List ℕ) (t : ℕ) (d : Device) (s : List ℕ) (G : Given b t d s
       abbrev g : Good (component d k) (offerAt b e) (blocksAt b e)
       g = G .good e k l f
 
+      -- the packet that the session holds is that of the block before
+      precedes : (j : ℕ) → Precedes j (before b twice α t (G .small) d ps k e l j)
+      precedes zero = tt
+      precedes (suc j) = block-sequence b (record { entry = e; block = j })
+
       -- the session may open
-      opens : Opens b α t (G .small) d ps k e l
+      opens : Opens b twice α t (G .small) d ps k e l
       opens =
           record {
             len = rw was (G .len k);
             room = rw was (region-inside b α d (G .slots) (G .fine) s (G .d2) k (at-slot b α d e k f .0));
-            d1 = λ j. open-passes d ps k (at-slot b α d e k f .0) (h .components .d1) t j free;
+            d1 = λ j. open-passes d ps k (at-slot b α d e k f .0) (h .components .d1) t j (before b twice α t (G .small) d ps k e l j) (precedes j) free;
           }
 
       -- what has landed after it
@@ -140,7 +146,7 @@ module _ (b : List ℕ) (t : ℕ) (d : Device) (s : List ℕ) (G : Given b t d s
 
       module _ (p q : ℕ) (sk la : Bool) (trace : List Exchange) where
         -- the image is right
-        right : Right b α t (G .small) d ps k e l opens m q sk la (imageOf (component d k .fixed .region .len) (blocksAt b e)) (offerAt b e .version)
+        right : Right b twice α t (G .small) d ps k e l opens m q sk la (imageOf (component d k .fixed .region .len) (blocksAt b e)) (offerAt b e .version)
         right =
             record {
               size = rw was (image-length (component d k .fixed .region .len) (blocksAt b e) (g .inside));
@@ -153,22 +159,22 @@ module _ (b : List ℕ) (t : ℕ) (d : Device) (s : List ℕ) (G : Given b t d s
 
         -- an offer that is accepted, up to the next: the trace is longer by the offer and the blocks of the body
         pub accepts : offerVerdict (idleWith d ps) (withToken (offerAt b e) t) ≡ Accept k
-            → Leads b (turning b α t (G .small) d e m p q sk la ps r trace)
-            (turning b α t (G .small) d (suc e) (withBit m e) (p + 1 + length (blocksAt b e)) q sk true (set ps k (withStaged (componentAt ps k) (offerAt b e .version)))
+            → Leads b twice (turning b twice α t (G .small) d e m p q sk la ps r trace)
+            (turning b twice α t (G .small) d (suc e) (withBit m e) (p + 1 + length (blocksAt b e)) q sk true (set ps k (withStaged (componentAt ps k) (offerAt b e .version)))
             (within (component d k .fixed .region .base .0) (component d k .fixed .region .len) (λ (old : List ℕ). imageOf (component d k .fixed .region .len) (blocksAt b e)) r)
-            ((trace ++ (offered e 0 OFFER-ACCEPT ∷ [])) ++ contents b α t (G .small) d ps k e l 0 (length (blocksAt b e))))
+            ((trace ++ (offered e 0 OFFER-ACCEPT ∷ [])) ++ contents b twice α t (G .small) d ps k e l 0 (length (blocksAt b e))))
         accepts v =
             let d2 : length r ≡ d .«staging_len» = h .bytes .long ∙ G .d2 in
-            leads-step b
-            (x-accept b α t (G .small) d ps r (sound-now S m ps r h) trace e l m p q sk la k v
-            (block-answered b α t (G .small) d ps k e l opens m q sk la 0 (α .records e l) r d2))
+            leads-step b twice
+            (x-accept b twice α t (G .small) d ps r (sound-now S m ps r h) trace e l m p q sk la k v
+            (first-serves b twice α t (G .small) d ps k e l opens m q sk la 0 (α .records e l) r d2 refl))
             (subst
-            (λ (c : Component). Leads b (blocking b α t (G .small) d ps k e l opens m q sk la 0 (p + 1) r (trace ++ (offered e 0 OFFER-ACCEPT ∷ [])))
-            (turning b α t (G .small) d (suc e) (withBit m e) (p + 1 + length (blocksAt b e)) q sk true (set ps k (withStaged (componentAt ps k) (offerAt b e .version)))
+            (λ (c : Component). Leads b twice (blocking b twice α t (G .small) d ps k e l opens m q sk la false 0 (p + 1) r [] (trace ++ (offered e 0 OFFER-ACCEPT ∷ [])))
+            (turning b twice α t (G .small) d (suc e) (withBit m e) (p + 1 + length (blocksAt b e)) q sk true (set ps k (withStaged (componentAt ps k) (offerAt b e .version)))
             (within (c .fixed .region .base .0) (c .fixed .region .len) (λ (old : List ℕ). imageOf (component d k .fixed .region .len) (blocksAt b e)) r)
-            ((trace ++ (offered e 0 OFFER-ACCEPT ∷ [])) ++ contents b α t (G .small) d ps k e l 0 (length (blocksAt b e)))))
+            ((trace ++ (offered e 0 OFFER-ACCEPT ∷ [])) ++ contents b twice α t (G .small) d ps k e l 0 (length (blocksAt b e)))))
             was
-            (transmits b α t (G .small) d ps k e l opens m q sk la (imageOf (component d k .fixed .region .len) (blocksAt b e)) (offerAt b e .version) right (p + 1) (p + 1 + length (blocksAt b e)) r
+            (transmits b twice α t (G .small) d ps k e l opens m q sk la (imageOf (component d k .fixed .region .len) (blocksAt b e)) (offerAt b e .version) right (p + 1) (p + 1 + length (blocksAt b e)) r
             (trace ++ (offered e 0 OFFER-ACCEPT ∷ [])) (α .records e l) (rw was (g .inside)) d2 (ap (λ (c : Component). imageOf (c .fixed .region .len) (blocksAt b e)) was) refl))
 
   -- what it says of an offer that it is not eligible now
@@ -210,7 +216,7 @@ module _ (b : List ℕ) (t : ℕ) (d : Device) (s : List ℕ) (G : Given b t d s
             components = ps;
             staging = r;
             trace = trace ++ (offered e x OFFER-REJECT ∷ []);
-            leads = leads-step b (x-reject b α t (G .small) d ps r (sound-now (p .set) m ps r h) trace e l m n q (p .skipped) (p .landed) x v) (leads-none b _);
+            leads = leads-step b twice (x-reject b twice α t (G .small) d ps r (sound-now (p .set) m ps r h) trace e l m n q (p .skipped) (p .landed) x v) (leads-none b twice _);
             landed = h;
             count = omega (arith, more-length trace (offered e x OFFER-REJECT));
           })
@@ -225,7 +231,7 @@ module _ (b : List ℕ) (t : ℕ) (d : Device) (s : List ℕ) (G : Given b t d s
             components = ps;
             staging = r;
             trace = trace ++ (offered e 0 OFFER-SKIP ∷ []);
-            leads = leads-step b (x-skip b α t (G .small) d ps r (sound-now (p .set) m ps r h) trace e l m n q (p .skipped) (p .landed) v) (leads-none b _);
+            leads = leads-step b twice (x-skip b twice α t (G .small) d ps r (sound-now (p .set) m ps r h) trace e l m n q (p .skipped) (p .landed) v) (leads-none b twice _);
             landed = h;
             count = omega (arith, more-length trace (offered e 0 OFFER-SKIP));
           })
@@ -235,7 +241,7 @@ module _ (b : List ℕ) (t : ℕ) (d : Device) (s : List ℕ) (G : Given b t d s
           = sym (meets-now b α d (p .set) ps (h .components) e l fair (z .0)) ∙ ap not (sym (token-need (idleWith d ps) (offerAt b e) t) ∙ w .1) in
           let f : find d (offerAt b e .id) ≡ found.At k = sym (same-find b α d (p .set) ps (h .components) (offerAt b e .id)) ∙ w .2 in
           let x = eligible-says d (offerAt b e) (holds _ (z .1)) in
-          let blocks = contents b α t (G .small) d ps k e l 0 (length (blocksAt b e)) in
+          let blocks = contents b twice α t (G .small) d ps k e l 0 (length (blocksAt b e)) in
           rw (z .0, z .1, met)
           (record {
             mask = withBit m e;
@@ -247,7 +253,7 @@ module _ (b : List ℕ) (t : ℕ) (d : Device) (s : List ℕ) (G : Given b t d s
             landed = lands-more e l (p .set) m ps r h k (z .0) f x;
             count =
                 length-append (trace ++ (offered e 0 OFFER-ACCEPT ∷ [])) blocks
-                ∙ omega (arith, more-length trace (offered e 0 OFFER-ACCEPT), contents-length b α t (G .small) d ps k e l 0 (length (blocksAt b e)));
+                ∙ omega (arith, more-length trace (offered e 0 OFFER-ACCEPT), contents-length b twice α t (G .small) d ps k e l 0 (length (blocksAt b e)));
           })
 
   -- two stretches of a run, one after the other
@@ -262,7 +268,7 @@ module _ (b : List ℕ) (t : ℕ) (d : Device) (s : List ℕ) (G : Given b t d s
         components = k .components;
         staging = k .staging;
         trace = k .trace;
-        leads = leads-then b (g .leads) (k .leads);
+        leads = leads-then b twice (g .leads) (k .leads);
         landed = k .landed;
         count = k .count;
       }
@@ -279,7 +285,7 @@ module _ (b : List ℕ) (t : ℕ) (d : Device) (s : List ℕ) (G : Given b t d s
         components = ps;
         staging = r;
         trace = trace;
-        leads = subst (λ (i : ℕ). Leads b (due e p m n q ps r trace) (due i p m n q ps r trace)) (omega arith) (leads-none b (due e p m n q ps r trace));
+        leads = subst (λ (i : ℕ). Leads b twice (due e p m n q ps r trace) (due i p m n q ps r trace)) (omega arith) (leads-none b twice (due e p m n q ps r trace));
         landed = h;
         count = omega arith;
       }

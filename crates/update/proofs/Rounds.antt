@@ -23,7 +23,7 @@ use Rattle.host_record.specs.Record.{hasBit}
 use Rattle.host_record.specs.declared.record.HostStage.the-variants.{Ended}
 use Rattle.host_record.specs.declared.record.End.the-variants.{Done}
 use Rattle.update.specs.Trace.{Exchange}
-use Rattle.update.specs.Run.{System, start}
+use Rattle.update.specs.Run.{System, Schedule, start}
 use Rattle.update.proofs.Mask.{no-bit}
 use Rattle.update.proofs.Leads.{said, more-length, Leads, leads-none, leads-step, leads-then}
 use Rattle.update.proofs.Turns.{replied, codeBytes, listing, x-open, x-list, x-first, x-again, x-done}
@@ -31,7 +31,7 @@ use Rattle.update.proofs.Landed.{offers, holding-none}
 use Rattle.update.proofs.Filled.{fills-none}
 use Rattle.update.proofs.Pass.{Given, due, Landed, Gets, Fair, sound-now, fair-step, pass-sim}
 
-module _ (b : List ℕ) (t : ℕ) (d : Device) (s : List ℕ) (G : Given b t d s) where
+module _ (b : List ℕ) (twice : Schedule) (t : ℕ) (d : Device) (s : List ℕ) (G : Given b t d s) where
   -- a pass from a set on
   abbrev once : Set → Pass
   once = onePass (offers b (G .accepted) d) (from 0 (countIn b))
@@ -51,19 +51,21 @@ module _ (b : List ℕ) (t : ℕ) (d : Device) (s : List ℕ) (G : Given b t d s
   -- from x the run ends, as the passes say
   pub record Comes (x : System) (ρ : Passes) : Type 0 where
     pub last : System
-    pub leads : Leads b x last
+    pub leads : Leads b twice x last
     pub done : last .host .stage ≡ Ended Done
+    pub silence : (last .awaited ≡ []) × (last .replies ≡ [])
     pub device : last .device ≡ idleWith d (last .device .components)
-    pub landed : Landed b t d s G (ρ .set) (last .host .mask) (last .device .components) (last .staging)
+    pub landed : Landed b twice t d s G (ρ .set) (last .host .mask) (last .device .components) (last .staging)
     pub passes : last .host .passes ≡ ρ .passes
     pub count : length (last .trace) ≡ sentBy ρ
 
   -- turns before such a run
-  comes-after : (x y : System) (ρ : Passes) → Leads b x y → Comes y ρ → Comes x ρ
+  comes-after : (x y : System) (ρ : Passes) → Leads b twice x y → Comes y ρ → Comes x ρ
   comes-after x y ρ l g = record {
     last = g .last;
-    leads = leads-then b l (g .leads);
+    leads = leads-then b twice l (g .leads);
     done = g .done;
+    silence = g .silence;
     device = g .device;
     landed = g .landed;
     passes = g .passes;
@@ -76,17 +78,17 @@ module _ (b : List ℕ) (t : ℕ) (d : Device) (s : List ℕ) (G : Given b t d s
 
   -- code 1 is on its way
   abbrev list : (mask packets passes : ℕ) → List Component → (r : List ℕ) → List Exchange → System
-  list m n q ps r trace = listing b (G .accepted) t (G .small) d m n q ps r trace
+  list m n q ps r trace = listing b twice (G .accepted) t (G .small) d m n q ps r trace
 
   -- what lands in a pass was eligible
-  fair-once : (S : Set) → Fair b t d s G S → Fair b t d s G (once S .set)
+  fair-once : (S : Set) → Fair b twice t d s G S → Fair b twice t d s G (once S .set)
   unfolding onePass
   fair-once S fair =
-      pass-keeps (offers b (G .accepted) d) (λ (x : Pass). Fair b t d s G (x .set)) (from 0 (countIn b)) (λ p i m h. fair-step b t d s G p i h) (opened S) fair
+      pass-keeps (offers b (G .accepted) d) (λ (x : Pass). Fair b twice t d s G (x .set)) (from 0 (countIn b)) (λ p i m h. fair-step b twice t d s G p i h) (opened S) fair
 
   -- one pass, up to its code 2
-  to-close : (S : Set) → Fair b t d s G S → (m n q c : ℕ) (ps : List Component) (r : List ℕ) (trace : List Exchange) → Landed b t d s G S m ps r → length trace ≡ c
-      → Gets b t d s G (list m n q ps r trace) (countIn b) (once S) q (suc c + countIn b)
+  to-close : (S : Set) → Fair b twice t d s G S → (m n q c : ℕ) (ps : List Component) (r : List ℕ) (trace : List Exchange) → Landed b twice t d s G S m ps r → length trace ≡ c
+      → Gets b twice t d s G (list m n q ps r trace) (countIn b) (once S) q (suc c + countIn b)
   unfolding onePass
   to-close S fair m n q c ps r trace h count =
       record {
@@ -95,20 +97,20 @@ module _ (b : List ℕ) (t : ℕ) (d : Device) (s : List ℕ) (G : Given b t d s
         components = g .components;
         staging = g .staging;
         trace = g .trace;
-        leads = leads-step b (x-first b (G .accepted) t (G .small) d ps r (sound-now b t d s G S m ps r h) trace m n q) (g .leads);
+        leads = leads-step b twice (x-first b twice (G .accepted) t (G .small) d ps r (sound-now b twice t d s G S m ps r h) trace m n q) (g .leads);
         landed = g .landed;
         count = g .count;
       }
     where
-      g : Gets b t d s G (due b t d s G 0 (opened S) m (n + 1) q ps r (trace ++ (coded 1 ∷ []))) (countIn b) (once S) q (suc c + countIn b)
+      g : Gets b twice t d s G (due b twice t d s G 0 (opened S) m (n + 1) q ps r (trace ++ (coded 1 ∷ []))) (countIn b) (once S) q (suc c + countIn b)
       g =
-          pass-sim b t d s G (countIn b) 0 (omega arith) (opened S) fair q (suc c) (suc c + countIn b) m (n + 1) ps r (trace ++ (coded 1 ∷ [])) h
+          pass-sim b twice t d s G (countIn b) 0 (omega arith) (opened S) fair q (suc c) (suc c + countIn b) m (n + 1) ps r (trace ++ (coded 1 ∷ [])) h
           (omega (arith, more-length trace (coded 1))) refl
 
-  module _ (ρ : Passes) (fair : Fair b t d s G (ρ .set)) (m n q : ℕ) (ps : List Component) (r : List ℕ) (trace : List Exchange) (h : Landed b t d s G (ρ .set) m ps r)
+  module _ (ρ : Passes) (fair : Fair b twice t d s G (ρ .set)) (m n q : ℕ) (ps : List Component) (r : List ℕ) (trace : List Exchange) (h : Landed b twice t d s G (ρ .set) m ps r)
       (count : length trace ≡ sentBy ρ) (passes : q ≡ suc (ρ .passes)) where
     -- the pass
-    g : Gets b t d s G (list m n q ps r trace) (countIn b) (once (ρ .set)) q (suc (sentBy ρ) + countIn b)
+    g : Gets b twice t d s G (list m n q ps r trace) (countIn b) (once (ρ .set)) q (suc (sentBy ρ) + countIn b)
     g = to-close (ρ .set) fair m n q (sentBy ρ) ps r trace h count
 
     -- no entry stands at the count
@@ -117,7 +119,7 @@ module _ (b : List ℕ) (t : ℕ) (d : Device) (s : List ℕ) (G : Given b t d s
 
     -- D1 and D2 let the device pass after it
     sound : Sound (idleWith d (g .components)) (g .staging)
-    sound = sound-now b t d s G (once (ρ .set) .set) (g .mask) (g .components) (g .staging) (g .landed)
+    sound = sound-now b twice t d s G (once (ρ .set) .set) (g .mask) (g .components) (g .staging) (g .landed)
 
     -- the packets up to code 2 are counted
     counted : length (g .trace ++ (coded 2 ∷ [])) ≡ sentBy (next ρ)
@@ -131,11 +133,12 @@ module _ (b : List ℕ) (t : ℕ) (d : Device) (s : List ℕ) (G : Given b t d s
         record {
           last = _;
           leads =
-              leads-then b (g .leads)
-              (leads-step b
-              (x-done b (G .accepted) t (G .small) d (g .components) (g .staging) sound (g .trace) (countIn b) past (g .mask) (g .packets) q (once (ρ .set) .skipped) (once (ρ .set) .landed) z)
-              (leads-none b _));
+              leads-then b twice (g .leads)
+              (leads-step b twice
+              (x-done b twice (G .accepted) t (G .small) d (g .components) (g .staging) sound (g .trace) (countIn b) past (g .mask) (g .packets) q (once (ρ .set) .skipped) (once (ρ .set) .landed) z)
+              (leads-none b twice _));
           done = refl;
+          silence = (refl, refl);
           device = refl;
           landed = g .landed;
           passes = passes;
@@ -148,15 +151,15 @@ module _ (b : List ℕ) (t : ℕ) (d : Device) (s : List ℕ) (G : Given b t d s
         → Comes (list m n q ps r trace) ρ′
     follow ρ′ z rest =
         comes-after (list m n q ps r trace) (list (g .mask) (g .packets + 1) (q + 1) (g .components) (g .staging) (g .trace ++ (coded 2 ∷ []))) ρ′
-        (leads-then b (g .leads)
-        (leads-step b
-        (x-again b (G .accepted) t (G .small) d (g .components) (g .staging) sound (g .trace) (countIn b) past (g .mask) (g .packets) q (once (ρ .set) .skipped) (once (ρ .set) .landed) z)
-        (leads-none b _)))
+        (leads-then b twice (g .leads)
+        (leads-step b twice
+        (x-again b twice (G .accepted) t (G .small) d (g .components) (g .staging) sound (g .trace) (countIn b) past (g .mask) (g .packets) q (once (ρ .set) .skipped) (once (ρ .set) .landed) z)
+        (leads-none b twice _)))
         rest
 
   -- the passes from one on, with as many left as the host allows
-  rounds-sim : (f : ℕ) (ρ : Passes) → ρ .passes + suc f ≡ countIn b → Fair b t d s G (ρ .set) → (m n q : ℕ) (ps : List Component) (r : List ℕ) (trace : List Exchange)
-      → Landed b t d s G (ρ .set) m ps r → length trace ≡ sentBy ρ → q ≡ suc (ρ .passes) → Comes (list m n q ps r trace) (rounds (suc f) ρ)
+  rounds-sim : (f : ℕ) (ρ : Passes) → ρ .passes + suc f ≡ countIn b → Fair b twice t d s G (ρ .set) → (m n q : ℕ) (ps : List Component) (r : List ℕ) (trace : List Exchange)
+      → Landed b twice t d s G (ρ .set) m ps r → length trace ≡ sentBy ρ → q ≡ suc (ρ .passes) → Comes (list m n q ps r trace) (rounds (suc f) ρ)
   unfolding repeat onward
   rounds-sim zero ρ e fair m n q ps r trace h count passes = go (again (offers b (G .accepted) d) (from 0 (countIn b)) ρ)
     where
@@ -173,7 +176,7 @@ module _ (b : List ℕ) (t : ℕ) (d : Device) (s : List ℕ) (G : Given b t d s
       (rounds-sim f (next ρ) (omega arith) (fair-once (ρ .set) fair) (k .mask) (k .packets + 1) (q + 1) (k .components) (k .staging) (k .trace ++ (coded 2 ∷ [])) (k .landed)
       (counted ρ fair m n q ps r trace h count passes) (omega arith))
     where
-      k : Gets b t d s G (list m n q ps r trace) (countIn b) (once (ρ .set)) q (suc (sentBy ρ) + countIn b)
+      k : Gets b twice t d s G (list m n q ps r trace) (countIn b) (once (ρ .set)) q (suc (sentBy ρ) + countIn b)
       k = g ρ fair m n q ps r trace h count passes
 
       go : (x : Bool) → again (offers b (G .accepted) d) (from 0 (countIn b)) ρ ≡ x
@@ -187,9 +190,9 @@ module _ (b : List ℕ) (t : ℕ) (d : Device) (s : List ℕ) (G : Given b t d s
   unfolding passesOf
   comes-whole reply =
       comes-after (start t d s reply) hello _
-      (leads-step b (x-open b (G .accepted) t (G .small) d s reply (record { d1 = G .d1; d2 = G .d2 }))
-      (leads-step b (x-list b (G .accepted) t (G .small) d 0 1 0 false false s [] (record { d1 = G .d1; d2 = G .d2 }) (record { d1 = idle-passes d (G .d1); d2 = G .d2 }))
-      (leads-none b _)))
+      (leads-step b twice (x-open b twice (G .accepted) t (G .small) d s reply (record { d1 = G .d1; d2 = G .d2 }))
+      (leads-step b twice (x-list b twice (G .accepted) t (G .small) d 0 1 0 false false s [] (record { d1 = G .d1; d2 = G .d2 }) (record { d1 = idle-passes d (G .d1); d2 = G .d2 }))
+      (leads-none b twice _)))
       (subst (λ (n : ℕ). Comes hello (rounds n unpassed)) (sym (length-from 0 (countIn b))) (go (countIn b) refl))
     where
       hello : System

@@ -1,10 +1,12 @@
--- A run is the exchange of its host with the replies that it receives: no step of it is refused, it ends within the bound, and an ended run stays. Assumes
+-- A run is the exchange of its host with the replies that it is handed: no step of it is refused, it ends within the bound, and an ended run stays. Assumes
 -- nothing.
 use Prim.Native.Nat.{ℕ, zero, suc, _+_, _<_}
 use mathlib.Core.Path.{_≡_, refl, sym, ap, subst, _∙_}
-use mathlib.Core.Bool.{Bool, true, false, cond}
-use mathlib.Core.List.{List, [], _∷_, _++_, append-nil}
+use mathlib.Core.Logic.{_⊎_}
+use mathlib.Core.Bool.{Bool, true, false, cond, _&&_}
+use mathlib.Core.List.{List, [], _∷_, append-nil}
 use native.Mathlib.Nat.{zero-add, suc-add, add-comm}
+use lib.ListN.{length}
 use Rattle.bundle_layout.specs.Layout.{countIn}
 use Rattle.bundle_layout.specs.Rows as bundle
 use Rattle.bundle.proofs.Accepted.{accepted}
@@ -14,129 +16,151 @@ use Rattle.host_record.specs.Record.{hasEnded}
 use Rattle.host_packet.specs.Answer.{Step, N, refusedBy}
 use Rattle.host.specs.Step.{stepOf, stepBy, stepOn, breaksN1, moved, packetOf, lastIn}
 use Rattle.host_record.specs.declared.record.Host.{Host}
+use Rattle.host_decide.specs.Decide.{decideOf}
+use Rattle.host_decide.specs.declared.Action.the-variants.{Nothing}
 use Rattle.host_decide.specs.declared.Move.{Move}
-use Rattle.update.specs.Trace.{Exchange}
-use Rattle.update.specs.Run.{System, boundOf, deliver, exchange, run, start}
-use Rattle.update.specs.Ends.{hostSteps, heardAs, Counted, RunEnds}
+use Rattle.update.specs.Heard.{lastTaken}
+use Rattle.update.specs.Run.{System, Schedule, once, isMiddle, arrives, heard, delivered, stepped, turned, boundOf, exchange, run, start}
+use Rattle.update.specs.Ends.{HostRun, hostStepped, hostSteps, Counted, PassedOver, EndStays, RunEnds}
 use Rattle.update.proofs.Leads.{steps, goes, going, going-next}
 use Rattle.update.proofs.Ends.{stays, step-at, host-ends}
 use Rattle.update.proofs.Counts.{host-counts}
+use Rattle.update.proofs.Silent.{host-silent}
 
--- what a step leaves
-pub deliver-host : (ps : List (List ℕ)) (h : Host) (s : System) → deliver ps h s .host ≡ h
-unfolding deliver
-deliver-host [] h s = refl
-deliver-host (p ∷ ps) h s = refl
+-- an ended host does nothing more, whatever row it meets
+pub end-stays : EndStays
+unfolding stepOf stepOn packetOf
+end-stays b h e reply = by (bundle.bundleRow b)
+  where
+    still : decideOf (countIn b) (lastIn b (h .stage)) h reply ≡ record { action = Nothing; host = h }
+    still = stays (h .stage) (countIn b) (lastIn b (h .stage)) h reply e
 
--- its packet, if any, is added to the list
-deliver-trace : (ps : List (List ℕ)) (h : Host) (s : System) → deliver ps h s .trace ≡ s .trace ++ heardAs ps (deliver ps h s .reply)
-unfolding deliver
-deliver-trace [] h s = sym (append-nil (s .trace))
-deliver-trace (p ∷ ps) h s = refl
+    on : (x : Bool) → (cond x (refusedBy (N 1) h) (steps b once h reply) .sent ≡ []) × (cond x (refusedBy (N 1) h) (steps b once h reply) .host ≡ h)
+    on true = (refl, refl)
+    on false = (ap (λ (m : Move). moved b m .sent) still, ap (λ (m : Move). m .host) still)
 
-module _ (b : List ℕ) where
+    by : (row : bundle.Row) → (stepBy row b h reply .sent ≡ []) × (stepBy row b h reply .host ≡ h)
+    by bundle.served = on (breaksN1 b h)
+    by (bundle.B k entry) = (refl, refl)
+
+-- the host of a system, with what it awaits and the list
+abbrev hostOf : System → HostRun
+hostOf s = record { host = s .host; awaited = s .awaited; trace = s .trace }
+
+-- what arrives changes nothing of it
+delivered-host : (twice : Schedule) (ps : List (List ℕ)) (s : System) → hostOf (delivered twice ps s) ≡ hostOf s
+delivered-host twice [] s = refl
+delivered-host twice (p ∷ ps) s = go (isMiddle p && twice (length (s .trace)))
+  where
+    go : (x : Bool) → hostOf (cond x (arrives p (arrives p s)) (arrives p s)) ≡ hostOf s
+    go true = refl
+    go false = refl
+
+-- so a turn is a step of it
+pub turned-host : (twice : Schedule) (x : Step) (s : System) → hostOf (turned twice x s) ≡ hostStepped x (heard (s .replies)) (hostOf s)
+unfolding turned
+turned-host twice x s = delivered-host twice (x .sent) (stepped x s)
+
+module _ (b : List ℕ) (twice : Schedule) where
   -- one turn more
-  pub run-next : (k : ℕ) (s : System) → run b (suc k) s ≡ exchange b (run b k s)
+  pub run-next : (k : ℕ) (s : System) → run b twice (suc k) s ≡ exchange b twice (run b twice k s)
   unfolding run
   run-next zero s = refl
-  run-next (suc k) s = run-next k (exchange b s)
+  run-next (suc k) s = run-next k (exchange b twice s)
 
   -- m turns, then n
-  pub run-then : (m n : ℕ) (s : System) → run b (m + n) s ≡ run b n (run b m s)
+  pub run-then : (m n : ℕ) (s : System) → run b twice (m + n) s ≡ run b twice n (run b twice m s)
   unfolding run
   run-then zero n s = rw zero-add
-  run-then (suc m) n s = rw suc-add (run-then m n (exchange b s))
+  run-then (suc m) n s = rw suc-add (run-then m n (exchange b twice s))
 
-  -- an ended host does nothing more, with its rows or without
-  pub ended-sends : (s : System) → hasEnded (s .host .stage) ≡ true → steps b (s .host) (s .reply) .sent ≡ []
-  unfolding packetOf
-  ended-sends s e = ap (λ (m : Move). moved b m .sent) (stays (s .host .stage) (countIn b) (lastIn b (s .host .stage)) (s .host) (s .reply) e)
+  -- where the host has ended there is no further turn
+  ended-once : (s : System) → hasEnded (s .host .stage) ≡ true → exchange b twice s ≡ s
+  unfolding exchange
+  ended-once s e = rw e
 
-  -- its record stays
-  ended-host : (s : System) → hasEnded (s .host .stage) ≡ true → steps b (s .host) (s .reply) .host ≡ s .host
-  ended-host s e = ap (λ (m : Move). m .host) (stays (s .host .stage) (countIn b) (lastIn b (s .host .stage)) (s .host) (s .reply) e)
-
-  -- so a turn leaves the system
-  ended-once : (s : System) → hasEnded (s .host .stage) ≡ true → exchange b s ≡ s
-  unfolding exchange deliver stepOf stepOn
-  ended-once s e = by (bundle.bundleRow b)
-    where
-      on : (x : Bool) → deliver (cond x (refusedBy (N 1) (s .host)) (steps b (s .host) (s .reply)) .sent) (cond x (refusedBy (N 1) (s .host)) (steps b (s .host) (s .reply)) .host) s ≡ s
-      on true = refl
-      on false = rw (ended-sends s e, ended-host s e)
-
-      by : (row : bundle.Row) → deliver (stepBy row b (s .host) (s .reply) .sent) (stepBy row b (s .host) (s .reply) .host) s ≡ s
-      by bundle.served = on (breaksN1 b (s .host))
-      by (bundle.B k entry) = refl
-
-  -- however many turns follow
-  pub ended-stays : (n : ℕ) (s : System) → hasEnded (s .host .stage) ≡ true → run b n s ≡ s
+  -- however many follow
+  pub ended-stays : (n : ℕ) (s : System) → hasEnded (s .host .stage) ≡ true → run b twice n s ≡ s
   unfolding run
   ended-stays zero s e = refl
   ended-stays (suc n) s e = rw (ended-once s e) (ended-stays n s e)
 
-  module _ (token : ℕ) (d : Device) (staging reply : List ℕ) (bytes : Bytes b) (accept : bundle.bundleRow b ≡ bundle.served) (small : token < 256) where
-    -- the run, turn by turn, and what its host receives
-    abbrev pub at : ℕ → System
-    at k = run b k (start token d staging reply)
+  -- a turn is a step of the host, also where it has ended and awaits nothing
+  exchange-host : (s : System) → (hasEnded (s .host .stage) ≡ true → s .awaited ≡ [])
+      → hostStepped (stepOf b (s .host) (heard (s .replies))) (heard (s .replies)) (hostOf s) ≡ hostOf (exchange b twice s)
+  unfolding exchange
+  exchange-host s none = go (hasEnded (s .host .stage)) refl
+    where
+      go : (y : Bool) → hasEnded (s .host .stage) ≡ y
+          → hostStepped (stepOf b (s .host) (heard (s .replies))) (heard (s .replies)) (hostOf s)
+          ≡ hostOf (cond (hasEnded (s .host .stage)) s (turned twice (stepOf b (s .host) (heard (s .replies))) s))
+      go true e =
+          let z = end-stays b (s .host) e (heard (s .replies)) in
+          rw (z .0, z .1, e, none e, append-nil) refl
+      go false e = rw e (sym (turned-host twice (stepOf b (s .host) (heard (s .replies))) s))
 
-    -- the reply that step k receives
+  module _ (token : ℕ) (d : Device) (staging reply : List ℕ) (bytes : Bytes b) (accept : bundle.bundleRow b ≡ bundle.served) (small : token < 256) where
+    -- the run, turn by turn
+    abbrev pub at : ℕ → System
+    at k = run b twice k (start token d staging reply)
+
+    -- the reply that step k is handed
     abbrev pub hears : ℕ → List ℕ
-    hears k = at k .reply
+    hears k = heard (at k .replies)
 
     -- its host is that of `hostSteps`
-    host-is : (k : ℕ) → hostSteps b token hears k .host ≡ at k .host
-    unfolding hostSteps run exchange
+    host-is : (k : ℕ) → hostSteps b token hears k ≡ hostOf (at k)
+    unfolding hostSteps run
     host-is zero = refl
     host-is (suc k) =
-        ap (λ (h : Host). stepOf b h (hears k) .host) (host-is k)
-        ∙ sym (deliver-host (stepOf b (at k .host) (hears k) .sent) (stepOf b (at k .host) (hears k) .host) (at k))
-        ∙ ap (λ (s : System). s .host) (sym (run-next k (start token d staging reply)))
-
-    -- and so is its list
-    trace-is : (k : ℕ) → hostSteps b token hears k .trace ≡ at k .trace
-    unfolding hostSteps run exchange
-    trace-is zero = refl
-    trace-is (suc k) =
-        ap (λ (x : List Exchange). x ++ heardAs (stepOf b (hostSteps b token hears k .host) (hears k) .sent) (hears (suc k))) (trace-is k)
-        ∙ ap (λ (h : Host). at k .trace ++ heardAs (stepOf b h (hears k) .sent) (hears (suc k))) (host-is k)
-        ∙ ap (λ (s : System). at k .trace ++ heardAs (stepOf b (at k .host) (hears k) .sent) (s .reply)) (run-next k (start token d staging reply))
-        ∙ sym (deliver-trace (stepOf b (at k .host) (hears k) .sent) (stepOf b (at k .host) (hears k) .host) (at k))
-        ∙ ap (λ (s : System). s .trace) (sym (run-next k (start token d staging reply)))
+        ap (λ (r : HostRun). hostStepped (stepOf b (r .host) (hears k)) (hears k) r) (host-is k)
+        ∙ exchange-host (at k)
+        (λ e. subst (λ (r : HostRun). hasEnded (r .host .stage) ≡ true → r .awaited ≡ []) (host-is k) (λ w. host-counts b token hears k bytes accept small w .0) e)
+        ∙ ap hostOf (sym (run-next k (start token d staging reply)))
 
     -- no step is refused
-    pub step-is : (k : ℕ) → stepOf b (at k .host) (at k .reply) ≡ steps b (at k .host) (at k .reply)
+    pub step-is : (k : ℕ) → stepOf b (at k .host) (hears k) ≡ steps b twice (at k .host) (hears k)
     step-is k =
-        subst (λ (h : Host). stepOf b h (hears k) ≡ steps b h (hears k)) (host-is k)
+        subst (λ (r : HostRun). stepOf b (r .host) (hears k) ≡ steps b twice (r .host) (hears k)) (host-is k)
         (step-at b token hears (accepted b bytes accept) accept small k)
 
     -- so the run is the run without its rows
-    pub run-goes : (k : ℕ) → at k ≡ going b k (start token d staging reply)
+    pub run-goes : (k : ℕ) → at k ≡ going b twice k (start token d staging reply)
     unfolding run exchange goes going
     run-goes zero = refl
     run-goes (suc k) =
-        run-next k (start token d staging reply) ∙ ap (λ (x : Step). deliver (x .sent) (x .host) (at k)) (step-is k)
-        ∙ ap (goes b) (run-goes k) ∙ sym (going-next b k (start token d staging reply))
+        run-next k (start token d staging reply) ∙ ap (λ (x : Step). cond (hasEnded (at k .host .stage)) (at k) (turned twice x (at k))) (step-is k)
+        ∙ ap (goes b twice) (run-goes k) ∙ sym (going-next b twice k (start token d staging reply))
 
     -- the host has ended within the bound
     pub ended-within : hasEnded (at (boundOf b) .host .stage) ≡ true
-    ended-within = subst (λ (h : Host). hasEnded (h .stage) ≡ true) (host-is (boundOf b)) (host-ends b token hears bytes accept small .ended)
+    ended-within = subst (λ (r : HostRun). hasEnded (r .host .stage) ≡ true) (host-is (boundOf b)) (host-ends b token hears bytes accept small .ended)
 
     -- so where it has ended, the run is at its last
     pub ended-last : (k : ℕ) → hasEnded (at k .host .stage) ≡ true → at (boundOf b) ≡ at k
     ended-last k e =
         sym (ended-stays k (at (boundOf b)) ended-within) ∙ sym (run-then (boundOf b) k (start token d staging reply))
-        ∙ ap (λ (n : ℕ). run b n (start token d staging reply)) (add-comm (boundOf b) k)
+        ∙ ap (λ (n : ℕ). run b twice n (start token d staging reply)) (add-comm (boundOf b) k)
         ∙ run-then k (boundOf b) (start token d staging reply) ∙ ended-stays (boundOf b) (at k) e
 
     -- its counts are those of the list
     pub run-counts : (k : ℕ) → hasEnded (at k .host .stage) ≡ true → Counted b (at k .host) (at k .trace)
     run-counts k e =
-        subst (λ (h : Host). Counted b h (at k .trace)) (host-is k)
-        (subst (λ (x : List Exchange). Counted b (hostSteps b token hears k .host) x) (trace-is k)
-        (host-counts b token hears k bytes accept small (subst (λ (h : Host). hasEnded (h .stage) ≡ true) (sym (host-is k)) e)))
+        subst (λ (r : HostRun). hasEnded (r .host .stage) ≡ true → Counted b (r .host) (r .trace)) (host-is k)
+        (λ w. host-counts b token hears k bytes accept small w .1) e
+
+    -- a step of it that sends nothing ends the host or passes over a reply
+    pub run-silent : (k : ℕ) → hasEnded (at k .host .stage) ≡ false → stepOf b (at k .host) (hears k) .sent ≡ []
+        → (hasEnded (stepOf b (at k .host) (hears k) .host .stage) ≡ true) ⊎ PassedOver (at k .host) (stepOf b (at k .host) (hears k) .host) (hears k) (lastTaken (at k .trace))
+    unfolding hostSteps
+    run-silent k =
+        subst (λ (r : HostRun). hasEnded (r .host .stage) ≡ false → stepOf b (r .host) (hears k) .sent ≡ []
+        → (hasEnded (stepOf b (r .host) (hears k) .host .stage) ≡ true) ⊎ PassedOver (r .host) (stepOf b (r .host) (hears k) .host) (hears k) (lastTaken (r .trace)))
+        (host-is k) (host-silent b token hears k bytes accept small)
 
 -- a run always ends, and stays
 pub run-ends : RunEnds
-run-ends b token d staging reply bytes accept small =
-    let e = ended-within b token d staging reply bytes accept small in (e, λ m. ended-stays b m (at b token d staging reply bytes accept small (boundOf b)) e)
+run-ends b twice token d staging reply bytes accept small =
+    let e = ended-within b twice token d staging reply bytes accept small in
+    let s = at b twice token d staging reply bytes accept small (boundOf b) in
+    (e, end-stays b (s .host) e, λ m. ended-stays b twice m s e)

@@ -1,16 +1,17 @@
 -- The transmission of a body: from its first block on its way to an idle session, with the image in the region and the offered version pending. Assumes
 -- nothing.
-use Prim.Native.Nat.{ℕ, zero, suc, _+_, _^_, _≤_, _<_}
+use Prim.Native.Nat.{ℕ, zero, suc, _+_, _-_, _^_, _≤_, _<_}
 use mathlib.Core.Path.{_≡_, refl, sym, ap, subst, _∙_}
-use mathlib.Core.Bool.{Bool, true, false}
+use mathlib.Core.Bool.{Bool, true, false, _&&_}
 use mathlib.Core.List.{List, [], _∷_, _++_, append-assoc}
 use native.Mathlib.Numerals.{add-one}
 use native.Mathlib.Omega.{arith}
-use borrow.Author.Tests.{eq-eqb, ne-eqb}
+use borrow.Author.Tests.{eq-eqb, ne-eqb, not-true}
 use lib.Dec.{eqb, eqb·suc-zero}
 use lib.ListN.{length, getD, set, drop}
 use Rattle.wire.specs.Codes.{SUCCESS}
 use Rattle.wire.specs.declared.version.Version.{Version}
+use Rattle.wire.proofs.Tests.{both, neither}
 use Rattle.wire_content.specs.Head.{headIn}
 use Rattle.wire_content.specs.Reply.{replyBytes}
 use Rattle.bundle_records.specs.Record.{Block}
@@ -24,29 +25,32 @@ use Rattle.device_component.specs.Versions.{imageVersionFits}
 use Rattle.device_component.specs.declared.record.Component.{Component}
 use Rattle.bundle_layout.specs.Layout.{countIn}
 use Rattle.bundle.proofs.Accepted.{Accepted, Carried}
+use Rattle.update_passes.proofs.Tests.{or-true}
+use Rattle.device_session.specs.Effect.{blankPacket}
+use Rattle.device_session.specs.declared.owed.Owed.the-variants as owed
 use Rattle.device_receiving.specs.Content.{takeBlock}
-use Rattle.device.specs.Entries.{serveStaging}
 use Rattle.device.specs.Record.{idleWith}
 use Rattle.device.specs.Refusals.{breaksD1}
 use Rattle.device.specs.declared.record.Device.{Device}
+use Rattle.device.specs.declared.answer.Channel.the-variants.{Content}
 use Rattle.device_session.proofs.sound.Laws.{passes, staging-most}
-use Rattle.device.proofs.Calls.{Sound, Answered, answers-block}
-use Rattle.device.proofs.Blocks.{held, awaits, groundOf, Fitting, puts, block-staging, block-next, block-last}
-use Rattle.host_record.specs.Record.{sequenceOf}
+use Rattle.device.proofs.Calls.{Sound, Answered, answeredWith, answers-block}
+use Rattle.device.proofs.Blocks.{held, awaits, groundOf, Fitting, puts, block-staging, block-next, block-last, block-again, again-staging}
+use Rattle.host_record.specs.Record.{sequenceOf, withBit}
 use Rattle.host_decide.specs.Decide.{goesOn, decideOf}
-use Rattle.host_record.specs.Record.{withBit}
 use Rattle.host.specs.Step.{entryAt, blocksAt, isLast, noBlock, blockAt, blockPacket, moved, packetOf}
+use Rattle.host_record.specs.declared.record.Host.{Host}
 use Rattle.host_record.specs.declared.record.HostStage.the-variants.{Sending}
 use Rattle.host_record.specs.declared.record.Place.{Place}
 use Rattle.host_decide.specs.declared.Move.{Move}
-use Rattle.host_decide.proofs.Heard.{hears-taken}
+use Rattle.host_decide.proofs.Heard.{hears-taken, hears-again}
 use Rattle.update.specs.Trace.{Exchange}
-use Rattle.update.specs.Run.{System, channelOf, answerTo, afterPacket}
+use Rattle.update.specs.Run.{System, Schedule, isMiddle, channelOf, answerTo, leftBy}
 use Rattle.update.specs.Claim.{writes, imageOf, Inside}
-use Rattle.update.proofs.Leads.{said, Goes, Leads, leads-none, leads-step, turn}
+use Rattle.update.proofs.Leads.{said, arriving, copies, Arrives, arrives-once, Serves, serves-plain, Goes, Leads, leads-none, leads-step, leads-then, turn, pass}
 use Rattle.update.proofs.Packets.{block-length}
-use Rattle.update.proofs.Sent.{headAt, block-reads, block-data, block-fits, block-is-last}
-use Rattle.update.proofs.Turns.{hostAs, turning, turnPacket, turnStage, turn-sent, turn-host, turn-answered}
+use Rattle.update.proofs.Sent.{headAt, block-reads, block-data, block-fits, block-is-last, block-middle}
+use Rattle.update.proofs.Turns.{hostAs, turning, turnPacket, turnStage, turn-sent, turn-host, turn-plain, turn-serves}
 
 -- what a list says of its rest
 drop-length : (l : List Block) (k : ℕ) (x : Block) (xs : List Block) → drop k l ≡ x ∷ xs → length l ≡ k + suc (length xs)
@@ -143,7 +147,7 @@ module _ (b : List ℕ) (twice : Schedule) (α : Accepted b) (t : ℕ) (small : 
       block-answered = rw to-content (answers-block (waits k) s (blockPacket b (spot k)) sound refl size)
 
       -- the first is no middle one
-      pub first-plain : k ≡ 0 → isMiddle (blockPacket b (spot k)) ≡ false
+      first-plain : k ≡ 0 → isMiddle (blockPacket b (spot k)) ≡ false
       first-plain z = block-middle b (spot k) size ∙ rw (eq-eqb k 0 z)
 
       -- so it is served
@@ -250,7 +254,8 @@ module _ (b : List ℕ) (twice : Schedule) (α : Accepted b) (t : ℕ) (small : 
             → Goes b twice (blocking passed k p s [] trace)
             (turning b twice α t small d (suc e) (withBit m e) (p + 1) q sk true (set ps slot (withStaged (componentAt ps slot) v)) s′ (trace ++ (said (blockPacket b (spot k)) (taken k) ∷ [])))
         x-last passed p trace img v z w right id version new sound′ =
-            rw (block-middle b (spot k) size ∙ rw (z, or-true (eqb k 0)))
+            let plain : isMiddle (blockPacket b (spot k)) ≡ false = block-middle b (spot k) size ∙ rw (z, or-true (eqb k 0)) in
+            rw plain
             (turn b twice false false (blockPacket b (spot k)) (turnPacket b twice α t small (suc e)) (host passed k p)
             (hostAs t (turnStage b twice α t small (suc e)) (withBit m e) (p + 1) q sk true)
             (waits k) (idleWith d (set ps slot (withStaged (componentAt ps slot) v))) s s′ (taken k) trace
@@ -278,6 +283,24 @@ module _ (b : List ℕ) (twice : Schedule) (α : Accepted b) (t : ℕ) (small : 
         let g = ground-length k s d2 in
         put-length (x .address .0) (x .bytes) (groundOf k (r .len) (regionBytes r s)) (omega arith) ∙ g
 
+    -- and the buffer its
+    next-length : (k : ℕ) (x : Block) (s : List ℕ) → length s ≡ d .«staging_len» → x .address .0 + length (x .bytes) ≤ r .len → length (next k x s) ≡ d .«staging_len»
+    next-length k x s d2 inside =
+        within-length r (λ (old : List ℕ). put (x .address .0) (x .bytes) (groundOf k (r .len) old)) s (omega (arith, o .room)) (kept k x s d2 inside) ∙ d2
+
+    -- what the copy of the block before left on its way is passed over
+    settle : (c : Bool) (k p : ℕ) (s : List ℕ) (trace : List Exchange)
+        → Leads b twice (blocking false (suc k) p s (copies c (taken k)) trace) (blocking c (suc k) p s [] trace)
+    unfolding packetOf
+    settle false k p s trace = leads-none b twice _
+    settle true k p s trace =
+        let one-less : suc k - 1 ≡ k = omega arith in
+        let g = rw one-less at (hears-again (countIn b) (isLast b (spot (suc k))) (host false (suc k) p) (spot (suc k)) (omega arith)) in
+        leads-step b twice
+        (pass b twice (doubled (suc k) trace) (blockPacket b (spot (suc k))) (host false (suc k) p) (host true (suc k) p) (waits (suc k)) s (taken k) trace refl
+        (ap (λ (x : Move). moved b x .sent) g) (ap (λ (x : Move). x .host) g) refl)
+        (leads-none b twice _)
+
     -- a right image for the slot, which leaves a device that D1 lets pass
     pub record Right (img : List ℕ) (v : Version) : Type 0 where
       pub size : length img ≡ componentAt ps slot .fixed .region .len
@@ -291,78 +314,85 @@ module _ (b : List ℕ) (twice : Schedule) (α : Accepted b) (t : ℕ) (small : 
       -- the session is over, with the image in the region
       abbrev done : (packets : ℕ) → (s : List ℕ) → List Exchange → System
       done p s trace =
-          turning b α t small d (suc e) (withBit m e) p q sk true (set ps slot (withStaged (componentAt ps slot) v))
+          turning b twice α t small d (suc e) (withBit m e) p q sk true (set ps slot (withStaged (componentAt ps slot) v))
           (within (r .base .0) (r .len) (λ (old : List ℕ). img) s) trace
 
       -- the last block
-      last-one : (x : Block) (k p p′ : ℕ) (s : List ℕ) (trace : List Exchange) → drop k (blocksAt b e) ≡ x ∷ [] → x .address .0 + length (x .bytes) ≤ r .len
+      last-one : (passed : Bool) (x : Block) (k p p′ : ℕ) (s : List ℕ) (trace : List Exchange) → drop k (blocksAt b e) ≡ x ∷ [] → x .address .0 + length (x .bytes) ≤ r .len
           → length s ≡ d .«staging_len» → put (x .address .0) (x .bytes) (groundOf k (r .len) (regionBytes r s)) ≡ img → p + 1 ≡ p′
-          → Leads b (blocking k p s trace) (done p′ s (trace ++ (said (blockPacket b (spot k)) (taken k) ∷ [])))
-      last-one x k p p′ s trace z inside d2 w c =
+          → Leads b twice (blocking passed k p s [] trace) (done p′ s (trace ++ (said (blockPacket b (spot k)) (taken k) ∷ [])))
+      last-one passed x k p p′ s trace z inside d2 w c =
           let y = drop-get (blocksAt b e) k x [] z in
           let n = drop-length (blocksAt b e) k x [] z in
           let f : List ℕ → List ℕ = λ (old : List ℕ). put (x .address .0) (x .bytes) (groundOf k (r .len) old) in
           let room : r .base .0 + r .len ≤ length s = omega (arith, o .room) in
           let s′ : List ℕ = within (r .base .0) (r .len) (λ (old : List ℕ). img) s in
-          subst (λ (i : ℕ). Leads b (blocking k p s trace) (done i s (trace ++ (said (blockPacket b (spot k)) (taken k) ∷ [])))) c
-          (leads-step b
+          subst (λ (i : ℕ). Leads b twice (blocking passed k p s [] trace) (done i s (trace ++ (said (blockPacket b (spot k)) (taken k) ∷ [])))) c
+          (leads-step b twice
           (x-last k (omega arith) s d2 (rw y inside) s′ (ap (λ (u : Block). next k u s) y ∙ within-same r f (λ (old : List ℕ). img) s w)
-          p trace img v (eq-eqb (k + 1) (length (blocksAt b e)) (omega arith)) (within-own r (λ (old : List ℕ). img) s room (right .size))
+          passed p trace img v (eq-eqb (k + 1) (length (blocksAt b e)) (omega arith)) (within-own r (λ (old : List ℕ). img) s room (right .size))
           (right .crc) (right .id) (right .version) (right .new)
           (record { d1 = right .d1; d2 = within-length r (λ (old : List ℕ). img) s room (right .size) ∙ d2 }))
-          (leads-none b _))
+          (leads-none b twice _))
 
-      -- a block with others after it
-      one-more : (x : Block) (k p p′ j : ℕ) (s : List ℕ) (trace : List Exchange) → suc k < length (blocksAt b e) → getD (blocksAt b e) k noBlock ≡ x
-          → x .address .0 + length (x .bytes) ≤ r .len → length s ≡ d .«staging_len»
-          → Leads b (blocking (suc k) (p + 1) (next k x s) (trace ++ (said (blockPacket b (spot k)) (taken k) ∷ [])))
-          (done p′ (next k x s) ((trace ++ (said (blockPacket b (spot k)) (taken k) ∷ [])) ++ contents (suc k) j))
-          → Leads b (blocking k p s trace) (done p′ s (trace ++ contents k (suc j)))
+      -- a block with others after it, of which the next is x′
+      one-more : (passed : Bool) (x x′ : Block) (k p p′ j : ℕ) (s : List ℕ) (trace : List Exchange) → suc k < length (blocksAt b e) → getD (blocksAt b e) k noBlock ≡ x
+          → x .address .0 + length (x .bytes) ≤ r .len → getD (blocksAt b e) (suc k) noBlock ≡ x′ → x′ .address .0 + length (x′ .bytes) ≤ r .len
+          → length s ≡ d .«staging_len»
+          → ((passed′ : Bool) → Leads b twice (blocking passed′ (suc k) (p + 1) (next k x s) [] (trace ++ (said (blockPacket b (spot k)) (taken k) ∷ [])))
+          (done p′ (next k x s) ((trace ++ (said (blockPacket b (spot k)) (taken k) ∷ [])) ++ contents (suc k) j)))
+          → Leads b twice (blocking passed k p s [] trace) (done p′ s (trace ++ contents k (suc j)))
       unfolding contents
-      one-more x k p p′ j s trace more y inside d2 rest =
+      one-more passed x x′ k p p′ j s trace more y inside y′ inside′ d2 rest =
           let f : List ℕ → List ℕ = λ (old : List ℕ). put (x .address .0) (x .bytes) (groundOf k (r .len) old) in
           let room : r .base .0 + r .len ≤ length s = omega (arith, o .room) in
           let now = kept k x s d2 inside in
-          let d2′ : length (next k x s) ≡ d .«staging_len» = within-length r f s room now ∙ d2 in
-          leads-step b
+          let d2′ : length (next k x s) ≡ d .«staging_len» = next-length k x s d2 inside in
+          let more-trace = trace ++ (said (blockPacket b (spot k)) (taken k) ∷ []) in
+          let copied = doubled k trace in
+          leads-step b twice
           (x-mid k (omega arith) s d2 (rw y inside) (next k x s) (ap (λ (u : Block). next k u s) y)
-          p trace (ne-eqb (k + 1) (length (blocksAt b e)) (λ u. omega arith)) (block-answered (suc k) more (next k x s) d2′))
-          (subst (λ (u : List ℕ). Leads b (blocking (suc k) (p + 1) (next k x s) (trace ++ (said (blockPacket b (spot k)) (taken k) ∷ []))) (turning b α t small d (suc e) (withBit m e) p′ q sk true (set ps slot (withStaged (componentAt ps slot) v)) u (trace ++ (said (blockPacket b (spot k)) (taken k) ∷ contents (suc k) j))))
+          passed p trace d2′ (ne-eqb (k + 1) (length (blocksAt b e)) (λ u. omega arith))
+          (block-serves (suc k) more (next k x s) d2′ (rw y′ inside′) (next (suc k) x′ (next k x s)) (ap (λ (u : Block). next (suc k) u (next k x s)) y′)
+          (next-length (suc k) x′ (next k x s) d2′ inside′)))
+          (leads-then b twice (settle copied k (p + 1) (next k x s) more-trace)
+          (subst (λ (u : List ℕ). Leads b twice (blocking copied (suc k) (p + 1) (next k x s) [] more-trace) (turning b twice α t small d (suc e) (withBit m e) p′ q sk true (set ps slot (withStaged (componentAt ps slot) v)) u (trace ++ (said (blockPacket b (spot k)) (taken k) ∷ contents (suc k) j))))
           (within-twice r f s room now (λ (old : List ℕ). img))
-          (subst (λ (u : List Exchange). Leads b (blocking (suc k) (p + 1) (next k x s) (trace ++ (said (blockPacket b (spot k)) (taken k) ∷ []))) (done p′ (next k x s) u))
-          (append-assoc trace (said (blockPacket b (spot k)) (taken k) ∷ []) (contents (suc k) j)) rest))
+          (subst (λ (u : List Exchange). Leads b twice (blocking copied (suc k) (p + 1) (next k x s) [] more-trace) (done p′ (next k x s) u))
+          (append-assoc trace (said (blockPacket b (spot k)) (taken k) ∷ []) (contents (suc k) j)) (rest copied))))
 
       -- the region that the next block finds
       found-next : (x : Block) (xs : List Block) (k : ℕ) (s : List ℕ) → x .address .0 + length (x .bytes) ≤ r .len → length s ≡ d .«staging_len»
           → writes (put (x .address .0) (x .bytes) (groundOf k (r .len) (regionBytes r s))) xs ≡ img
-          → (length (next k x s) ≡ d .«staging_len») × (writes (groundOf (suc k) (r .len) (regionBytes r (next k x s))) xs ≡ img)
+          → writes (groundOf (suc k) (r .len) (regionBytes r (next k x s))) xs ≡ img
       found-next x xs k s inside d2 w =
           let f : List ℕ → List ℕ = λ (old : List ℕ). put (x .address .0) (x .bytes) (groundOf k (r .len) old) in
           let room : r .base .0 + r .len ≤ length s = omega (arith, o .room) in
-          let now = kept k x s d2 inside in
-          (within-length r f s room now ∙ d2, rw (eqb·suc-zero k, within-own r f s room now) w)
+          rw (eqb·suc-zero k, within-own r f s room (kept k x s d2 inside)) w
 
       -- the blocks from number k on
-      transfer : (x : Block) (xs : List Block) (k p p′ : ℕ) (s : List ℕ) (trace : List Exchange) → drop k (blocksAt b e) ≡ x ∷ xs → Inside (r .len) (x ∷ xs)
+      transfer : (passed : Bool) (x : Block) (xs : List Block) (k p p′ : ℕ) (s : List ℕ) (trace : List Exchange) → drop k (blocksAt b e) ≡ x ∷ xs → Inside (r .len) (x ∷ xs)
           → length s ≡ d .«staging_len» → writes (groundOf k (r .len) (regionBytes r s)) (x ∷ xs) ≡ img → p + suc (length xs) ≡ p′
-          → Leads b (blocking k p s trace) (done p′ s (trace ++ contents k (suc (length xs))))
+          → Leads b twice (blocking passed k p s [] trace) (done p′ s (trace ++ contents k (suc (length xs))))
       unfolding writes contents
-      transfer x [] k p p′ s trace z inside d2 w c = last-one x k p p′ s trace z (inside .0) d2 w c
-      transfer x (x′ ∷ xs) k p p′ s trace z inside d2 w c =
-          let g = found-next x (x′ ∷ xs) k s (inside .0) d2 w in
-          one-more x k p p′ (suc (length xs)) s trace (omega (arith, drop-length (blocksAt b e) k x (x′ ∷ xs) z)) (drop-get (blocksAt b e) k x (x′ ∷ xs) z) (inside .0) d2
-          (transfer x′ xs (suc k) (p + 1) p′ (next k x s) (trace ++ (said (blockPacket b (spot k)) (taken k) ∷ [])) (drop-rest (blocksAt b e) k x (x′ ∷ xs) z) (inside .1) (g .0) (g .1) (omega arith))
+      transfer passed x [] k p p′ s trace z inside d2 w c = last-one passed x k p p′ s trace z (inside .0) d2 w c
+      transfer passed x (x′ ∷ xs) k p p′ s trace z inside d2 w c =
+          let rest = drop-rest (blocksAt b e) k x (x′ ∷ xs) z in
+          one-more passed x x′ k p p′ (suc (length xs)) s trace (omega (arith, drop-length (blocksAt b e) k x (x′ ∷ xs) z)) (drop-get (blocksAt b e) k x (x′ ∷ xs) z) (inside .0)
+          (drop-get (blocksAt b e) (suc k) x′ xs rest) (inside .1 .0) d2
+          (λ passed′. transfer passed′ x′ xs (suc k) (p + 1) p′ (next k x s) (trace ++ (said (blockPacket b (spot k)) (taken k) ∷ [])) rest (inside .1)
+          (next-length k x s d2 (inside .0)) (found-next x (x′ ∷ xs) k s (inside .0) d2 w) (omega arith))
 
       -- a body, from its first block on its way: the image is in the region, and all else of the buffer is as it was
       pub transmits : (p p′ : ℕ) (s : List ℕ) (trace : List Exchange) → 1 ≤ length (blocksAt b e) → Inside (componentAt ps slot .fixed .region .len) (blocksAt b e)
           → length s ≡ d .«staging_len» → imageOf (componentAt ps slot .fixed .region .len) (blocksAt b e) ≡ img → p + length (blocksAt b e) ≡ p′
-          → Leads b (blocking 0 p s trace) (done p′ s (trace ++ contents 0 (length (blocksAt b e))))
+          → Leads b twice (blocking false 0 p s [] trace) (done p′ s (trace ++ contents 0 (length (blocksAt b e))))
       unfolding imageOf
       transmits p p′ s trace some inside d2 w c = go (blocksAt b e) refl inside w c
         where
           go : (xs : List Block) → blocksAt b e ≡ xs → Inside (r .len) xs → writes (blank (r .len)) xs ≡ img → p + length xs ≡ p′
-              → Leads b (blocking 0 p s trace) (done p′ s (trace ++ contents 0 (length (blocksAt b e))))
+              → Leads b twice (blocking false 0 p s [] trace) (done p′ s (trace ++ contents 0 (length (blocksAt b e))))
           go [] z i u n = absurd (omega (arith, ap length z))
           go (x ∷ xs) z i u n =
-              subst (λ (j : ℕ). Leads b (blocking 0 p s trace) (done p′ s (trace ++ contents 0 j))) (sym (ap length z))
-              (transfer x xs 0 p p′ s trace z i d2 u n)
+              subst (λ (j : ℕ). Leads b twice (blocking false 0 p s [] trace) (done p′ s (trace ++ contents 0 j))) (sym (ap length z))
+              (transfer false x xs 0 p p′ s trace z i d2 u n)

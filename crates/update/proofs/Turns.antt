@@ -153,7 +153,11 @@ module _ (b : List ℕ) (twice : Schedule) (α : Accepted b) (t : ℕ) (small : 
     -- code 0 is sent
     pub x-open : (s r : List ℕ) → Sound d s → Goes b twice (start t d s r) (arriving false (codeBytes 0 t) (hostAs t Opening 0 1 0 false false) d s [] [])
     unfolding goes turned decideIn packetOf
-    x-open s r h = record { comes = refl; fine = λ p z. let y : codeBytes 0 t ≡ p = cc in subst (λ (x : List ℕ). Serves b twice x d s) y (code-serves 0 d s h) }
+    x-open s r h = record { comes = go r; fine = λ p z. let y : codeBytes 0 t ≡ p = cc in subst (λ (x : List ℕ). Serves b twice x d s) y (code-serves 0 d s h) }
+      where
+        go : (r : List ℕ) → goes b twice (start t d s r) ≡ arriving false (codeBytes 0 t) (hostAs t Opening 0 1 0 false false) d s [] []
+        go [] = refl
+        go (x ∷ r) = refl
 
     -- its answer opens the first pass
     pub x-list : (m p q : ℕ) (sk la : Bool) (s : List ℕ) (trace : List Exchange) → Sound d s → Sound (toIdle d) s
@@ -224,22 +228,22 @@ module _ (b : List ℕ) (twice : Schedule) (α : Accepted b) (t : ℕ) (small : 
             (turning (suc e) m (p + 1) q true la ps s (trace ++ (said (offerPacket b α t e) (replied t 0 OFFER-SKIP) ∷ [])))
         x-skip z = next (replied t 0 OFFER-SKIP) true (told Skip z) (hears-skip (countIn b) false h (record { entry = e; busy = 0 }) ∙ rw (or-true sk))
 
-        -- ACCEPT: the first block, which is no middle one
+        -- ACCEPT: the first block
         pub x-accept : (k : ℕ) → offerVerdict (idleWith d ps) (withToken (offerAt b e) t) ≡ Accept k
-            → isMiddle (blockPacket b (record { entry = e; block = 0 })) ≡ false
             → Serves b twice (blockPacket b (record { entry = e; block = 0 })) (held d ps (awaits k t 0) blankPacket) s
             → Goes b twice (turning e m p q sk la ps s trace)
-            (arriving false (blockPacket b (record { entry = e; block = 0 })) (hostAs t (Sending (sentAt (record { entry = e; block = 0 }))) m (p + 1) q sk la)
+            (arriving (isMiddle (blockPacket b (record { entry = e; block = 0 })) && twice (length (trace ++ (said (offerPacket b α t e) (replied t 0 OFFER-ACCEPT) ∷ []))))
+            (blockPacket b (record { entry = e; block = 0 })) (hostAs t (Sending (sentAt (record { entry = e; block = 0 }))) m (p + 1) q sk la)
             (held d ps (awaits k t 0) blankPacket) s [] (trace ++ (said (offerPacket b α t e) (replied t 0 OFFER-ACCEPT) ∷ [])))
         unfolding packetOf
-        x-accept k z w f =
+        x-accept k z f =
             let g = hears-accept (countIn b) false h (record { entry = e; busy = 0 }) in
             rw is-offering
-            (turn b twice false false (offerPacket b α t e) (blockPacket b (record { entry = e; block = 0 })) h
+            (turn b twice false _ (offerPacket b α t e) (blockPacket b (record { entry = e; block = 0 })) h
             (hostAs t (Sending (sentAt (record { entry = e; block = 0 }))) m (p + 1) q sk la)
             (idleWith d ps) (held d ps (awaits k t 0) blankPacket) s s
             (replied t 0 OFFER-ACCEPT) trace (arrives-once (told (Accept k) z) (offer-staging e l (idleWith d ps) s)) refl
-            (ap (λ (x : Move). moved b x .sent) g) (ap (λ (x : Move). x .host) g) (rw w) f)
+            (ap (λ (x : Move). moved b x .sent) g) (ap (λ (x : Move). x .host) g) refl f)
 
       module _ (e : ℕ) (l : ltb e (countIn b) ≡ false) (m p q : ℕ) (sk la : Bool) where
         -- past the last entry code 2 is on its way

@@ -23,20 +23,22 @@ use Rattle.device.specs.Record.{toIdle}
 use Rattle.device.specs.declared.record.Device.{Device}
 use Rattle.host_record.specs.Record.{hasEnded}
 use Rattle.host_packet.specs.Answer.{Step}
-use Rattle.host.specs.Step.{stepOf}
+use Rattle.host_decide.specs.declared.Move.{Move}
+use Rattle.host.specs.Step.{moved, packetOf, stepOf}
 use Rattle.host_record.specs.declared.record.HostStage.the-variants.{Ended}
 use Rattle.host_record.specs.declared.record.End.the-variants.{Done}
 use Rattle.update.specs.Trace.{passesIn}
-use Rattle.update.specs.Run.{System, run, start, recordsFrom, recordsIn, lastOf}
+use Rattle.update.specs.Run.{System, Schedule, heard, run, start, recordsFrom, recordsIn, lastOf}
 use Rattle.update.specs.Ends.{Counted}
 use Rattle.update.specs.Claim.{offerAt, isMet, feeds, Closed, Within, Smallest, Leaves, Fills}
 use Rattle.update.specs.Demand.{Premise, stagedIn, Turn}
-use Rattle.update.proofs.Leads.{Fine, steps}
+use Rattle.update.proofs.Ends.{stays}
+use Rattle.update.proofs.Leads.{Fine, steps, stepsIn}
 use Rattle.update.proofs.Landed.{offers, numbered, below-count}
 use Rattle.update.proofs.Filled.{fine-setup}
 use Rattle.update.proofs.Pass.{Given}
 use Rattle.update.proofs.Rounds.{Comes, comes-whole}
-use Rattle.update.proofs.Talks.{run-then, ended-sends, ended-stays, step-is, run-goes, ended-last, run-counts}
+use Rattle.update.proofs.Talks.{run-then, ended-stays, step-is, run-goes, ended-last, run-counts, run-silent}
 
 -- the records of all bodies, by the numbers of the entries
 records-from : (b : List ℕ) (l : List (List ℕ)) (m k : ℕ) → k + m ≡ length l
@@ -61,10 +63,11 @@ given b token d staging P =
     }
 
 -- demand 3, but for the order
-pub record Core (b : List ℕ) (token : ℕ) (d : Device) (staging reply : List ℕ) (s : System) : Type 0 where
+pub record Core (b : List ℕ) (twice : Schedule) (token : ℕ) (d : Device) (staging reply : List ℕ) (s : System) : Type 0 where
   pub done : s .host .stage ≡ Ended Done
-  pub stays : (m : ℕ) → run b m s ≡ s
-  pub served : (m : ℕ) → Turn b (run b m (start token d staging reply))
+  pub stays : (m : ℕ) → run b twice m s ≡ s
+  pub silence : (s .awaited ≡ []) × (s .replies ≡ [])
+  pub served : (m : ℕ) → Turn b (run b twice m (start token d staging reply))
   pub passes : passesIn (s .trace) ≤ countIn b
   pub packets : length (s .trace) ≤ 1 + countIn b * (countIn b + 2) + recordsIn b
   pub counts : Counted b (s .host) (s .trace)
@@ -72,7 +75,7 @@ pub record Core (b : List ℕ) (token : ℕ) (d : Device) (staging reply : List 
   pub device : Leaves d b (stagedIn b s) (s .device)
   pub bytes : Fills d b (stagedIn b s) staging (s .staging)
 
-module _ (b : List ℕ) (token : ℕ) (d : Device) (staging reply : List ℕ) (P : Premise b token d staging) where
+module _ (b : List ℕ) (twice : Schedule) (token : ℕ) (d : Device) (staging reply : List ℕ) (P : Premise b token d staging) where
   -- the premise
   abbrev G : Given b token d staging
   G = given b token d staging P
@@ -98,52 +101,62 @@ module _ (b : List ℕ) (token : ℕ) (d : Device) (staging reply : List ℕ) (P
   reached = passes-reach y os monotone
 
   -- what the run comes to
-  c : Comes b token d staging G (start token d staging reply) (passesOf y os)
-  c = comes-whole b token d staging G reply
+  c : Comes b twice token d staging G (start token d staging reply) (passesOf y os)
+  c = comes-whole b twice token d staging G reply
 
   -- the run comes to the system in which the passes end
-  ends : run b (c .leads .turns) (start token d staging reply) ≡ c .last
-  ends = run-goes b token d staging reply (P .bundle) (P .accepted) (P .small) (c .leads .turns) ∙ c .leads .comes
+  ends : run b twice (c .leads .turns) (start token d staging reply) ≡ c .last
+  ends = run-goes b twice token d staging reply (P .bundle) (P .accepted) (P .small) (c .leads .turns) ∙ c .leads .comes
 
   -- there the host has ended
   over : hasEnded (c .last .host .stage) ≡ true
   over = ap hasEnded (c .done)
 
   -- and so it has in the run
-  run-over : hasEnded (run b (c .leads .turns) (start token d staging reply) .host .stage) ≡ true
+  run-over : hasEnded (run b twice (c .leads .turns) (start token d staging reply) .host .stage) ≡ true
   run-over = subst (λ (x : System). hasEnded (x .host .stage) ≡ true) (sym ends) over
 
   -- and is still there at the bound
-  last-is : lastOf b token d staging reply ≡ c .last
-  last-is = ended-last b token d staging reply (P .bundle) (P .accepted) (P .small) (c .leads .turns) run-over ∙ ends
+  last-is : lastOf b twice token d staging reply ≡ c .last
+  last-is = ended-last b twice token d staging reply (P .bundle) (P .accepted) (P .small) (c .leads .turns) run-over ∙ ends
+
+  -- the run after m turns
+  abbrev now : ℕ → System
+  now m = run b twice m (start token d staging reply)
+
+  -- the ended host sends nothing
+  none : stepsIn b twice (c .last) .sent ≡ []
+  unfolding packetOf
+  none = ap (λ (x : Move). moved b x .sent) (stays (c .last .host .stage) (countIn b) _ (c .last .host) (heard (c .last .replies)) over)
 
   -- every turn is served, with exactly one reply to what is sent
-  turn-is : (m : ℕ) → Turn b (run b m (start token d staging reply))
+  turn-is : (m : ℕ) → Turn b (now m)
   turn-is m =
       record {
         host = ap (λ (x : Step). x .row) is;
-        device = λ p z. fine (decLt m (c .leads .turns)) p (ap (λ (x : Step). x .sent) (sym is) ∙ z);
+        device = λ p z. fine (decLt m (c .leads .turns)) p (ap (λ (x : Step). x .sent) (sym is) ∙ z) .answered;
+        copy = λ p z w. fine (decLt m (c .leads .turns)) p (ap (λ (x : Step). x .sent) (sym is) ∙ z) .repeats w;
+        silent = run-silent b twice token d staging reply (P .bundle) (P .accepted) (P .small) m;
       }
     where
-      is : stepOf b (run b m (start token d staging reply) .host) (run b m (start token d staging reply) .reply)
-          ≡ steps b (run b m (start token d staging reply) .host) (run b m (start token d staging reply) .reply)
-      is = step-is b token d staging reply (P .bundle) (P .accepted) (P .small) m
+      is : stepOf b (now m .host) (heard (now m .replies)) ≡ steps b twice (now m .host) (heard (now m .replies))
+      is = step-is b twice token d staging reply (P .bundle) (P .accepted) (P .small) m
 
-      fine : Dec (m < c .leads .turns) → Fine b (run b m (start token d staging reply))
-      fine (yes l) = subst (Fine b) (sym (run-goes b token d staging reply (P .bundle) (P .accepted) (P .small) m)) (c .leads .fine m l)
+      fine : Dec (m < c .leads .turns) → Fine b twice (now m)
+      fine (yes l) = subst (Fine b twice) (sym (run-goes b twice token d staging reply (P .bundle) (P .accepted) (P .small) m)) (c .leads .fine m l)
       fine (no l) =
           let k = m - c .leads .turns in
           let e : c .leads .turns + k ≡ m = omega arith in
-          let at : run b m (start token d staging reply) ≡ c .last
-          = ap (λ (i : ℕ). run b i (start token d staging reply)) (sym e) ∙ run-then b (c .leads .turns) k (start token d staging reply)
-          ∙ ap (run b k) ends ∙ ended-stays b k (c .last) over in
-          subst (Fine b) (sym at) (λ p z. let x = ended-sends b (c .last) over in let w : _≡_ {A = ℕ} 0 1 = cc in absurd (omega arith))
+          let at : now m ≡ c .last
+          = ap now (sym e) ∙ run-then b twice (c .leads .turns) k (start token d staging reply)
+          ∙ ap (run b twice k) ends ∙ ended-stays b twice k (c .last) over in
+          subst (Fine b twice) (sym at) (λ p z. absurd (omega (arith, ap length (sym none ∙ z))))
 
   -- its counts are those of the list
   counted : Counted b (c .last .host) (c .last .trace)
   counted =
       subst (λ (x : System). Counted b (x .host) (x .trace)) ends
-      (run-counts b token d staging reply (P .bundle) (P .accepted) (P .small) (c .leads .turns) run-over)
+      (run-counts b twice token d staging reply (P .bundle) (P .accepted) (P .small) (c .leads .turns) run-over)
 
   -- what the passes reached is what the list shows
   is-staged : (i : ℕ) → i < countIn b → stagedIn b (c .last) i ≡ passesOf y os .set i
@@ -216,12 +229,13 @@ module _ (b : List ℕ) (token : ℕ) (d : Device) (staging reply : List ℕ) (P
   bounded = omega (arith, c .count, rw (length-from 0 (countIn b)) at (reached .bound), records-from b (entriesIn b) (countIn b) 0 (omega (arith, G .accepted .entries)))
 
   -- all of it, of the run until the host ends
-  pub core : Core b token d staging reply (lastOf b token d staging reply)
+  pub core : Core b twice token d staging reply (lastOf b twice token d staging reply)
   core =
-      subst (Core b token d staging reply) (sym last-is)
+      subst (Core b twice token d staging reply) (sym last-is)
       (record {
         done = c .done;
-        stays = λ m. ended-stays b m (c .last) over;
+        stays = λ m. ended-stays b twice m (c .last) over;
+        silence = c .silence;
         served = turn-is;
         passes = few;
         packets = bounded;

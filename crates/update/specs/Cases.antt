@@ -5,6 +5,7 @@ use Prim.Native.Nat.{ℕ, zero, suc, _+_, _*_, _-_}
 use mathlib.Core.Path.{_≡_}
 use mathlib.Core.Bool.{true, false}
 use mathlib.Core.List.{List, [], _∷_, _++_, map}
+use lib.Dec.{eqb}
 use lib.ListN.{length, getD, take, drop, replicate}
 use Rattle.wire.specs.Codes.{COMPONENT-LIMIT, OFFER-SKIP, OFFER-ACCEPT, OFFER-REJECT, OFFER-BUSY, OFFER-READY, REJECT-INV-COMPONENT, REJECT-SWAP-PENDING, SUCCESS}
 use Rattle.wire.specs.Version.{versionBytes, versionOf}
@@ -128,21 +129,29 @@ fourth k = record { address = record { 0 = 4 * k }; bytes = take 4 (drop (4 * k)
 abbrev pub quartered : List ℕ
 quartered = bundleBytes (record { offer = alone 1 .offer; blocks = fourth 0 ∷ fourth 1 ∷ fourth 2 ∷ fourth 3 ∷ [] } ∷ [])
 
--- its run, with blocks that arrive twice
+-- its run, with blocks that arrive twice, after so many turns and at its end
+abbrev pub turnsTwice : Schedule → ℕ → System
+turnsTwice twice n = run quartered twice n (start 7 seven (replicate 112 0) [])
+
 abbrev pub comesTwice : Schedule → System
 comesTwice twice = lastOf quartered twice 7 seven (replicate 112 0) []
 
--- every block that may arrive twice does, and none: the same list, counts, device and bytes, in 8 packets and 1 pass; the copies take two steps of the host more
+-- it has the same list, counts, device and bytes, in 8 packets and 1 pass, whichever blocks arrive twice; each copy takes a turn of the host more
+pub record RunsWith (twice : Schedule) (copies : ℕ) : Type 0 where
+  pub says : map said (comesTwice twice .trace)
+      ≡ code 0 ∷ code 1 ∷ offered 1 OFFER-ACCEPT 0 ∷ block SUCCESS ∷ block SUCCESS ∷ block SUCCESS ∷ block SUCCESS ∷ code 2 ∷ []
+  pub counts : (comesTwice twice .host .packets ≡ 8) × (comesTwice twice .host .passes ≡ 1)
+  pub device : map (λ c. isPending (c .staged)) (comesTwice twice .device .components) ≡ true ∷ replicate (COMPONENT-LIMIT - 1) false
+  pub staging : comesTwice twice .staging ≡ image16 1 ++ replicate 96 0
+  pub runs : hasEnded (turnsTwice twice (8 + copies) .host .stage) ≡ false
+  pub done : turnsTwice twice (9 + copies) .host .stage ≡ Ended Done
+
+-- each packet once; the block that is the sixth packet twice; every block that may arrive twice does
 pub record DoubledRuns : Type 0 where
   pub premise : Premise quartered 7 seven (replicate 112 0)
-  pub says : map said (comesTwice (λ j. true) .trace)
-      ≡ code 0 ∷ code 1 ∷ offered 1 OFFER-ACCEPT 0 ∷ block SUCCESS ∷ block SUCCESS ∷ block SUCCESS ∷ block SUCCESS ∷ code 2 ∷ []
-  pub same : comesTwice (λ j. true) ≡ comesTwice once
-  pub counts : (comesTwice (λ j. true) .host .packets ≡ 8) × (comesTwice (λ j. true) .host .passes ≡ 1)
-  pub steps : (hasEnded (run quartered once 8 (start 7 seven (replicate 112 0) []) .host .stage) ≡ false)
-      × (run quartered once 9 (start 7 seven (replicate 112 0) []) .host .stage ≡ Ended Done)
-      × (hasEnded (run quartered (λ j. true) 10 (start 7 seven (replicate 112 0) []) .host .stage) ≡ false)
-      × (run quartered (λ j. true) 11 (start 7 seven (replicate 112 0) []) .host .stage ≡ Ended Done)
+  pub none : RunsWith once 0
+  pub one : RunsWith (λ j. eqb j 5) 1
+  pub all : RunsWith (λ j. true) 2
 
 -- one offer with a body of three records
 abbrev pub inThree : List ℕ
@@ -166,7 +175,7 @@ longest k =
     getD ([] ∷ status OFFER-ACCEPT ∷ status OFFER-ACCEPT
     ∷ busy 8 (status OFFER-ACCEPT ∷ took 0 ∷ took 0 ∷ took 1 ∷ took 1 ∷ took 2 ∷ status OFFER-ACCEPT ∷ [])) k []
 
--- 2 + n(16 n + 2 + 2 r) = 26 steps, and none fewer
+-- 2 + n(16 n + 2 + 2 r) = 26 steps, and no fewer
 pub record BoundReached : Type 0 where
   pub bound : boundOf inThree ≡ 26
   pub runs : hasEnded (hostSteps inThree 7 longest 25 .host .stage) ≡ false

@@ -86,7 +86,8 @@ pub record Smallest (d : Device) (b : List ℕ) (X : Set) : Type 0 where
 abbrev pub NotTargeted : Device → (b : List ℕ) → Set → (k : ℕ) → Type 0
 NotTargeted d b X k = (i : ℕ) → i < countIn b → T (X i) → find d (offerAt b i .id) ≡ At k → ⊥
 
--- the device that a set leaves: each member's component is pending with the offered version, no other differs; idle, nothing owed, all else as before
+-- the device that a set leaves: each member's component is pending with the offered version, no other differs; idle, nothing owed, no packet held, all else as
+-- before
 pub record Leaves (d : Device) (b : List ℕ) (X : Set) (d′ : Device) : Type 0 where
   pub same : d′ ≡ idleWith d (d′ .components)
   pub slots : length (d′ .components) ≡ length (d .components)

@@ -25,7 +25,8 @@ use Rattle.update.specs.Trace.{passesIn, completedIn}
 use Rattle.update.specs.Run.{System, Schedule, once, isMiddle, answerTo, leftBy, heard, run, start, recordsIn, lastOf}
 use Rattle.update.specs.Answer as answer
 use Rattle.update.specs.Answer.{Ran, ended}
-use Rattle.update.specs.Ends.{Counted, completedOf, PassedOver}
+use Rattle.update.specs.Heard.{lastTaken}
+use Rattle.update.specs.Ends.{Counted, completedOf, PassedOver, StaysEnded}
 use Rattle.update_passes.specs.Sets.{Set}
 use Rattle.update.specs.Claim.{offerAt, Good, Smallest, Leaves, Fills}
 
@@ -58,15 +59,15 @@ pub record Repeats (p : List ℕ) (d : Device) (staging : List ℕ) : Type 0 whe
 abbrev pub stepIn : (b : List ℕ) → System → Step
 stepIn b s = hostStep.stepOf b (s .host) (heard (s .replies))
 
--- one turn: no call is refused; what is sent gets exactly one reply, and so does its copy, the same, where it arrives twice; a step that sends nothing ends the
--- host or passes over a reply
+-- one turn: no call is refused; what is sent gets exactly one reply, and a copy of a block that is neither first nor last gets the same; a step that sends nothing
+-- ends the host or passes over a reply
 pub record Turn (b : List ℕ) (s : System) : Type 0 where
   pub host : stepIn b s .row ≡ hostStep.served
   pub device : (p : List ℕ) → stepIn b s .sent ≡ p ∷ []
       → (answerTo p (s .device) (s .staging) .row ≡ deviceRows.served) × (length (answerTo p (s .device) (s .staging) .sent) ≡ 1)
   pub copy : (p : List ℕ) → stepIn b s .sent ≡ p ∷ [] → isMiddle p ≡ true → Repeats p (s .device) (s .staging)
   pub silent : hasEnded (s .host .stage) ≡ false → stepIn b s .sent ≡ []
-      → (hasEnded (stepIn b s .host .stage) ≡ true) ⊎ PassedOver (s .host) (stepIn b s .host)
+      → (hasEnded (stepIn b s .host .stage) ≡ true) ⊎ PassedOver (s .host) (stepIn b s .host) (heard (s .replies)) (lastTaken (s .trace))
 
 -- the same offers, each with its own body, in another order
 pub record Reordered (b b′ : List ℕ) : Type 0 where
@@ -88,9 +89,9 @@ pub record Same (b b′ : List ℕ) (π : Reordered b b′) (s s′ : System) : 
 
 -- the claim, of the run that comes to the system s
 pub record Demand (b : List ℕ) (twice : Schedule) (token : ℕ) (d : Device) (staging reply : List ℕ) (s : System) : Type 0 where
-  -- the host is done, and stays so; it awaits no reply, and none is on its way; no call is refused
+  -- the host is done, whatever it would be handed next; it awaits no reply, and none is on its way; no call is refused
   pub done : s .host .stage ≡ Ended Done
-  pub stays : (m : ℕ) → run b twice m s ≡ s
+  pub stays : ((m : ℕ) → run b twice m s ≡ s) × StaysEnded b (s .host)
   pub silence : (s .awaited ≡ []) × (s .replies ≡ [])
   pub served : (m : ℕ) → Turn b (run b twice m (start token d staging reply))
   -- at most n passes and 1 + n(n + 2) + r packets, by the packets sent and by the report
@@ -117,7 +118,7 @@ pub record Demand (b : List ℕ) (twice : Schedule) (token : ℕ) (d : Device) (
   pub order : (b′ : List ℕ) (twice′ : Schedule) (token′ : ℕ) (reply′ : List ℕ) → Bytes b′ → token′ < 256 → rows.bundleRow b′ ≡ rows.served
       → (π : Reordered b b′) → Same b b′ π s (lastOf b′ twice′ token′ d staging reply′)
 
--- demand 3, whichever blocks that are neither first nor last arrive, and are answered, twice in a row; a copy stands in no list and counts in no bound
+-- demand 3, whichever blocks that are neither first nor last arrive, and are answered, twice in a row; a copy counts neither as a packet nor in the list
 abbrev pub DemandThree : Type 0
 DemandThree = (b : List ℕ) (twice : Schedule) (token : ℕ) (d : Device) (staging reply : List ℕ) → Premise b token d staging
     → Demand b twice token d staging reply (lastOf b twice token d staging reply)

@@ -1,5 +1,5 @@
 -- The host always ends, against any device: the statement (document 00, question 1; document 01, "The host"; document 02, A4).
-use Prim.Native.Nat.{ℕ, zero, suc, _+_, _<_}
+use Prim.Native.Nat.{ℕ, zero, suc, _+_, _-_, _≤_, _<_}
 use mathlib.Core.Path.{_≡_}
 use mathlib.Core.Logic.{_⊎_}
 use mathlib.Core.Bool.{true, false, cond}
@@ -8,17 +8,19 @@ use lib.Count.{ones}
 use lib.ListN.{length}
 use Rattle.wire.specs.Bytes.{Bytes}
 use Rattle.wire.specs.Checks.{All}
+use Rattle.wire.specs.Codes.{SUCCESS, SHORT-SIZE}
 use Rattle.wire.specs.Rows as packet
 use Rattle.wire_offer.specs.Offer as offer
 use Rattle.wire_offer.specs.Signal.{informationBytes, extendedBytes}
 use Rattle.wire_offer.specs.declared.offer.OfferFields.{OfferFields}
 use Rattle.wire_offer.specs.declared.signal.Signal.{Signal}
 use Rattle.wire_content.specs.Content as content
+use Rattle.wire_content.specs.Reply as contentReply
 use Rattle.wire_content.specs.declared.content.ContentFields.{ContentFields}
 use Rattle.bundle_layout.specs.Layout.{countIn, idIn}
 use Rattle.bundle_layout.specs.Rows as bundle
 use Rattle.device.specs.declared.record.Device.{Device}
-use Rattle.host_record.specs.Record.{freshHost, sentAt, passedAt, hasBit, hasEnded}
+use Rattle.host_record.specs.Record.{freshHost, sentAt, passedAt, sequenceOf, hasBit, hasEnded}
 use Rattle.host_record.specs.declared.record.Place.{Place}
 use Rattle.host_record.specs.declared.record.HostStage.the-variants.{Sending}
 use Rattle.host_decide.specs.Decide.{at}
@@ -26,7 +28,7 @@ use Rattle.host_packet.specs.Answer.{Step, served}
 use Rattle.host.specs.Step.{entryAt, stepOf}
 use Rattle.host_record.specs.declared.record.Host.{Host}
 use Rattle.update.specs.Trace.{Exchange, passesIn, completedIn}
-use Rattle.update.specs.Heard.{takenFor, traceAfter, awaitedAfter}
+use Rattle.update.specs.Heard.{takenFor, traceAfter, awaitedAfter, lastTaken}
 use Rattle.update.specs.Run.{Schedule, run, boundOf, lastOf}
 
 -- a host that is handed any replies, one at each step: its record, the packet whose reply it awaits, if any, and the list of the packets sent before it, each
@@ -85,10 +87,18 @@ pub record Ends (b : List ℕ) (token : ℕ) (replies : ℕ → List ℕ) : Type
 abbrev pub HostEnds : Type 0
 HostEnds = (b : List ℕ) (token : ℕ) (replies : ℕ → List ℕ) → Bytes b → bundle.bundleRow b ≡ bundle.served → token < 256 → Ends b token replies
 
+-- a further step of an ended record sends nothing and keeps the record, whatever it is handed
+abbrev pub StaysEnded : (b : List ℕ) → Host → Type 0
+StaysEnded b h = (reply : List ℕ) → (stepOf b h reply .sent ≡ []) × (stepOf b h reply .host ≡ h)
+
+abbrev pub EndStays : Type 0
+EndStays = (b : List ℕ) (h : Host) → hasEnded (h .stage) ≡ true → StaysEnded b h
+
 -- a run always ends, whatever the device, its staging buffer and the schedule, and an ended run stays
 abbrev pub RunEnds : Type 0
 RunEnds = (b : List ℕ) (twice : Schedule) (token : ℕ) (d : Device) (staging reply : List ℕ) → Bytes b → bundle.bundleRow b ≡ bundle.served → token < 256
     → (hasEnded (lastOf b twice token d staging reply .host .stage) ≡ true)
+    × StaysEnded b (lastOf b twice token d staging reply .host)
     × ((m : ℕ) → run b twice m (lastOf b twice token d staging reply) ≡ lastOf b twice token d staging reply)
 
 -- at every step the packets and passes of the record are those of the list sent, the packet whose reply is awaited among them
@@ -108,15 +118,21 @@ HostCounts = (b : List ℕ) (token : ℕ) (replies : ℕ → List ℕ) (k : ℕ)
     → hasEnded (hostSteps b token replies k .host .stage) ≡ true
     → (hostSteps b token replies k .awaited ≡ []) × Counted b (hostSteps b token replies k .host) (hostSteps b token replies k .trace)
 
--- a reply that is passed over changes nothing but that one was (document 02, A4): the record before awaits a block's reply, and none was passed over yet
-pub record PassedOver (h h′ : Host) : Type 0 where
+-- a reply is passed over (document 02, A4) by a record that awaits the reply to a block which is not the first of its body, and has passed over none while it
+-- does: it is 16 bytes long and, as it is read, equal to the one taken last, that to the block before, with status 0; nothing changes but the note that one was
+-- passed over
+pub record PassedOver (h h′ : Host) (reply taken : List ℕ) : Type 0 where
   pub place : Place
+  pub later : 1 ≤ place .block
   pub before : h .stage ≡ Sending (sentAt place)
   pub after : h′ ≡ at h (Sending (passedAt place))
+  pub size : length reply ≡ SHORT-SIZE
+  pub reads : contentReply.replyIn reply ≡ record { sequence = sequenceOf (place .block - 1); status = SUCCESS }
+  pub same : contentReply.replyIn taken ≡ contentReply.replyIn reply
 
--- a step that sends nothing, of a record that has not ended, ends it or passes over the reply
+-- a step that sends nothing, of a record that has not ended, ends it or passes over the reply that it was handed
 abbrev pub HostSilent : Type 0
 HostSilent = (b : List ℕ) (token : ℕ) (replies : ℕ → List ℕ) (k : ℕ) → Bytes b → bundle.bundleRow b ≡ bundle.served → token < 256
     → hasEnded (hostSteps b token replies k .host .stage) ≡ false → stepOf b (hostSteps b token replies k .host) (replies k) .sent ≡ []
     → (hasEnded (hostSteps b token replies (suc k) .host .stage) ≡ true)
-    ⊎ PassedOver (hostSteps b token replies k .host) (hostSteps b token replies (suc k) .host)
+    ⊎ PassedOver (hostSteps b token replies k .host) (hostSteps b token replies (suc k) .host) (replies k) (lastTaken (hostSteps b token replies k .trace))

@@ -9,7 +9,8 @@ use Rattle.host_record.specs.Record.{hasEnded}
 use Rattle.host_packet.specs.Answer.{Step}
 use Rattle.update.specs.Trace.{Exchange}
 
--- the step passes over the reply that it was handed: it sends nothing, and the host has not ended
+-- the step passes over the reply that it was handed: it sends nothing, and the host has not ended; so would a refused step, but over an accepted bundle N1 is
+-- never met (`HostEnds`)
 abbrev pub passesOver : Step → Bool
 passesOver x = eqb (length (x .sent)) 0 && not (hasEnded (x .host .stage))
 
@@ -25,3 +26,9 @@ traceAfter x reply awaited trace = cond (passesOver x) trace (trace ++ takenFor 
 -- the packet whose reply is awaited after it
 abbrev pub awaitedAfter : Step → (awaited : List (List ℕ)) → List (List ℕ)
 awaitedAfter x awaited = cond (passesOver x) awaited (x .sent)
+
+-- the reply that was taken last, and no bytes where none was
+abbrev pub lastTaken : List Exchange → List ℕ
+lastTaken [] = []
+lastTaken (x ∷ []) = x .reply
+lastTaken (x ∷ y ∷ xs) = lastTaken (y ∷ xs)

@@ -53,7 +53,7 @@ answerTo p d staging = serveEntry d (channelOf p) staging p
 abbrev pub leftBy : List ℕ → Device → (staging : List ℕ) → List ℕ
 leftBy p d staging = serveStaging d (channelOf p) staging p
 
--- a packet arrives: the device answers it, and the first that it sends, if any, is on its way to the host
+-- a packet arrives: the device answers it, and the first that it sends, if any, is on its way to the host; demand 3 shows that it sends no more (`Turn.device`)
 abbrev pub arrives : List ℕ → System → System
 arrives p s = record {
   host = s .host;
@@ -98,9 +98,14 @@ unfoldable pub run : (b : List ℕ) → Schedule → ℕ → System → System
 run b twice zero s = s
 run b twice (suc n) s = run b twice n (exchange b twice s)
 
--- the start: nothing sent; the first step awaits no reply, so any will do
+-- a reply on its way; no bytes are none
+abbrev pub onWay : (reply : List ℕ) → List (List ℕ)
+onWay [] = []
+onWay (x ∷ xs) = (x ∷ xs) ∷ []
+
+-- the start: nothing sent; the first step awaits no reply, so any may be on its way
 abbrev pub start : (token : ℕ) → Device → (staging reply : List ℕ) → System
-start token d staging reply = record { host = freshHost token; device = d; staging = staging; replies = reply ∷ []; awaited = []; trace = [] }
+start token d staging reply = record { host = freshHost token; device = d; staging = staging; replies = onWay reply; awaited = []; trace = [] }
 
 -- the records of all bodies
 unfoldable pub recordsFrom : (b : List ℕ) → List (List ℕ) → ℕ

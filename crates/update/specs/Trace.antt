@@ -8,7 +8,7 @@ use lib.ListN.{length, getD}
 use Rattle.wire.specs.Codes.{KIND-INFORMATION, KIND-EXTENDED, INFO-START-OFFER-LIST, SUCCESS, SHORT-SIZE, LONG-SIZE, FLAG-LAST-BLOCK}
 use Rattle.wire.specs.Bytes.{number, bytesAt}
 
--- a packet that was sent, and the reply to it
+-- a packet that was sent, and the reply that was taken for it
 pub record Exchange : Type 0 where
   pub packet : List ℕ
   pub reply : List ℕ

@@ -15,8 +15,8 @@ use Rattle.update.specs.Trace.{Exchange}
 use Rattle.update.specs.Run.{System, once, turned}
 
 -- the reply on its way, if any
-abbrev pub onWay : BothEnds → List (List ℕ)
-onWay e = cond (e .replies .due) (e .replies .reply ∷ []) []
+abbrev pub wayOf : BothEnds → List (List ℕ)
+wayOf e = cond (e .replies .due) (e .replies .reply ∷ []) []
 
 -- the reply that the host is handed, and no bytes where there is none
 abbrev pub replyOf : BothEnds → List ℕ
@@ -28,7 +28,7 @@ systemOf e staging awaited trace = record {
   host = e .host;
   device = e .device;
   staging = staging;
-  replies = onWay e;
+  replies = wayOf e;
   awaited = awaited;
   trace = trace;
 }

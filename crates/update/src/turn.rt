@@ -9,7 +9,7 @@ ghost use Rattle.bundle.specs.Contents.{toldChecked, checkOf};
 ghost use Rattle.host_record.specs.Record.{hasEnded};
 ghost use Rattle.host_packet.specs.Packet.{PACKET-SIZE};
 ghost use Rattle.host_packet.specs.Answer.{sentBy};
-ghost use Rattle.update.specs.Run.{lastOf};
+ghost use Rattle.update.specs.Run.{once, lastOf};
 ghost use Rattle.update.specs.Turn.{Comes, Delivered, Turned};
 use bundle_layout::BundleVerdict;
 use bundle_layout::Checked;
@@ -122,7 +122,7 @@ pub(crate) fn run_to_end(
     staging: &mut [u8],
 ) -> BothEnds
     requires { ⌜ (toldChecked checked ≡ checkOf (now bundle)) × (rows.bundleRow (now bundle) ≡ rows.served) ⌝ }
-    ensures { λ r. ⌜ Comes (lastOf (now (bundle .entry)) token device (now (staging .entry)) []) r (now (staging .exit)) ⌝ }
+    ensures { λ r. ⌜ Comes (lastOf (now (bundle .entry)) once token device (now (staging .entry)) []) r (now (staging .exit)) ⌝ }
 {
     let host = Host::fresh(token);
     let replies = Replies::none();

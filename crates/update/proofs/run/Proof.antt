@@ -82,7 +82,7 @@ returns-4 c =
     let k = c .before .before .before .before .before .run-to-end in
     let e = c .before .before .before .before .before .before .before in
     served-answered (a .bundle .now) (a .token) (a .device) (a .staging .now) _ (premise e)
-    (ap (λ (x : Reported). record { row = served; report = x; device = k .result .device; staging = k .last .1 .1 .1 .1 .0 }) (c .report .ensures) ∙ ap ended (sym (k .ensures .1)))
+    (ap (λ (x : Reported). record { row = served; report = x; device = k .result .device; staging = k .last .1 .1 .1 .1 .0 }) (c .report .ensures) ∙ ap ended (sym (k .ensures .2)))
     (no-row (a .bundle .now) (a .token) (a .device) (a .staging .now) (served-is (e .before .before .before .before)) (fine (e .before .before)) (eq-eqb _ _ (e .if3 .left)))
 
 pub run-spec : {M : Type 1} → statement M

@@ -1,5 +1,5 @@
 -- One turn of both ends is one exchange of the run, and the run is at its last where the host has ended. Assumes nothing.
-use Prim.Native.Nat.{ℕ, suc, _+_, _-_, _≤_, _<_}
+use Prim.Native.Nat.{ℕ, suc, _≤_, _<_}
 use mathlib.Core.Path.{_≡_, refl, sym, ap, subst, _∙_}
 use mathlib.Core.Logic.{_⊎_, inl, inr}
 use mathlib.Core.Bool.{Bool, true, false, cond, true≢false}
@@ -12,7 +12,6 @@ use Rattle.wire.specs.Bytes.{Bytes}
 use Rattle.wire.specs.Codes.{NOTIFY-ON-READY, INFO-START-ENTIRE-TRANSACTION, INFO-END-OFFER-LIST}
 use Rattle.wire_offer.specs.Kind.{Kind, offer, information, extended, kindIn}
 use Rattle.wire_content.specs.Head.{headIn}
-use Rattle.wire_content.specs.declared.head.ContentHead.{ContentHead}
 use Rattle.bundle_layout.specs.Layout.{OFFER-LIMIT, countIn}
 use Rattle.bundle_layout.specs.Rows as rows
 use Rattle.bundle_layout.specs.declared.Checked.{Checked}
@@ -39,7 +38,7 @@ use Rattle.device.specs.declared.answer.Refusal.{Refusal}
 use Rattle.device.specs.declared.answer.Channel.{Channel}
 use Rattle.device.specs.declared.answer.Channel.the-variants.{Offer, Content}
 use Rattle.device_receiving.specs.declared.checks.ContentVerdict.{ContentVerdict}
-use Rattle.device_receiving.specs.declared.checks.ContentVerdict.the-variants.{Refuse, Take}
+use Rattle.device_receiving.specs.declared.checks.ContentVerdict.the-variants as verdict
 use Rattle.device_receiving.specs.declared.content.Taken.{Taken}
 use Rattle.wire.proofs.Chain.{either}
 use Rattle.host_record.specs.Record.{freshHost, hasEnded}
@@ -58,14 +57,18 @@ use Rattle.host_decide.specs.declared.Move.{Move}
 use Rattle.host.proofs.inner.IsStep.{inner-is-step}
 use Rattle.update.specs.declared.turn.BothEnds.{BothEnds}
 use Rattle.update.specs.Trace.{Exchange}
-use Rattle.update.specs.Run.{System, channelOf, heard, afterPacket, deliver, exchange, run, start, boundOf, lastOf}
-use Rattle.update.specs.Turn.{replyOf, systemOf, Comes, stepFrom, afterOf, Delivered, Turned}
-use Rattle.update.proofs.Ready.{InStage, Ready, Goes, goes, step-moves, fresh-ready, owed-step}
-use Rattle.update.proofs.Talks.{deliver-host, run-next, ended-last}
+use Rattle.update.specs.Heard.{traceAfter, awaitedAfter}
+use Rattle.update.specs.Run as run
+use Rattle.update.specs.Run.{System, once, isMiddle, channelOf, heard, delivered, turned, exchange, start, lastOf}
+use Rattle.update.specs.Ends.{HostRun}
+use Rattle.update.specs.Turn.{wayOf, replyOf, systemOf, Comes, stepFrom, afterOf, Delivered, Turned}
+use Rattle.update_passes.proofs.Tests.{and-false}
+use Rattle.update.proofs.Ready.{InStage, Ready, Goes, stepsLeft, goes, step-moves, fresh-ready}
+use Rattle.update.proofs.Talks.{turned-host, run-next, ended-last}
 
 -- the first that is sent is the reply, where one is due; a READY follows only a reply
 abbrev First : Outcome → Type 0
-First a = heard (a .sent) ≡ cond (a .replies .due) (a .replies .reply) []
+First a = take 1 (a .sent) ≡ cond (a .replies .due) (a .replies .reply ∷ []) []
 
 module _ (d : Device) where
   -- of what a packet on the offer channel does
@@ -87,10 +90,10 @@ module _ (d : Device) where
   kind-first (extended s) = either EffectFirst (eqb (s .code) NOTIFY-ON-READY) _ _ (notify-first (s .token) (isOpen (d .session .stage)) (d .session .owed)) refl
 
   -- of a content packet
-  content-first : (c : ContentHead) (bytes s : List ℕ) (v : ContentVerdict) → First (received d (onVerdict (sessionComponent d) (d .session) c bytes s v))
+  content-first : (p s : List ℕ) (v : ContentVerdict) → First (received d (onVerdict (sessionComponent d) (d .session) p s v))
   unfolding onBlock
-  content-first c bytes s (Refuse status) = refl
-  content-first c bytes s (Take k) = either (λ (t : Taken). First (received d t)) (isLast c) _ _ refl refl
+  content-first p s (verdict.Answer status) = refl
+  content-first p s (verdict.Take k) = either (λ (t : Taken). First (received d t)) (isLast (headIn p)) _ _ refl refl
 
   -- of a refused call
   unless-first : (row : Row) (a : Outcome) → First a → First (unlessRefused row d a)
@@ -102,8 +105,8 @@ module _ (d : Device) where
   unfolding serveEntry offerEntry contentEntry
   serve-first Offer staging p = unless-first (refusalOf 16 d (length staging) (length p)) (onKind d (kindIn p)) (kind-first (kindIn p))
   serve-first Content staging p =
-      let v = contentVerdict d (headIn p) in
-      unless-first (refusalOf 60 d (length staging) (length p)) (received d (onVerdict (sessionComponent d) (d .session) (headIn p) (drop 8 p) staging v)) (content-first (headIn p) (drop 8 p) staging v)
+      let v = contentVerdict d p in
+      unless-first (refusalOf 60 d (length staging) (length p)) (received d (onVerdict (sessionComponent d) (d .session) p staging v)) (content-first p staging v)
 
 -- the first n bytes of a list
 pub first-length : (n : ℕ) (p : List ℕ) → n ≤ length p → n ≡ length (take n p)
@@ -129,31 +132,65 @@ stepped b p count hand e n i l m z h = h ∙ rw (l, z, heard-is (e .replies .due
 pub step-turned : (b : List ℕ) (count : ℕ) (hand : Body) (e : BothEnds) (i : InnerStep) (staging staging′ : List ℕ) (a : Answer)
     → i ≡ stepFrom b count hand e → Delivered (i .step .sent) e staging a staging′ → Turned b count hand e staging (afterOf (i .step .host) (i .cursor) a) staging′
 step-turned b count hand e i staging staging′ a z d =
-    subst (λ (x : InnerStep). (i .cursor ≡ x .cursor) × ((trace : List Exchange) → Comes (deliver (x .step .sent) (x .step .host) (systemOf e staging trace)) (afterOf (i .step .host) (i .cursor) a) staging′)) z
-    (refl, d (i .step .host) (i .cursor))
+    subst (λ (x : InnerStep). (i .cursor ≡ x .cursor) × ((awaited : List (List ℕ)) → (trace : List Exchange) → Comes (turned once (x .step) (systemOf e staging awaited trace)) (afterOf (i .step .host) (i .cursor) a) staging′)) z
+    (refl, d (i .step) refl (i .cursor))
+
+-- the reply that is handed over is gone, and the next step is handed it
+way-gone : (due : Bool) (reply : List ℕ) → drop 1 (cond {A = List (List ℕ)} due (reply ∷ []) []) ≡ []
+way-gone true reply = refl
+way-gone false reply = refl
+
+way-heard : (due : Bool) (reply : List ℕ) → heard (cond due (reply ∷ []) []) ≡ cond due reply []
+way-heard true reply = refl
+way-heard false reply = refl
 
 module _ (e : BothEnds) where
+  -- the system after a step, before what it sends arrives
+  abbrev after : Step → (staging : List ℕ) → (awaited : List (List ℕ)) → List Exchange → System
+  after x staging awaited trace = record {
+    host = x .host;
+    device = e .device;
+    staging = staging;
+    replies = [];
+    awaited = awaitedAfter x awaited;
+    trace = traceAfter x (heard (wayOf e)) awaited trace;
+  }
+
+  after-is : (x : Step) (staging : List ℕ) (awaited : List (List ℕ)) (trace : List Exchange)
+      → run.stepped x (systemOf e staging awaited trace) ≡ after x staging awaited trace
+  after-is x staging awaited trace = rw (way-gone (e .replies .due) (e .replies .reply))
+
   -- nothing is sent
-  pub nothing-delivered : (staging : List ℕ) (refusal : Refusal) → Delivered [] e staging (record { refusal = refusal; replies = e .replies; device = e .device }) staging
-  unfolding deliver
-  nothing-delivered staging refusal host cursor trace = (trace, refl)
+  pub nothing-delivered : (staging : List ℕ) (refusal : Refusal) (replies : Replies) → replies ≡ noReplies
+      → Delivered [] e staging (record { refusal = refusal; replies = replies; device = e .device }) staging
+  unfolding turned
+  nothing-delivered staging refusal replies n x z cursor awaited trace = (
+    awaitedAfter x awaited,
+    traceAfter x (heard (wayOf e)) awaited trace,
+    ap (λ (ps : List (List ℕ)). delivered once ps (run.stepped x (systemOf e staging awaited trace))) z ∙ after-is x staging awaited trace ∙ rw n,
+  )
 
   -- a packet on its channel is answered
   pub answer-delivered : (p staging staging′ : List ℕ) (channel : Channel) (a : Answer) → channelOf p ≡ channel
       → told a ≡ serveEntry (e .device) channel staging p → staging′ ≡ serveStaging (e .device) channel staging p
       → Delivered (p ∷ []) e staging a staging′
-  unfolding deliver
-  answer-delivered p staging staging′ channel a c t s host cursor trace =
-      let last = afterPacket p host (e .device) staging trace .trace in (
-        last,
-        ap (λ (x : Channel). record {
-          host = host;
-          device = serveEntry (e .device) x staging p .device;
-          staging = serveStaging (e .device) x staging p;
-          reply = heard (serveEntry (e .device) x staging p .sent);
-          trace = last;
-        }) c
-            ∙ rw (serve-first (e .device) channel staging p, ← t, ← s),
+  unfolding turned
+  answer-delivered p staging staging′ channel a c t s x z cursor awaited trace =
+      let list = traceAfter x (heard (wayOf e)) awaited trace in (
+        awaitedAfter x awaited,
+        list,
+        ap (λ (ps : List (List ℕ)). delivered once ps (run.stepped x (systemOf e staging awaited trace))) z
+            ∙ ap (delivered once (p ∷ [])) (after-is x staging awaited trace)
+            ∙ rw (and-false (isMiddle p))
+            (ap (λ (y : Channel). record {
+              host = x .host;
+              device = serveEntry (e .device) y staging p .device;
+              staging = serveStaging (e .device) y staging p;
+              replies = take 1 (serveEntry (e .device) y staging p .sent);
+              awaited = awaitedAfter x awaited;
+              trace = list;
+            }) c
+            ∙ rw (serve-first (e .device) channel staging p, ← t, ← s)),
       )
 
 -- the host's step and a turn, with the count and the body in hand that the check answers
@@ -175,7 +212,7 @@ module _ (b : List ℕ) (e : BothEnds) where
 -- what the turns keep: a run has come to these ends, the host is ready, and its cursor is right
 pub record Reached (b : List ℕ) (token : ℕ) (d : Device) (staging : List ℕ) (e : BothEnds) (staging′ : List ℕ) : Type 0 where
   pub turns : ℕ
-  pub comes : Comes (run b turns (start token d staging [])) e staging′
+  pub comes : Comes (run.run b once turns (start token d staging [])) e staging′
   pub ready : Ready b (e .host)
   pub cursor : CursorIn b (e .host .stage) (e .cursor)
 
@@ -195,17 +232,17 @@ within-table b bytes accept h r = go (h .stage) (r .stage)
 
 -- the turns that are left, and one more until the host has ended
 abbrev pub leftOf : (b : List ℕ) → Host → ℕ
-leftOf b h = cond (hasEnded (h .stage)) 0 (suc (boundOf b - h .packets))
+leftOf b h = cond (hasEnded (h .stage)) 0 (suc (stepsLeft b (h .passes) (h .stage)))
 
 module _ (b : List ℕ) (token : ℕ) (d : Device) (staging : List ℕ) (bytes : Bytes b) (accept : rows.bundleRow b ≡ rows.served) (small : token < 256) where
   -- at the start
   pub reached-start : (h : Host) (replies : Replies) (cursor : ℕ) → h ≡ freshHost token → replies ≡ noReplies
       → Reached b token d staging (record { host = h; device = d; replies = replies; cursor = cursor }) staging
-  unfolding run
+  unfolding run.run
   reached-start h replies cursor z n =
       record {
         turns = 0;
-        comes = ([], rw (z, n));
+        comes = ([], [], rw (z, n));
         ready = rw z (fresh-ready b (accepted b bytes accept) token small);
         cursor = rw z tt;
       }
@@ -219,15 +256,17 @@ module _ (b : List ℕ) (token : ℕ) (d : Device) (staging : List ℕ) (bytes :
         (inner-is-step b (e .host) (e .cursor) (replyOf e) bytes place)
 
     -- so a turn is an exchange
-    turn-comes : (trace : List Exchange) → Comes (exchange b (systemOf e s trace)) e′ s′
+    turn-comes : hasEnded (e .host .stage) ≡ false → (awaited : List (List ℕ)) (trace : List Exchange) → Comes (exchange b once (systemOf e s awaited trace)) e′ s′
     unfolding exchange
-    turn-comes trace = subst (λ (x : Step). Comes (deliver (x .sent) (x .host) (systemOf e s trace)) e′ s′) (inner .0) (t .1 trace)
+    turn-comes f awaited trace =
+        rw (f, way-heard (e .replies .due) (e .replies .reply))
+        (subst (λ (x : Step). Comes (turned once x (systemOf e s awaited trace)) e′ s′) (inner .0) (t .1 awaited trace))
 
     -- the next record is the step's
     host-is : e′ .host ≡ stepOf b (e .host) (replyOf e) .host
     host-is =
-        sym (ap (λ (x : System). x .host) (t .1 [] .1))
-        ∙ deliver-host (stepOn b e .step .sent) (stepOn b e .step .host) (systemOf e s [])
+        sym (ap (λ (x : System). x .host) (t .1 [] [] .2))
+        ∙ ap (λ (r : HostRun). r .host) (turned-host once (stepOn b e .step) (systemOf e s [] []))
         ∙ ap (λ (x : Step). x .host) (inner .0)
 
     -- the host's move
@@ -238,22 +277,23 @@ module _ (b : List ℕ) (token : ℕ) (d : Device) (staging : List ℕ) (bytes :
     moved-is : e′ .host ≡ move .host
     moved-is = host-is ∙ ap (λ (x : Step). x .host) (step-moves b (accepted b bytes accept) accept (e .host) (replyOf e) ready)
 
-    -- an end, or one packet more
-    went : Goes b (e .host .packets) move
+    -- an end, or fewer steps
+    went : Goes b (stepsLeft b (e .host .passes) (e .host .stage)) move
     went = goes b (accepted b bytes accept) (e .host) (replyOf e) ready
 
     -- so a turn leaves less to do
     pub turn-less : hasEnded (e .host .stage) ≡ false → leftOf b (e′ .host) < leftOf b (e .host)
-    turn-less f = rw f (go (hasEnded (e′ .host .stage)) refl (subst Counts (sym moved-is) (went .counted)))
+    turn-less f = rw f (go (hasEnded (e′ .host .stage)) refl (subst Fewer (sym moved-is) (went .fewer)))
       where
-        Counts : Host → Type 0
-        Counts h = (hasEnded (h .stage) ≡ true) ⊎ (h .packets ≡ e .host .packets + 1)
+        Fewer : Host → Type 0
+        Fewer h = (hasEnded (h .stage) ≡ true) ⊎ (stepsLeft b (h .passes) (h .stage) < stepsLeft b (e .host .passes) (e .host .stage))
 
-        go : (x : Bool) → x ≡ hasEnded (e′ .host .stage) → (hasEnded (e′ .host .stage) ≡ true) ⊎ (e′ .host .packets ≡ e .host .packets + 1)
-            → cond x 0 (suc (boundOf b - e′ .host .packets)) < suc (boundOf b - e .host .packets)
+        go : (x : Bool) → x ≡ hasEnded (e′ .host .stage)
+            → (hasEnded (e′ .host .stage) ≡ true) ⊎ (stepsLeft b (e′ .host .passes) (e′ .host .stage) < stepsLeft b (e .host .passes) (e .host .stage))
+            → cond x 0 (suc (stepsLeft b (e′ .host .passes) (e′ .host .stage))) < suc (stepsLeft b (e .host .passes) (e .host .stage))
         go true q k = omega arith
         go false q (inl k) = absurd (true≢false (sym k ∙ sym q))
-        go false q (inr k) = omega (arith, ready .room, owed-step b (accepted b bytes accept) (e .host .stage) f)
+        go false q (inr k) = omega arith
 
     -- the next record is ready
     next-ready : Ready b (e′ .host)
@@ -264,20 +304,22 @@ module _ (b : List ℕ) (token : ℕ) (d : Device) (staging : List ℕ) (bytes :
     next-cursor = rw (t .0) (subst (λ (x : Host). CursorIn b (x .stage) (stepOn b e .cursor)) (sym host-is) (inner .1))
 
   -- after a turn
-  pub reached-turn : (e e′ : BothEnds) (s s′ : List ℕ) → Reached b token d staging e s → TurnedOn b e s e′ s′ → Reached b token d staging e′ s′
-  reached-turn e e′ s s′ r t =
-      let w = turn-comes e e′ s s′ (r .ready) (r .cursor) t (r .comes .0) in
+  pub reached-turn : (e e′ : BothEnds) (s s′ : List ℕ) → Reached b token d staging e s → hasEnded (e .host .stage) ≡ false → TurnedOn b e s e′ s′
+      → Reached b token d staging e′ s′
+  reached-turn e e′ s s′ r f t =
+      let w = turn-comes e e′ s s′ (r .ready) (r .cursor) t f (r .comes .0) (r .comes .1) in
       record {
         turns = suc (r .turns);
-        comes = (w .0, run-next b (r .turns) (start token d staging []) ∙ ap (exchange b) (r .comes .1) ∙ w .1);
+        comes = (w .0, w .1, run-next b once (r .turns) (start token d staging []) ∙ ap (exchange b once) (r .comes .2) ∙ w .2);
         ready = next-ready e e′ s s′ (r .ready) (r .cursor) t;
         cursor = next-cursor e e′ s s′ (r .ready) (r .cursor) t;
       }
 
   -- where the host has ended
   pub reached-end : (e : BothEnds) (s : List ℕ) → Reached b token d staging e s → hasEnded (e .host .stage) ≡ true
-      → Comes (lastOf b token d staging []) e s
+      → Comes (lastOf b once token d staging []) e s
   reached-end e s r z = (
     r .comes .0,
-    ended-last b token d staging [] bytes accept small (r .turns) (ap (λ (x : System). hasEnded (x .host .stage)) (r .comes .1) ∙ z) ∙ r .comes .1,
+    r .comes .1,
+    ended-last b once token d staging [] bytes accept small (r .turns) (ap (λ (x : System). hasEnded (x .host .stage)) (r .comes .2) ∙ z) ∙ r .comes .2,
   )

@@ -20,8 +20,8 @@ slice-aggregate-offer c = let s = c .before .before .before .before .before .bef
 returns : tie.Need-returns
 returns c =
     let a = c .before .before .before .before .before .before .args in
-    subst⁻¹ (λ (x : Sent). Delivered (sentBy x (a .packet .now)) (a .e) (a .staging .now) (record { refusal = refusal.Served; replies = a .e .replies; device = a .e .device }) (a .staging .now))
-    (c .before .enum-told .given .1) (nothing-delivered (a .e) (a .staging .now) refusal.Served)
+    subst⁻¹ (λ (x : Sent). Delivered (sentBy x (a .packet .now)) (a .e) (a .staging .now) (record { refusal = refusal.Served; replies = c .none .result; device = a .e .device }) (a .staging .now))
+    (c .before .enum-told .given .1) (nothing-delivered (a .e) (a .staging .now) refusal.Served (c .none .result) (c .none .ensures))
 
 returns-2 : tie.Need-returns-2
 unfolding serveEntry serveStaging
@@ -49,6 +49,7 @@ deliver-spec =
     tie.close
     (tie.spec
     (λ c. search needs)
+    (λ c κs. search needs)
     (λ c. search needs)
     slice-aggregate-offer
     (λ c κs. search needs)

@@ -77,9 +77,11 @@ loop-again c =
     let a = s .args in
     let l = c .before .before .before .before .before .before .before .before .before .before .loop in
     let t = c .before .before .before in
+    let h = c .before .before .before .before .before .before .before .before .before .has-ended in
     let w : length (t .turn .last .1 .1 .1 .1 .0) ≡ length (l .staging) = search needs in (
       reached-turn (a .bundle .now) (a .token) (a .device) (a .staging .now) (λ i. p .shared-slice-known .given i .fits) (s .pre .1) (small s)
-          (l .e) (t .turn .result) (l .staging) (t .turn .last .1 .1 .1 .1 .0) (l .inv .0) (turned t),
+          (l .e) (t .turn .result) (l .staging) (t .turn .last .1 .1 .1 .1 .0) (l .inv .0)
+          (ap hasEnded (sym (l .inv .1)) ∙ sym (h .ensures) ∙ not-true (h .result) (c .before .before .before .before .before .before .before .before .if1 .taken)) (turned t),
       refl,
       w ∙ l .inv .2,
     )

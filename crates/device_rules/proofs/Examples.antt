@@ -1,5 +1,6 @@
--- The customer's case computes, by both sets of rules. Assumes nothing.
+-- The customer's cases compute, by both sets of rules. Assumes nothing.
 use mathlib.Core.Path.{refl}
+use Rattle.wire.specs.Bytes.{same}
 use Rattle.wire.specs.Checks.{firstOf, any, pairs}
 use Rattle.wire_offer.specs.Offer.{fieldsIn}
 use Rattle.wire_offer.specs.Kind.{kindIn}
@@ -9,9 +10,13 @@ use Rattle.image.specs.Judge.{imageIn}
 use Rattle.device_component.specs.Lists.{firstFrom, find}
 use Rattle.device_component.specs.Setup.{badIds, badRegions, setupVerdict}
 use Rattle.device_offering.specs.Offer.{needUnmet}
-use Rattle.device_receiving.specs.Content.{contentVerdict, takeBlock}
-use Rattle.device_rules.specs.Examples.{A1Differs}
+use Rattle.device_receiving.specs.Content.{takeBlock}
+use Rattle.device_rules.specs.Examples.{A1Differs, A4Differs}
 
 pub a1-differs : A1Differs
-unfolding firstOf any pairs fieldsIn kindIn bitStep bitSteps byteStep crcFrom crcOf within blank put eraseOf writeOf regionBytes imageIn firstFrom find badIds badRegions setupVerdict needUnmet contentVerdict takeBlock
+unfolding firstOf any pairs fieldsIn kindIn bitStep bitSteps byteStep crcFrom crcOf within blank put eraseOf writeOf regionBytes imageIn firstFrom find badIds badRegions setupVerdict needUnmet takeBlock
 a1-differs = record { offered01 = (refl, refl); offered = (refl, refl); image01 = (refl, refl); image = (refl, refl); staged01 = refl; staged = refl }
+
+pub a4-differs : A4Differs
+unfolding same firstOf any pairs badIds badRegions setupVerdict
+a4-differs = record { copy01 = (refl, refl); copy = (refl, refl) }

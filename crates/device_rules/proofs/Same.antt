@@ -1,13 +1,13 @@
--- Two sets of rules on versions that agree on the versions that a call compares answer it alike. Assumes nothing.
-use mathlib.Core.Path.{_≡_, refl, sym, ap, ap₂}
+-- Two sets of rules that agree on the versions that a call compares and on the sequence that it brings answer it alike. Assumes nothing.
+use mathlib.Core.Path.{_≡_, refl, sym, ap, ap₂, _∙_}
 use mathlib.Core.Bool.{Bool, true, false, not, cond, _||_}
 use mathlib.Core.List.{List, [], _∷_}
 use Prim.Native.Nat.{ℕ, zero, suc, _<_}
 use native.Mathlib.Omega.{arith}
 use lib.Dec.{eqb}
-use lib.ListN.{length, take, drop}
+use lib.ListN.{length, take}
 use Rattle.wire.specs.Checks.{firstOf, any}
-use Rattle.wire.specs.Codes.{SHORT-SIZE, LONG-SIZE, DATA-AT, SUCCESS, ERROR-VERSION}
+use Rattle.wire.specs.Codes.{SHORT-SIZE, LONG-SIZE, SUCCESS, ERROR-VERSION}
 use Rattle.wire.specs.declared.version.Version.{Version}
 use Rattle.wire_offer.specs.Kind.{Kind, offer, information, extended, kindIn}
 use Rattle.wire_offer.specs.declared.offer.OfferFields.{OfferFields}
@@ -25,17 +25,19 @@ use Rattle.device_component.specs.declared.list.Found.{Found}
 use Rattle.device_component.specs.declared.list.Found.the-variants as found
 use Rattle.device_offering.specs.Offer as onOffer
 use Rattle.device_offering.specs.declared.verdict.OfferVerdict.{OfferVerdict}
-use Rattle.device_receiving.specs.Content.{isLast, contentVerdict, takeBlock}
+use Rattle.device_receiving.specs.Content.{isLast}
+use Rattle.device_receiving.specs.Receive.{written, stagingBy}
 use Rattle.device_receiving.specs.declared.checks.ContentVerdict.{ContentVerdict}
-use Rattle.device_receiving.specs.declared.checks.ContentVerdict.the-variants.{Refuse, Take}
+use Rattle.device_receiving.specs.declared.checks.ContentVerdict.the-variants.{Answer, Take}
 use Rattle.device_receiving.specs.declared.finish.Finished.{Finished}
+use Rattle.device_receiving.specs.declared.content.Taken.{Taken}
 use Rattle.device.specs.declared.record.Device.{Device}
 use Rattle.device.specs.declared.answer.Channel.the-variants.{Offer, Content}
 use Rattle.device.specs.Record.{find, component}
-use Rattle.device.specs.Refusals.{Row, served, D, Outcome, unlessRefused, servedWith}
+use Rattle.device.specs.Refusals.{Row, served, D, Outcome, keptBy, unlessRefused, servedWith}
 use Rattle.device.specs.Content.{sessionComponent, received}
-use Rattle.device_rules.specs.Rules.{VersionRules}
-use Rattle.device_rules.specs.Entries.{keepsStagedBy, breaksD1By, refusalBy, offerVerdictBy, onKindBy, judgeBy, onBlockBy, onContentVerdictBy, onContentBy, serveBy, serveStagingBy}
+use Rattle.device_rules.specs.Rules.{Rules}
+use Rattle.device_rules.specs.Entries.{keepsStagedBy, breaksD1By, refusalBy, offerVerdictBy, onKindBy, judgeBy, onContentVerdictBy, verdictOnBy, serveBy, serveStagingBy}
 
 -- a test that gives one answer for each of the first n
 pub any-same : (p q : Component → Bool) (n : ℕ) (cs : List Component) → ((k : ℕ) → k < n → p (componentAt cs k) ≡ q (componentAt cs k)) → any p (take n cs) ≡ any q (take n cs)
@@ -44,14 +46,19 @@ any-same p q zero cs h = refl
 any-same p q (suc n) [] h = refl
 any-same p q (suc n) (c ∷ cs) h = ap₂ (λ (a b : Bool). a || b) (h zero (omega arith)) (any-same p q n cs (λ k l. h (suc k) (omega (arith, l))))
 
-module _ (r r′ : VersionRules) (d : Device) where
+module _ (r r′ : Rules) (d : Device) where
   -- they agree on what is staged
   abbrev pub StagedSame : Type 0
-  StagedSame = (k : ℕ) (v : Version) → k < d .count → component d k .staged ≡ Pending v → r .stagedFits (component d k) v ≡ r′ .stagedFits (component d k) v
+  StagedSame = (k : ℕ) (v : Version) → k < d .count → component d k .staged ≡ Pending v
+      → r .versions .stagedFits (component d k) v ≡ r′ .versions .stagedFits (component d k) v
+
+  -- and on the previous packet
+  abbrev pub HeldSame : Type 0
+  HeldSame = r .sequences .wrongPrevious (d .session .stage) (d .session .previous) ≡ r′ .sequences .wrongPrevious (d .session .stage) (d .session .previous)
 
   -- D1 then has one answer
-  pub d1-same : StagedSame → breaksD1By r d ≡ breaksD1By r′ d
-  d1-same h = rw (any-same (λ (c : Component). not (keepsStagedBy r c (c .staged))) (λ (c : Component). not (keepsStagedBy r′ c (c .staged))) (d .count) (d .components) (λ k l. each k l (component d k .staged) refl)) refl
+  pub d1-same : StagedSame → HeldSame → breaksD1By r d ≡ breaksD1By r′ d
+  d1-same h p = rw (any-same (λ (c : Component). not (keepsStagedBy r c (c .staged))) (λ (c : Component). not (keepsStagedBy r′ c (c .staged))) (d .count) (d .components) (λ k l. each k l (component d k .staged) refl), p) refl
     where
       each : (k : ℕ) → k < d .count → (s : Staged) → component d k .staged ≡ s
           → not (keepsStagedBy r (component d k) (component d k .staged)) ≡ not (keepsStagedBy r′ (component d k) (component d k .staged))
@@ -59,13 +66,14 @@ module _ (r r′ : VersionRules) (d : Device) where
       each k l (Pending v) e = rw e (ap not (h k v l e))
 
   -- so have D1 to D3
-  refusal-same : StagedSame → (size n m : ℕ) → refusalBy r size d n m ≡ refusalBy r′ size d n m
-  refusal-same h size n m = ap (λ (b : Bool). firstOf ((b, D 1) ∷ (not (eqb n (d .«staging_len»)), D 2) ∷ (not (eqb m size), D 3) ∷ []) served) (d1-same h)
+  refusal-same : breaksD1By r d ≡ breaksD1By r′ d → (size n m : ℕ) → refusalBy r size d n m ≡ refusalBy r′ size d n m
+  refusal-same h size n m = ap (λ (b : Bool). firstOf ((b, D 1) ∷ (not (eqb n (d .«staging_len»)), D 2) ∷ (not (eqb m size), D 3) ∷ []) served) h
 
   -- they agree on the version of an offer for a listed component
   abbrev pub OfferedSame : OfferFields → Type 0
   OfferedSame o = (k : ℕ) → find d (o .id) ≡ found.At k
-      → (r .wrongVariant (component d k) (o .version) ≡ r′ .wrongVariant (component d k) (o .version)) × (r .isOld (component d k) (o .version) ≡ r′ .isOld (component d k) (o .version))
+      → (r .versions .wrongVariant (component d k) (o .version) ≡ r′ .versions .wrongVariant (component d k) (o .version))
+      × (r .versions .isOld (component d k) (o .version) ≡ r′ .versions .isOld (component d k) (o .version))
 
   -- its verdict is then one; an absent component is rejected before its version is looked at
   verdict-same : (o : OfferFields) → OfferedSame o → offerVerdictBy r d o ≡ offerVerdictBy r′ d o
@@ -82,14 +90,14 @@ module _ (r r′ : VersionRules) (d : Device) where
   kind-same (information s) h = refl
   kind-same (extended s) h = refl
 
-  pub offer-same : StagedSame → (staging report : List ℕ) → ((o : OfferFields) → kindIn report ≡ offer o → OfferedSame o)
+  pub offer-same : breaksD1By r d ≡ breaksD1By r′ d → (staging report : List ℕ) → ((o : OfferFields) → kindIn report ≡ offer o → OfferedSame o)
       → serveBy r d Offer staging report ≡ serveBy r′ d Offer staging report
   offer-same h staging report g =
       ap₂ (λ (row : Row) (answer : Outcome). unlessRefused row d answer) (refusal-same h SHORT-SIZE (length staging) (length report)) (kind-same (kindIn report) g)
 
   -- they agree on the version of a judged image
   abbrev pub JudgedSame : Component → Image → Type 0
-  JudgedSame c m = (v : Version) → m ≡ Bears v → r .imageFits c v ≡ r′ .imageFits c v
+  JudgedSame c m = (v : Version) → m ≡ Bears v → r .versions .imageFits c v ≡ r′ .versions .imageFits c v
 
   judge-same : (c : Component) (m : Image) → JudgedSame c m → judgeBy r c m ≡ judgeBy r′ c m
   judge-same c Damaged h = refl
@@ -99,37 +107,38 @@ module _ (r r′ : VersionRules) (d : Device) where
 
   module _ (staging report : List ℕ) where
     abbrev after : List ℕ
-    after = takeBlock (sessionComponent d .fixed .region) (headIn report) (drop DATA-AT report) staging
+    after = written (sessionComponent d .fixed .region) report staging
 
-    abbrev row : VersionRules → Row
+    abbrev row : Rules → Row
     row x = refusalBy x LONG-SIZE d (length staging) (length report)
+
+    abbrev taken : Rules → ContentVerdict → Taken
+    taken x w = onContentVerdictBy x (sessionComponent d) (d .session) report staging w
 
     -- .. which a last block leaves in the region of the session's component, where it is taken
     abbrev pub ImageSame : Type 0
-    ImageSame = (slot : ℕ) → row r ≡ served → contentVerdict (sessionComponent d .fixed .region) (d .session .stage) (headIn report) ≡ Take slot
+    ImageSame = (slot : ℕ) → row r ≡ served → verdictOnBy r d report ≡ Take slot
         → isLast (headIn report) ≡ true → JudgedSame (sessionComponent d) (imageIn (regionBytes (sessionComponent d .fixed .region) after) (sessionComponent d .fixed .id))
 
-  module _ (staging report : List ℕ) (h : StagedSame) (g : ImageSame staging report) where
+  -- they agree on D1 and on the verdict of a content packet too
+  module _ (staging report : List ℕ) (h : breaksD1By r d ≡ breaksD1By r′ d) (w : verdictOnBy r d report ≡ verdictOnBy r′ d report) (g : ImageSame staging report) where
     rows : row staging report r ≡ row staging report r′
     rows = refusal-same h LONG-SIZE (length staging) (length report)
 
     -- a taken block, where no row refuses the packet
-    block-same : (slot : ℕ) → row staging report r ≡ served → contentVerdict (sessionComponent d .fixed .region) (d .session .stage) (headIn report) ≡ Take slot
-        → onBlockBy r (sessionComponent d) (d .session) slot (headIn report) (after staging report) ≡ onBlockBy r′ (sessionComponent d) (d .session) slot (headIn report) (after staging report)
+    block-same : (slot : ℕ) → row staging report r ≡ served → verdictOnBy r d report ≡ Take slot
+        → taken staging report r (Take slot) ≡ taken staging report r′ (Take slot)
     block-same slot z e = go (isLast (headIn report)) refl
       where
-        go : (b : Bool) → isLast (headIn report) ≡ b
-            → onBlockBy r (sessionComponent d) (d .session) slot (headIn report) (after staging report) ≡ onBlockBy r′ (sessionComponent d) (d .session) slot (headIn report) (after staging report)
+        go : (b : Bool) → isLast (headIn report) ≡ b → taken staging report r (Take slot) ≡ taken staging report r′ (Take slot)
         go true l = rw l (rw (judge-same (sessionComponent d) _ (g slot z e l)) refl)
         go false l = rw l refl
 
-    taken-same : row staging report r ≡ served
-        → onContentBy r (sessionComponent d) (d .session) (headIn report) (drop DATA-AT report) staging ≡ onContentBy r′ (sessionComponent d) (d .session) (headIn report) (drop DATA-AT report) staging
-    taken-same z = go (contentVerdict (sessionComponent d .fixed .region) (d .session .stage) (headIn report)) refl
+    taken-same : row staging report r ≡ served → taken staging report r (verdictOnBy r d report) ≡ taken staging report r′ (verdictOnBy r′ d report)
+    taken-same z = go (verdictOnBy r d report) refl ∙ ap (taken staging report r′) w
       where
-        go : (w : ContentVerdict) → contentVerdict (sessionComponent d .fixed .region) (d .session .stage) (headIn report) ≡ w
-            → onContentVerdictBy r (sessionComponent d) (d .session) (headIn report) (drop DATA-AT report) staging w ≡ onContentVerdictBy r′ (sessionComponent d) (d .session) (headIn report) (drop DATA-AT report) staging w
-        go (Refuse status) e = refl
+        go : (v : ContentVerdict) → verdictOnBy r d report ≡ v → taken staging report r v ≡ taken staging report r′ v
+        go (Answer status) e = refl
         go (Take slot) e = block-same slot z e
 
     -- a content packet is answered alike, and leaves the same bytes
@@ -141,4 +150,4 @@ module _ (r r′ : VersionRules) (d : Device) where
         go (D j) z = rw (sym rows, z) refl
 
     pub staging-same : serveStagingBy r d Content staging report ≡ serveStagingBy r′ d Content staging report
-    staging-same = rw rows refl
+    staging-same = ap₂ (λ (x : Row) (v : ContentVerdict). keptBy x staging (stagingBy (sessionComponent d .fixed .region) report staging v)) rows w

@@ -6,8 +6,8 @@ use Prim.Native.Nat.{ℕ, _+_, _^_, _≤_, _<_}
 use native.Mathlib.Omega.{arith}
 use borrow.Author.Tests.{le-leb, leb-true}
 use lib.Dec.{eqb, leb}
-use lib.ListN.{length, getD, take, drop, length-append, length-take, length-drop}
-use lib.Seq.{take-at, drop-at}
+use lib.ListN.{List·getD-append, length, getD, take, drop, length-append, length-take, length-drop}
+use lib.Seq.{take-at, drop-at, take-add, getD-take, length-take-le}
 use Rattle.wire.specs.Bytes.{Bytes, number, bytesOf, bytesAt}
 use Rattle.wire.specs.Codes.{LONG-SIZE}
 use Rattle.wire.proofs.Bounds.{cons-bytes, join-bytes, no-bytes, word-bytes, word-fits, first-bytes, rest-bytes}
@@ -44,16 +44,13 @@ session-bytes t f =
     join-bytes (stageBytes (t .stage)) (owedBytes (t .owed) ++ t .previous) (stage-bytes (t .stage) (f .stage))
     (join-bytes (owedBytes (t .owed)) (t .previous) (owed-bytes (t .owed) (f .owed)) (f .bytes))
 
--- behind a stage and what is owed the previous packet reads back
-previous-back : (s : Stage) (o : Owed) (p rest : List ℕ) → length p ≡ LONG-SIZE → previousIn (stageBytes s ++ (owedBytes o ++ (p ++ rest))) ≡ p
-previous-back s o p rest h =
-    let a = stageBytes s ++ owedBytes o in
-    let n : length a ≡ PREVIOUS-AT = length-append (stageBytes s) (owedBytes o) ∙ ap₂ (λ (x y : ℕ). x + y) (stage-sized s) (owed-sized o) in
+-- a previous packet reads back in its place
+previous-back : (a p rest : List ℕ) → length a ≡ PREVIOUS-AT → length p ≡ LONG-SIZE → previousIn (a ++ (p ++ rest)) ≡ p
+previous-back a p rest n h =
     let l : SESSION-SIZE ≤ length (a ++ (p ++ rest)) = rw (length-append a (p ++ rest), n, length-append p rest, h) (omega arith) in
-    ap previousIn (sym (append-assoc (stageBytes s) (owedBytes o) (p ++ rest)))
-    ∙ rw (le-leb SESSION-SIZE (length (a ++ (p ++ rest))) l, drop-at a (p ++ rest) PREVIOUS-AT n) (take-at p rest LONG-SIZE h)
+    rw (le-leb SESSION-SIZE (length (a ++ (p ++ rest))) l, drop-at a (p ++ rest) PREVIOUS-AT n) (take-at p rest LONG-SIZE h)
 
--- and they read back before whatever follows
+-- a stage and what is owed read back, whatever follows them, and their flags fit
 parts-back : (s : Stage) (o : Owed) (rest : List ℕ) → FitsStage s → let q = stageBytes s ++ (owedBytes o ++ rest) in
     (sessionIn q .stage ≡ s) × (sessionIn q .owed ≡ o) × (sessionFlagsFit q ≡ true)
 parts-back Idle Nothing rest f = (refl, refl, refl)
@@ -70,7 +67,24 @@ session-back t rest f =
     let o = owedBytes (t .owed) in
     let e = append-assoc s (o ++ t .previous) rest ∙ ap (λ (l : List ℕ). s ++ l) (append-assoc o (t .previous) rest) in
     let b = parts-back (t .stage) (t .owed) (t .previous ++ rest) (f .stage) in
-    rw e (rw (b .0, b .1, previous-back (t .stage) (t .owed) (t .previous) rest (f .size)), b .2)
+    let n : length (s ++ o) ≡ PREVIOUS-AT = length-append s o ∙ ap₂ (λ (x y : ℕ). x + y) (stage-sized (t .stage)) (owed-sized (t .owed)) in
+    let p = ap previousIn (sym (append-assoc s o (t .previous ++ rest))) ∙ previous-back (s ++ o) (t .previous) rest n (f .size) in
+    rw e (rw (b .0, b .1, p), b .2)
+
+-- what follows the bytes of a session leaves it alone, and its flags
+pub session-first : (q rest : List ℕ) → SESSION-SIZE ≤ length q → let w = take SESSION-SIZE q ++ rest in (sessionIn w ≡ sessionIn q) × (sessionFlagsFit w ≡ sessionFlagsFit q)
+session-first q rest h =
+    let w = take SESSION-SIZE q ++ rest in
+    let same : (i : ℕ) → i < SESSION-SIZE → getD w i 0 ≡ getD q i 0 = λ i k. List·getD-append (take SESSION-SIZE q) rest 0 i (omega (arith, length-take-le SESSION-SIZE q h)) ∙ getD-take SESSION-SIZE q i 0 k in
+    let p = take LONG-SIZE (drop PREVIOUS-AT q) in
+    let l : length p ≡ LONG-SIZE = simp (length-take, length-drop) (omega arith) in
+    let m : previousIn w ≡ p = ap previousIn (ap (λ (t : List ℕ). t ++ rest) (take-add PREVIOUS-AT LONG-SIZE q) ∙ append-assoc (take PREVIOUS-AT q) p rest)
+    ∙ previous-back (take PREVIOUS-AT q) p rest (length-take-le PREVIOUS-AT q (omega arith)) l in
+    let stage = same 0 (omega arith) in
+    let owed = same OWED-AT (omega arith) in (
+      rw (stage, same SLOT-AT (omega arith), same TOKEN-AT (omega arith), same NEXT-AT (omega arith), same (NEXT-AT + 1) (omega arith), owed, same OWED-TOKEN-AT (omega arith), m, le-leb SESSION-SIZE (length q) h),
+      rw (stage, owed),
+    )
 
 -- what is read of bytes fits
 stage-fits : (x y : Bool) (slot token next : ℕ) → slot < 256 → token < 256 → next < 256 ^ 2

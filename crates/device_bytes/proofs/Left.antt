@@ -8,7 +8,7 @@ use native.Mathlib.Omega.{arith}
 use borrow.Author.Tests.{eq-eqb, ltb-true, ltb-false}
 use lib.Dec.{ltb}
 use lib.ListN.{length, getD, set, take, drop, length-append, length-take, length-drop}
-use lib.Seq.{getD-drop, take-at, drop-at, take-add, drop-drop, set-out, set-getD, length-take-le}
+use lib.Seq.{take-at, drop-at, take-add, drop-drop, set-out, set-getD, length-take-le}
 use Rattle.wire.specs.Bytes.{bytesAt}
 use Rattle.wire.specs.Codes.{COMPONENT-LIMIT}
 use Rattle.wire.proofs.Tests.{both}
@@ -24,7 +24,7 @@ use Rattle.device_session_bytes.proofs.Laws.{session-sized}
 use Rattle.device_session_bytes.proofs.Back.{session-first}
 use Rattle.device.specs.Record.{withSession}
 use Rattle.device.specs.declared.record.Device.{Device}
-use Rattle.device_bytes.specs.Layout.{SESSION-START, COMPONENTS-START, DEVICE-SIZE, componentStart, componentsBytes, headBytes, deviceBytes, componentsIn, sessionIn, deviceIn, stagedFit, isRecord, withSessionBytes, withComponentBytes}
+use Rattle.device_bytes.specs.Layout.{SESSION-START, COMPONENTS-START, DEVICE-SIZE, componentStart, componentsBytes, headBytes, deviceBytes, componentsIn, deviceIn, stagedFit, isRecord, withSessionBytes, withComponentBytes}
 use Rattle.device_bytes.proofs.Back.{session-back, record-back}
 use Rattle.device_bytes.proofs.Flags.{record-sized, record-flags, is-record}
 use Rattle.device_bytes.proofs.Spliced.{first, spliced, spliced-next}

@@ -32,7 +32,7 @@ use Rattle.device_session_bytes.proofs.Back.{session-bytes, session-fits}
 use Rattle.device_session_bytes.proofs.Back as session
 use Rattle.device_bytes.specs.Layout.{PLATFORM-AT, STAGING-LEN-AT, COUNT-AT, SESSION-START, COMPONENTS-START, DEVICE-SIZE, componentsBytes, headBytes, deviceBytes, componentsIn, sessionIn, deviceIn, stagedFit, flagsFit, isRecord, readDevice}
 use Rattle.device_bytes.specs.Promises.{DeviceSized, DeviceReadsBack, OthersBreakD1}
-use Rattle.device_bytes.proofs.Record.{device-length, components-full}
+use Rattle.device_bytes.proofs.Record.{Sized, device-length, components-full}
 
 -- components are bytes
 components-bytes : (cs : List Component) → ((k : ℕ) → FitsComponent (componentAt cs k)) → Bytes (componentsBytes cs)
@@ -40,11 +40,15 @@ unfolding componentsBytes
 components-bytes [] f = no-bytes
 components-bytes (c ∷ cs) f = join-bytes (componentBytes c) (componentsBytes cs) (component-bytes c (f 0)) (components-bytes cs (λ k. f (suc k)))
 
+-- the arrays of a record that fits are as long as their types say
+pub fits-sized : (d : Device) → FitsDevice d → Sized d
+fits-sized d f = record { slots = f .slots; previous = f .session .size }
+
 -- every record is bytes of the one length
 pub device-sized : DeviceSized
 unfolding deviceBytes
 device-sized d f = record {
-  size = device-length d (f .slots);
+  size = device-length d (fits-sized d f);
   bytes =
       join-bytes (headBytes d) (sessionBytes (d .session) ++ componentsBytes (d .components))
       (join-bytes (bytesOf 2 (d .platform)) (bytesOf 4 (d .«staging_len») ++ (d .count ∷ [])) (word-bytes 2 (d .platform))
@@ -66,7 +70,7 @@ pub session-back : (p q : List ℕ) (t : Session) → FitsSession t → let w = 
     (sessionIn w ≡ t) × (flagsFit w ≡ stagedFit COMPONENT-LIMIT q) × (drop COMPONENTS-START w ≡ q)
 session-back p q t f =
     let b = session.session-back t q f in
-    let e = drop-at (sessionBytes t) q SESSION-SIZE (session-sized t) in (b .0, rw (b .1) (ap (stagedFit COMPONENT-LIMIT) e), e)
+    let e = drop-at (sessionBytes t) q SESSION-SIZE (session-sized t (f .size)) in (b .0, rw (b .1) (ap (stagedFit COMPONENT-LIMIT) e), e)
 
 -- the record between the same
 pub record-back : (p q : List ℕ) (t : Session) → FitsSession t
@@ -100,7 +104,7 @@ device-flags d f =
 pub device-reads-back : DeviceReadsBack
 unfolding readDevice isRecord
 device-reads-back d f =
-    rw (eq-eqb (length (deviceBytes d)) DEVICE-SIZE (device-length d (f .slots)), device-flags d f) (device-back d f)
+    rw (eq-eqb (length (deviceBytes d)) DEVICE-SIZE (device-length d (fits-sized d f)), device-flags d f) (device-back d f)
 
 -- what is read of bytes fits
 components-fit : (n : ℕ) (q : List ℕ) → Bytes q → (k : ℕ) → FitsComponent (componentAt (componentsIn n q) k)

@@ -8,7 +8,7 @@ use native.Mathlib.Omega.{arith}
 use borrow.Author.Tests.{eq-eqb, ltb-true, ltb-false}
 use lib.Dec.{ltb}
 use lib.ListN.{length, getD, set, take, drop, length-append, length-take, length-drop}
-use lib.Seq.{getD-drop, take-at, drop-at, take-add, drop-drop, set-out, set-getD, length-take-le}
+use lib.Seq.{take-at, drop-at, take-add, drop-drop, set-out, set-getD, length-take-le}
 use Rattle.wire.specs.Bytes.{bytesAt}
 use Rattle.wire.specs.Codes.{COMPONENT-LIMIT}
 use Rattle.wire.proofs.Tests.{both}
@@ -19,15 +19,16 @@ use Rattle.device_component_bytes.proofs.Laws.{component-sized}
 use Rattle.device_component_bytes.proofs.Back.{component-back, component-flag}
 use Rattle.device_session.specs.Effect.{FitsSession}
 use Rattle.device_session.specs.declared.effect.Session.{Session}
-use Rattle.device_session_bytes.specs.Layout.{sessionBytes, sessionFlagsFit}
+use Rattle.device_session_bytes.specs.Layout.{SESSION-SIZE, sessionBytes, sessionFlagsFit}
 use Rattle.device_session_bytes.proofs.Laws.{session-sized}
+use Rattle.device_session_bytes.proofs.Back.{session-first}
 use Rattle.device.specs.Record.{withSession}
 use Rattle.device.specs.declared.record.Device.{Device}
-use Rattle.device_bytes.specs.Layout.{SESSION-START, COMPONENTS-START, DEVICE-SIZE, componentStart, componentsBytes, headBytes, deviceBytes, componentsIn, sessionIn, deviceIn, stagedFit, isRecord, withSessionBytes, withComponentBytes}
+use Rattle.device_bytes.specs.Layout.{SESSION-START, COMPONENTS-START, DEVICE-SIZE, componentStart, componentsBytes, headBytes, deviceBytes, componentsIn, deviceIn, stagedFit, isRecord, withSessionBytes, withComponentBytes}
 use Rattle.device_bytes.proofs.Back.{session-back, record-back}
 use Rattle.device_bytes.proofs.Flags.{record-sized, record-flags, is-record}
 use Rattle.device_bytes.proofs.Spliced.{first, spliced, spliced-next}
-use Rattle.device_bytes.proofs.Record.{head-sized, components-full, components-sized, device-length}
+use Rattle.device_bytes.proofs.Record.{Sized, head-sized, components-full, components-sized, device-length}
 
 -- a session that is stored reads back, and all else stays
 pub session-read : (t : Session) (b : List ℕ) → isRecord b ≡ true → FitsSession t
@@ -37,7 +38,7 @@ session-read t b h f =
     let whole = record-sized b h in
     let q = drop COMPONENTS-START b in
     let e : take SESSION-START b ++ (sessionBytes t ++ q) ≡ bytesAt SESSION-START 0 b ++ (sessionBytes t ++ q) = ap (λ (l : List ℕ). l ++ (sessionBytes t ++ q)) (first SESSION-START b refl (omega arith)) in
-    let n : length (bytesAt SESSION-START 0 b ++ (sessionBytes t ++ q)) ≡ DEVICE-SIZE = length-append (bytesAt SESSION-START 0 b) (sessionBytes t ++ q) ∙ rw (length-append (sessionBytes t) q, session-sized t, length-drop COMPONENTS-START b, whole) in
+    let n : length (bytesAt SESSION-START 0 b ++ (sessionBytes t ++ q)) ≡ DEVICE-SIZE = length-append (bytesAt SESSION-START 0 b) (sessionBytes t ++ q) ∙ rw (length-append (sessionBytes t) q, session-sized t (f .size), length-drop COMPONENTS-START b, whole) in
     let staged = both (sessionFlagsFit (drop SESSION-START b)) (stagedFit COMPONENT-LIMIT q) (record-flags b h) .1 in
     rw (eq-eqb (length b) DEVICE-SIZE whole, e)
     (is-record (bytesAt SESSION-START 0 b ++ (sessionBytes t ++ q)) n (session-back b q t f .1 ∙ staged), record-back b q t f)
@@ -70,20 +71,29 @@ spliced-read (suc n) (suc k) m c q e h l f =
           ap (stagedFit (suc n)) s ∙ rw (b .0) (a .1 (b .1)),
     )
 
--- what follows the first bytes of a record leaves its session alone, and the flags of that
-session-first : (b r : List ℕ) → let w = bytesAt COMPONENTS-START 0 b ++ r in (sessionIn w ≡ sessionIn b) × (sessionFlagsFit (drop SESSION-START w) ≡ sessionFlagsFit (drop SESSION-START b))
-session-first b r = (simp getD-drop, simp getD-drop)
+-- the bytes of a record with others in place of its components
+abbrev before : (b rest : List ℕ) → List ℕ
+before b rest = bytesAt SESSION-START 0 b ++ (take SESSION-SIZE (drop SESSION-START b) ++ rest)
+
+-- as many as these stand before the components
+before-sized : (b rest : List ℕ) → length b ≡ DEVICE-SIZE → length (before b rest) ≡ COMPONENTS-START + length rest
+before-sized b rest whole =
+    let s = take SESSION-SIZE (drop SESSION-START b) in
+    length-append (bytesAt SESSION-START 0 b) (s ++ rest) ∙ rw (length-append s rest, length-take, length-drop, whole) (omega arith)
 
 -- a component that is stored reads back, and all else stays
 module _ (slot : ℕ) (c : Component) (b : List ℕ) (h : isRecord b ≡ true) (f : FitsComponent c) where
-  stored-form : take (componentStart slot) b ++ (componentBytes c ++ drop (componentStart slot + COMPONENT-SIZE) b) ≡ bytesAt COMPONENTS-START 0 b ++ withPart (slot * COMPONENT-SIZE) c (drop COMPONENTS-START b)
+  stored-form : take (componentStart slot) b ++ (componentBytes c ++ drop (componentStart slot + COMPONENT-SIZE) b) ≡ before b (withPart (slot * COMPONENT-SIZE) c (drop COMPONENTS-START b))
   stored-form =
       let m = slot * COMPONENT-SIZE in
       let i : componentStart slot + COMPONENT-SIZE ≡ COMPONENTS-START + (COMPONENT-SIZE + m) = omega arith in
+      let q = drop COMPONENTS-START b in
+      let s = take SESSION-SIZE (drop SESSION-START b) in
+      let r = componentBytes c ++ drop (COMPONENT-SIZE + m) q in
       ap₂ (λ (u v : List ℕ). u ++ (componentBytes c ++ v))
-      (take-add COMPONENTS-START m b ∙ ap (λ (l : List ℕ). l ++ take m (drop COMPONENTS-START b)) (first COMPONENTS-START b refl (omega (arith, record-sized b h))))
+      (take-add COMPONENTS-START m b ∙ ap (λ (l : List ℕ). l ++ take m q) (take-add SESSION-START SESSION-SIZE b ∙ ap (λ (l : List ℕ). l ++ s) (first SESSION-START b refl (omega (arith, record-sized b h)))))
       (ap (λ (j : ℕ). drop j b) i ∙ sym (drop-drop (COMPONENT-SIZE + m) COMPONENTS-START b))
-      ∙ append-assoc (bytesAt COMPONENTS-START 0 b) (take m (drop COMPONENTS-START b)) (componentBytes c ++ drop (COMPONENT-SIZE + m) (drop COMPONENTS-START b))
+      ∙ append-assoc (bytesAt SESSION-START 0 b ++ s) (take m q) r ∙ append-assoc (bytesAt SESSION-START 0 b) s (take m q ++ r)
 
   pub component-read : (isRecord (withComponentBytes slot c b) ≡ true) × (deviceIn (withComponentBytes slot c b) ≡ withSession (deviceIn b) (set (deviceIn b .components) slot c) (deviceIn b .session))
   unfolding withComponentBytes deviceIn
@@ -99,23 +109,26 @@ module _ (slot : ℕ) (c : Component) (b : List ℕ) (h : isRecord b ≡ true) (
           let a = spliced-read COMPONENT-LIMIT slot m c q refl k (omega arith) f in
           let n : length (withPart m c q) ≡ COMPONENT-LIMIT * COMPONENT-SIZE = simp (length-append, length-take, length-drop) (omega (arith, component-sized c, record-sized b h)) in
           let x = both (sessionFlagsFit (drop SESSION-START b)) (stagedFit COMPONENT-LIMIT q) (record-flags b h) in
+          let o = drop SESSION-START b in
+          let p = session-first o (withPart m c q) (omega (arith, length-drop SESSION-START b, record-sized b h)) in
+          let d = drop-at (take SESSION-SIZE o) (withPart m c q) SESSION-SIZE (length-take-le SESSION-SIZE o (omega (arith, length-drop SESSION-START b, record-sized b h))) in
           rw (eq-eqb (length b) DEVICE-SIZE (record-sized b h), e, stored-form) (
-            is-record (bytesAt COMPONENTS-START 0 b ++ withPart m c q) (length-append (bytesAt COMPONENTS-START 0 b) (withPart m c q) ∙ ap (λ (j : ℕ). COMPONENTS-START + j) n) (rw (session-first b (withPart m c q) .1, x .0) (a .1 (x .1))),
-            ap₂ (λ (t : List Component) (s : Session). withSession (deviceIn b) t s) (a .0) (session-first b (withPart m c q) .0),
+            is-record (before b (withPart m c q)) (before-sized b (withPart m c q) (record-sized b h) ∙ ap (λ (j : ℕ). COMPONENTS-START + j) n) (rw (p .1, x .0, d) (a .1 (x .1))),
+            ap₂ (λ (t : List Component) (s : Session). withSession (deviceIn b) t s) (ap (componentsIn COMPONENT-LIMIT) d ∙ a .0) (p .0),
           )
       go false e =
           rw (eq-eqb (length b) DEVICE-SIZE (record-sized b h), e)
           (h, ap (λ (t : List Component). withSession (deviceIn b) t (deviceIn b .session)) (sym (set-out (deviceIn b .components) slot c (omega (arith, components-full (drop COMPONENTS-START b), ltb-false slot COMPONENT-LIMIT e)))))
 
 -- over the bytes that a record has, they are those of the record with another session
-pub session-written : (t : Session) (d : Device) → length (d .components) ≡ COMPONENT-LIMIT → withSessionBytes t (deviceBytes d) ≡ deviceBytes (withSession d (d .components) t)
+pub session-written : (t : Session) (d : Device) → Sized d → withSessionBytes t (deviceBytes d) ≡ deviceBytes (withSession d (d .components) t)
 unfolding withSessionBytes deviceBytes
 session-written t d full =
     let q = componentsBytes (d .components) in
     rw (eq-eqb (length (deviceBytes d)) DEVICE-SIZE (device-length d full))
     (ap (λ (l : List ℕ). headBytes d ++ (sessionBytes t ++ l))
     (ap (λ (l : List ℕ). drop COMPONENTS-START l) (sym (append-assoc (headBytes d) (sessionBytes (d .session)) q))
-    ∙ drop-at (headBytes d ++ sessionBytes (d .session)) q COMPONENTS-START (head-sized d)))
+    ∙ drop-at (headBytes d ++ sessionBytes (d .session)) q COMPONENTS-START (head-sized d full)))
 
 -- the components before a slot are as many bytes as each has
 front-sized : (l : List Component) (i : ℕ) → i ≤ length l → length (componentsBytes (take i l)) ≡ i * COMPONENT-SIZE
@@ -130,7 +143,7 @@ components-split (x ∷ l) (suc i) c h =
     ap (λ (t : List ℕ). componentBytes x ++ t) (components-split l i c (le-of-suc-le-suc h)) ∙ sym (append-assoc (componentBytes x) (componentsBytes (take i l)) (componentBytes c ++ componentsBytes (drop (suc i) l)))
 
 -- .. or with another component in a slot
-module _ (slot : ℕ) (c : Component) (d : Device) (full : length (d .components) ≡ COMPONENT-LIMIT) where
+module _ (slot : ℕ) (c : Component) (d : Device) (full : Sized d) where
   abbrev front : List ℕ
   front = (headBytes d ++ sessionBytes (d .session)) ++ componentsBytes (take slot (d .components))
 
@@ -152,7 +165,7 @@ module _ (slot : ℕ) (c : Component) (d : Device) (full : length (d .components
           let in-use : slot < length (d .components) = omega (arith, ltb-true slot COMPONENT-LIMIT e) in
           let old = getD (d .components) slot blankComponent in
           let back = componentsBytes (drop (suc slot) (d .components)) in
-          let n : length front ≡ componentStart slot = length-append (headBytes d ++ sessionBytes (d .session)) (componentsBytes (take slot (d .components))) ∙ ap₂ (λ (x y : ℕ). x + y) (head-sized d) (front-sized (d .components) slot (omega arith)) in
+          let n : length front ≡ componentStart slot = length-append (headBytes d ++ sessionBytes (d .session)) (componentsBytes (take slot (d .components))) ∙ ap₂ (λ (x y : ℕ). x + y) (head-sized d full) (front-sized (d .components) slot (omega arith)) in
           let m : length (front ++ componentBytes old) ≡ componentStart slot + COMPONENT-SIZE = length-append front (componentBytes old) ∙ ap₂ (λ (x y : ℕ). x + y) n (component-sized old) in
           let w : deviceBytes d ≡ front ++ (componentBytes old ++ back) = ap (λ (t : List Component). deviceBytes (withSession d t (d .session))) (sym (set-getD (d .components) slot blankComponent)) ∙ around old in-use in
           rw (eq-eqb (length (deviceBytes d)) DEVICE-SIZE (device-length d full), e)

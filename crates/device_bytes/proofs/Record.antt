@@ -9,7 +9,7 @@ use lib.Dec.{ltb, leb}
 use lib.ListN.{length, set, take, drop, length-append, List·getD-eq-default}
 use lib.Seq.{take-all, drop-drop}
 use Rattle.wire.specs.Bytes.{bytesOf, bytesAt, copyOf}
-use Rattle.wire.specs.Codes.{COMPONENT-LIMIT}
+use Rattle.wire.specs.Codes.{LONG-SIZE, COMPONENT-LIMIT}
 use Rattle.wire.proofs.Pieces.{put-more, stored, piece-next, pieces-sized, read-more, read-all, read-sized, read-at, rest, rest-none}
 use Rattle.device_component.specs.Lists.{componentAt}
 use Rattle.device_component.specs.Record.{blankComponent}
@@ -26,9 +26,14 @@ use Rattle.device_bytes.specs.Layout.{SESSION-START, COMPONENTS-START, D
 pub head-of : (d : Device) (p l : List ℕ) → p ≡ bytesOf 2 (d .platform) → l ≡ bytesOf 4 (d .«staging_len») → bytesAt 2 0 p ++ (bytesAt 4 0 l ++ (d .count ∷ [])) ≡ headBytes d
 head-of d p l e f = rw (e, f)
 
+-- the arrays of a record, as long as their types say
+pub record Sized (d : Device) : Type 0 where
+  pub slots : length (d .components) ≡ COMPONENT-LIMIT
+  pub previous : length (d .session .previous) ≡ LONG-SIZE
+
 -- with the session, as many bytes as stand before the components
-pub head-sized : (d : Device) → length (headBytes d ++ sessionBytes (d .session)) ≡ COMPONENTS-START
-head-sized d = length-append (headBytes d) (sessionBytes (d .session)) ∙ ap (λ (n : ℕ). SESSION-START + n) (session-sized (d .session))
+pub head-sized : (d : Device) → Sized d → length (headBytes d ++ sessionBytes (d .session)) ≡ COMPONENTS-START
+head-sized d f = length-append (headBytes d) (sessionBytes (d .session)) ∙ ap (λ (n : ℕ). SESSION-START + n) (session-sized (d .session) (f .previous))
 
 -- the bytes from a place on, or none where there are fewer
 pub rest-least : (n at : ℕ) (b : List ℕ) → at ≡ min n (length b) → take (length b - at) (drop at b) ≡ drop n b
@@ -63,12 +68,13 @@ head-put out h last d k e whole f g =
     let put = put-more out h last 0 SESSION-START k e (ap length f) (omega arith) g in (put .0 ∙ whole, put .1 ∙ f)
 
 -- the session is stored behind it, and the components follow
-pub device-of : (w : List ℕ) (d : Device) → length w ≡ DEVICE-SIZE → take SESSION-START w ≡ headBytes d → take COMPONENTS-START (withSessionBytes (d .session) w) ++ componentsBytes (d .components) ≡ deviceBytes d
+pub device-of : (w : List ℕ) (d : Device) → length (d .session .previous) ≡ LONG-SIZE → length w ≡ DEVICE-SIZE → take SESSION-START w ≡ headBytes d
+    → take COMPONENTS-START (withSessionBytes (d .session) w) ++ componentsBytes (d .components) ≡ deviceBytes d
 unfolding deviceBytes withSessionBytes
-device-of w d whole e =
+device-of w d h whole e =
     let s = sessionBytes (d .session) in
     rw (eq-eqb (length w) DEVICE-SIZE whole)
-    (ap (λ (l : List ℕ). l ++ componentsBytes (d .components)) (stored w s SESSION-START SESSION-SIZE (session-sized (d .session)) (omega arith) .1 ∙ ap (λ (l : List ℕ). l ++ s) e)
+    (ap (λ (l : List ℕ). l ++ componentsBytes (d .components)) (stored w s SESSION-START SESSION-SIZE (session-sized (d .session) h) (omega arith) .1 ∙ ap (λ (l : List ℕ). l ++ s) e)
     ∙ append-assoc (headBytes d) s (componentsBytes (d .components)))
 
 -- there are as many as the limit
@@ -116,9 +122,9 @@ pub components-sized : (cs : List Component) → length (componentsBytes cs) ≡
 unfolding componentsBytes
 components-sized cs = pieces-sized componentBytes componentsBytes refl (λ c l. refl) COMPONENT-SIZE component-sized cs
 
--- a record of as many components as the limit is bytes of the one length
-pub device-length : (d : Device) → length (d .components) ≡ COMPONENT-LIMIT → length (deviceBytes d) ≡ DEVICE-SIZE
+-- a record is bytes of the one length
+pub device-length : (d : Device) → Sized d → length (deviceBytes d) ≡ DEVICE-SIZE
 unfolding deviceBytes
-device-length d full =
+device-length d f =
     let cs = componentsBytes (d .components) in
-    ap length (sym (append-assoc (headBytes d) (sessionBytes (d .session)) cs)) ∙ length-append (headBytes d ++ sessionBytes (d .session)) cs ∙ omega (arith, head-sized d, components-sized (d .components))
+    ap length (sym (append-assoc (headBytes d) (sessionBytes (d .session)) cs)) ∙ length-append (headBytes d ++ sessionBytes (d .session)) cs ∙ omega (arith, head-sized d f, components-sized (d .components), f .slots)

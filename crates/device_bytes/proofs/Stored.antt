@@ -13,17 +13,16 @@ use Rattle.device_component_bytes.specs.Layout.{COMPONENT-SIZE, componentBytes}
 use Rattle.device_component_bytes.proofs.Laws.{component-sized}
 use Rattle.device_session.specs.declared.effect.Session.{Session}
 use Rattle.device_session_bytes.specs.Layout.{SESSION-SIZE, sessionBytes}
-use Rattle.device_session_bytes.proofs.Laws.{session-sized}
 use Rattle.device_bytes.specs.Layout.{SESSION-START, COMPONENTS-START, DEVICE-SIZE, componentStart, hasSlot, withSessionBytes, withComponentBytes}
 use Rattle.device_bytes.proofs.component.Laws.{slot-within}
 
 -- a session
-pub session-stored : (b s last : List ℕ) (t : Session) (k : ℕ) → length b ≡ DEVICE-SIZE → k ≡ SESSION-SIZE → s ≡ sessionBytes t → last ≡ copyOf (take k (drop SESSION-START b)) s
+pub session-stored : (b s last : List ℕ) (t : Session) (k : ℕ) → length b ≡ DEVICE-SIZE → k ≡ SESSION-SIZE → length s ≡ SESSION-SIZE → s ≡ sessionBytes t → last ≡ copyOf (take k (drop SESSION-START b)) s
     → take SESSION-START b ++ (last ++ drop k (drop SESSION-START b)) ≡ withSessionBytes t b
 unfolding withSessionBytes
-session-stored b s last t k whole e f g =
+session-stored b s last t k whole e h f g =
     rw (eq-eqb (length b) DEVICE-SIZE whole)
-    (copied b s last SESSION-START SESSION-SIZE k e (ap length f ∙ session-sized t) (omega arith) g ∙ ap (λ (l : List ℕ). take SESSION-START b ++ (l ++ drop COMPONENTS-START b)) f)
+    (copied b s last SESSION-START SESSION-SIZE k e h (omega arith) g ∙ ap (λ (l : List ℕ). take SESSION-START b ++ (l ++ drop COMPONENTS-START b)) f)
 
 pub session-stays : (t : Session) (b : List ℕ) → (length b ≡ DEVICE-SIZE → ⊥) → b ≡ withSessionBytes t b
 unfolding withSessionBytes

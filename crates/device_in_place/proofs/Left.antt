@@ -2,18 +2,19 @@
 use mathlib.Core.Path.{_≡_, refl, sym, ap, subst, _∙_}
 use mathlib.Core.Bool.{true}
 use mathlib.Core.List.{List}
-use Prim.Native.Nat.{ℕ, zero, suc}
+use Prim.Native.Nat.{ℕ}
 use native.Mathlib.Omega.{arith}
-use lib.ListN.{length, set, drop, replicate, length-replicate}
+use lib.ListN.{length, set, replicate, length-replicate}
 use lib.Seq.{set-set, set-getD}
 use Rattle.wire.specs.Bytes.{Bytes}
-use Rattle.wire_content.specs.Head.{headIn}
 use Rattle.wire_offer.specs.Kind.{kindIn}
 use Rattle.device_component.specs.Lists.{componentAt}
 use Rattle.device_component.specs.Record.{blankComponent}
 use Rattle.device_component.specs.declared.record.Component.{Component}
 use Rattle.device_session.specs.Stage.{atSlot}
+use Rattle.device_session.proofs.effect.Laws.{replicate-bytes}
 use Rattle.device_receiving.specs.Receive.{onContent}
+use Rattle.device_receiving.proofs.content.Laws.{taken-sized}
 use Rattle.device.specs.Record.{FitsDevice, withSession}
 use Rattle.device.specs.Refusals.{Row, served, D, refusalOf}
 use Rattle.device.specs.Offer.{onKind, offerEntry}
@@ -23,7 +24,8 @@ use Rattle.device.specs.declared.answer.Channel.the-variants.{Offer, Content}
 use Rattle.device.specs.declared.record.Device.{Device}
 use Rattle.device.proofs.Fitting.{serve-keeps-fits}
 use Rattle.device_bytes.specs.Layout.{deviceBytes, deviceIn, isRecord, readDevice, withSessionBytes, withComponentBytes}
-use Rattle.device_bytes.proofs.Back.{device-fits, device-reads-back}
+use Rattle.device_bytes.proofs.Back.{fits-sized, device-fits, device-reads-back}
+use Rattle.device_bytes.proofs.Record.{Sized}
 use Rattle.device_bytes.proofs.Left.{session-read, component-read, session-written, component-written}
 use Rattle.device_in_place.specs.InPlace.{offerLeaves, contentLeaves}
 use Rattle.device_in_place.specs.Promises.{LeftReads, LeftCanonical}
@@ -34,17 +36,11 @@ use Rattle.device_in_place.proofs.sound.Rows.{read-in}
 put-again : (l : List Component) (slot : ℕ) (c : Component) → set l slot (componentAt (set l slot c) slot) ≡ set l slot c
 put-again l slot c = sym (set-set l slot c (componentAt (set l slot c) slot)) ∙ set-getD (set l slot c) slot blankComponent
 
--- a buffer of zeros is bytes
-zeros : (n : ℕ) → Bytes (replicate n 0)
-zeros zero i = omega arith
-zeros (suc n) zero = omega arith
-zeros (suc n) (suc i) = zeros n i
-
 -- what the calls leave of a record has the values of its types
 offer-fits : (d : Device) (n : ℕ) (report : List ℕ) → FitsDevice d → Bytes report → FitsDevice (offerEntry d n report .device)
 unfolding serveEntry
 offer-fits d n report f h =
-    subst (λ (m : ℕ). FitsDevice (offerEntry d m report .device)) (length-replicate n 0) (serve-keeps-fits d Offer (replicate n 0) report f h (zeros n))
+    subst (λ (m : ℕ). FitsDevice (offerEntry d m report .device)) (length-replicate n 0) (serve-keeps-fits d Offer (replicate n 0) report f h (replicate-bytes n 0 (omega arith)))
 
 content-fits : (d : Device) (staging report : List ℕ) → FitsDevice d → Bytes staging → Bytes report → FitsDevice (contentEntry d staging report .device)
 unfolding serveEntry
@@ -95,7 +91,7 @@ content-read b staging report h g k = go (refusalOf 60 (readDevice b) (length st
         let r = rw v at e in
         let d = deviceIn b in
         let f = rw r at (content-fits d staging report (device-fits b h) g k) in
-        let t = onContent (sessionComponent d) (d .session) (headIn report) (drop 8 report) staging in
+        let t = onContent (sessionComponent d) (d .session) report staging in
         rw (v, r) (with-both b (atSlot (d .session .stage)) (t .component) (received d t .device) w f refl)
 
 pub left-reads : LeftReads
@@ -107,7 +103,7 @@ offers-canonical d f n report = go (refusalOf 16 d n (length report)) refl
   where
     go : (r : Row) → refusalOf 16 d n (length report) ≡ r → offerLeaves (deviceBytes d) (offerEntry d n report) ≡ deviceBytes (offerEntry d n report .device)
     go (D j) e = rw e
-    go served e = rw e (session-written (onKind d (kindIn report) .device .session) d (f .slots))
+    go served e = rw e (session-written (onKind d (kindIn report) .device .session) d (fits-sized d f))
 
 content-canonical : (d : Device) → FitsDevice d → (staging report : List ℕ)
     → contentLeaves (deviceBytes d) (contentEntry d staging report) ≡ deviceBytes (contentEntry d staging report .device)
@@ -118,13 +114,14 @@ content-canonical d f staging report = go (refusalOf 60 d (length staging) (leng
         → contentLeaves (deviceBytes d) (contentEntry d staging report) ≡ deviceBytes (contentEntry d staging report .device)
     go (D j) e = rw e
     go served e =
-        let t = onContent (sessionComponent d) (d .session) (headIn report) (drop 8 report) staging in
+        let t = onContent (sessionComponent d) (d .session) report staging in
         let s = received d t .device .session in
         let slot = atSlot (d .session .stage) in
         let l = d .components in
         let c = componentAt (set l slot (t .component)) slot in
+        let sized : Sized (withSession d l s) = record { slots = f .slots; previous = taken-sized (sessionComponent d) (d .session) report (f .session .size) staging } in
         rw (e, device-reads-back d f)
-        (ap (withComponentBytes slot c) (session-written s d (f .slots)) ∙ component-written slot c (withSession d l s) (f .slots)
+        (ap (withComponentBytes slot c) (session-written s d (fits-sized d f)) ∙ component-written slot c (withSession d l s) sized
         ∙ ap (λ (r : List Component). deviceBytes (withSession d r s)) (put-again l slot (t .component)))
 
 pub left-canonical : LeftCanonical

@@ -13,7 +13,7 @@ use Rattle.device_component.specs.declared.record.Component.{Component}
 use Rattle.device_component.specs.declared.list.Found.{Found}
 use Rattle.device_slots.specs.Slots.{slotOf}
 use Rattle.device_session.specs.Sound as sound
-use Rattle.device_session.specs.Sound.{wrongSlot, owesOn}
+use Rattle.device_session.specs.Sound.{wrongSlot, wrongPrevious, owesOn}
 use Rattle.device_session.specs.Stage.{openSlot}
 use Rattle.device_session.specs.declared.effect.Session.{Session}
 use Rattle.device_session.proofs.sound.Grouped.{grouped}
@@ -26,12 +26,12 @@ abbrev pub Broken : List ℕ → ℕ → Bool
 Broken b n = sound.breaksD1 n (countIn b) (deviceIn b .components) (sessionIn b)
 
 -- D1 in the order of the code, each part as its helper says
-pub broken : (b : List ℕ) (n k count : ℕ) (long bad wrong owes flaw : Bool) (session : Session) (slot : Found) (component : Component)
+pub broken : (b : List ℕ) (n k count : ℕ) (long bad wrong held owes flaw : Bool) (session : Session) (slot : Found) (component : Component)
     → count ≡ countIn b → session ≡ sessionIn b → slot ≡ openSlot (session .stage) → k ≡ slotOf slot → component ≡ componentAt (deviceIn b .components) k
-    → long ≡ stagingTooLong n → bad ≡ badCount count → wrong ≡ wrongSlot count component slot → owes ≡ owesOn slot (session .owed)
-    → flaw ≡ unsound n (take count (deviceIn b .components)) → ((long || bad) || (wrong || (owes || flaw))) ≡ Broken b n
-broken b n k count long bad wrong owes flaw session slot component e g h i j l m w o u =
-    rw (l, m, w, o, u, j, i, h, g, e) (sym (grouped n (countIn b) (deviceIn b .components) (sessionIn b)))
+    → long ≡ stagingTooLong n → bad ≡ badCount count → wrong ≡ wrongSlot count component slot → held ≡ wrongPrevious (session .stage) (session .previous) → owes ≡ owesOn slot (session .owed)
+    → flaw ≡ unsound n (take count (deviceIn b .components)) → ((long || bad) || (wrong || (held || (owes || flaw)))) ≡ Broken b n
+broken b n k count long bad wrong held owes flaw session slot component e g h i j l m w p o u =
+    rw (l, m, w, p, o, u, j, i, h, g, e) (sym (grouped n (countIn b) (deviceIn b .components) (sessionIn b)))
 
 -- bytes that are a record are read as they stand
 pub read-in : (b : List ℕ) → isRecord b ≡ true → readDevice b ≡ deviceIn b

@@ -2,9 +2,8 @@
 use mathlib.Core.Path.{_≡_, sym, _∙_}
 use mathlib.Core.Bool.{true}
 use denote.Ref.{now}
-use lib.ListN.{length, drop}
+use lib.ListN.{length}
 use Rattle.wire.proofs.Chain.{by}
-use Rattle.wire_content.specs.Head.{headIn}
 use Rattle.device_session.specs.Stage.{atSlot}
 use Rattle.device_receiving.specs.Receive.{onContent, stagingAfter}
 use Rattle.device.specs.Refusals.{served, refusalOf}
@@ -29,12 +28,12 @@ returns c =
     let s = now (a .staging) in
     let p = now (a .report) in
     let row = refusalOf 60 d (length s) (length p) in
-    let answer = received d (onContent (sessionComponent d) (d .session) (headIn p) (drop 8 p) s) in
+    let answer = received d (onContent (sessionComponent d) (d .session) p s) in
     let q = c .before .before .before .refusal-in .ensures in
     let t = rw q at (by (c .before .before .is-refused .ensures) (c .before .if1 .taken)) in (
       rw (c .refused .ensures) (refused-answers (c .before .before .before .refusal-in .result) row d answer q t),
       refused-leaves row d answer b _ t,
-      sym (one-keeps row s (stagingAfter (sessionComponent d .fixed .region) (d .session .stage) (headIn p) (drop 8 p) s) t),
+      sym (one-keeps row s (stagingAfter (sessionComponent d .fixed .region) (d .session) p s) t),
     )
 
 -- no row refuses the call, so the bytes are a record
@@ -56,7 +55,7 @@ returns-2 c =
     let d = deviceIn b in
     let v = read-in b (stands-it at) in
     let r = rw v at (serves-it at) in
-    let t = onContent (sessionComponent d) (d .session) (headIn (now (a .report))) (drop 8 (now (a .report))) (now (a .staging)) in
+    let t = onContent (sessionComponent d) (d .session) (now (a .report)) (now (a .staging)) in
     let left = withSessionBytes (contentBy b (now (a .staging)) (now (a .report)) .device .session) b in
     let o = c .before .before .before .before .on-content .ensures in
     (rw (v, r) (o .0), rw (v, r) (o .1 ∙ sym (same-slot (atSlot (d .session .stage)) (t .component) (d .components) left (full-in b))), rw (v, r) (o .2))

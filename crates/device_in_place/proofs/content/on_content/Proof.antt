@@ -3,8 +3,6 @@
 use mathlib.Core.Path.{_≡_, ap, ap₂, _∙_}
 use mathlib.Core.List.{List}
 use Prim.Native.Nat.{ℕ}
-use lib.ListN.{drop}
-use Rattle.wire_content.specs.Head.{headIn}
 use Rattle.device_component.specs.Lists.{componentAt}
 use Rattle.device_component.specs.declared.record.Component.{Component}
 use Rattle.device_session.specs.Stage.{atSlot}
@@ -24,10 +22,10 @@ use Rattle.device_in_place.proofs.content.on_content.Tie as tie
 -- what is done with the session and with the component in a slot, where these are the record's
 stored : (b p s s′ : List ℕ) (session : Session) (slot : ℕ) (c : Component) (t : Taken) (b₁ b₂ : List ℕ) (r : Reply) → let d = deviceIn b in session ≡ sessionIn b
     → slot ≡ atSlot (session .stage) → c ≡ componentAt (d .components) slot
-    → (t ≡ onContent c session (headIn p) (drop 8 p) s) × (s′ ≡ stagingAfter (c .fixed .region) (session .stage) (headIn p) (drop 8 p) s)
+    → (t ≡ onContent c session p s) × (s′ ≡ stagingAfter (c .fixed .region) session p s)
     → b₁ ≡ withSessionBytes (t .effect .session) b → b₂ ≡ withComponentBytes slot (t .component) b₁ → r ≡ servedReply (t .effect)
     → (outcomeOf r (contentBy b s p .device) ≡ contentBy b s p) × (b₂ ≡ contentStored b s p)
-    × (s′ ≡ stagingAfter (sessionComponent d .fixed .region) (d .session .stage) (headIn p) (drop 8 p) s)
+    × (s′ ≡ stagingAfter (sessionComponent d .fixed .region) (d .session) p s)
 stored b p s s′ session slot c t b₁ b₂ r e x y z u v w =
     let i = e ∙ session-read b in
     let k = rw i at x in

@@ -17,6 +17,7 @@ use Rattle.bundle_layout.specs.Rows as bundle
 use Rattle.bundle_layout.specs.declared.Entry.{Entry}
 use Rattle.bundle.specs.Contents.{Contents, entryIn, contentsBy, checkOf}
 use Rattle.bundle.proofs.Accepted.{Accepted, accepted}
+use Rattle.host_record.specs.Record.{sentAt}
 use Rattle.host_record.specs.Fits.{BUSY-LIMIT, bodyOf, inHand}
 use Rattle.host_record.specs.declared.fits.Body.{Body}
 use Rattle.host_record.specs.declared.record.Host.{Host}
@@ -109,14 +110,14 @@ check-written b bytes = go (bundle.bundleRow b) refl (is-row b)
       place = refl;
     }
 
--- the block that a step sends fits its words
+-- the block whose reply is awaited after a step fits its words
 abbrev Small : HostStage → Type 0
 Small Fresh = Unit {0}
 Small Opening = Unit {0}
 Small Listing = Unit {0}
 Small (Offering t) = Unit {0}
 Small (Waiting t) = Unit {0}
-Small (Sending p) = FitsPlace p
+Small (Sending a) = FitsPlace (a .place)
 Small Closing = Unit {0}
 Small (Ended e) = Unit {0}
 
@@ -127,6 +128,12 @@ module _ (b : List ℕ) (α : Accepted b) (h : Host) (reply : List ℕ) where
   offers : (e : ℕ) (g : Host) → SmallMove (offerFrom (countIn b) e g)
   offers e g = offer-cases SmallMove (countIn b) e g (λ l. tt) tt
 
+  -- a block that the bundle has, and the one behind it
+  fits-inside : (p : Place) (k : ℕ) → badStage b (Sending (sentAt p)) ≡ false → k ≤ p .block + 1 → FitsPlace (record { entry = p .entry; block = k })
+  fits-inside p k w l =
+      let i = place-inside b p w in
+      record { entry = omega (arith, i .0, α .few); block = omega (arith, i .1, α .carries (entryAt b (p .entry)) .count) }
+
   small-by : (g : HostStage) → h .stage ≡ g → badStage b g ≡ false → SmallMove (decideIn g (countIn b) (lastIn b g) h reply)
   unfolding decideIn
   small-by Fresh z w = tt
@@ -136,10 +143,10 @@ module _ (b : List ℕ) (α : Accepted b) (h : Host) (reply : List ℕ) where
       let l = leb-false (countIn b) (t .entry) (neither (leb (countIn b) (t .entry)) (ltb BUSY-LIMIT (t .busy)) w .0) in
       offering-cases SmallMove (countIn b) h reply (λ e. tt) t (record { entry = omega (arith, α .few); block = omega arith }) (λ s. offers (t .entry + 1) (noted h s)) (λ m. tt)
   small-by (Waiting t) z w = waiting-cases SmallMove (countIn b) h reply (λ e. tt) t tt
-  small-by (Sending p) z w =
-      let i = place-inside b p w in
-      sending-cases SmallMove (countIn b) (lastIn b (Sending p)) p h reply (λ u e. tt) (λ u v. offers (p .entry + 1) (completes h (p .entry)))
-      (λ u v. record { entry = omega (arith, i .0, α .few); block = omega (arith, i .1, α .carries (entryAt b (p .entry)) .count) })
+  small-by (Sending a) z w =
+      let p = a .place in
+      sending-cases SmallMove (countIn b) (lastIn b (Sending a)) a h reply (λ u e. tt) (λ u v. fits-inside p (p .block) w (omega arith)) (λ u v. offers (p .entry + 1) (completes h (p .entry)))
+      (λ u v. fits-inside p (p .block + 1) w (omega arith))
   small-by Closing z w = closing-cases SmallMove (countIn b) h reply (λ e. tt) (λ u. tt)
   small-by (Ended e) z w = subst Small (sym z) tt
 
@@ -167,7 +174,7 @@ step-left b h n reply bytes right = go (bundle.bundleRow b) refl
 
 -- the cursor is right for the block
 abbrev Right : (b : List ℕ) → Place → (cursor : ℕ) → Type 0
-Right b p n = badStage b (Sending p) ≡ false → CursorIn b (Sending p) n
+Right b p n = badStage b (Sending (sentAt p)) ≡ false → CursorIn b (Sending (sentAt p)) n
 
 -- what is written with a block and its right cursor
 written-keeps : (b : List ℕ) → Bytes b → (p : Place) (n : ℕ) → FitsPlace p → n < 256 ^ 8 → Right b p n → Keeps b (contentsBytes (checkOf b) p n)
@@ -202,14 +209,14 @@ module _ (b q : List ℕ) (bytes : Bytes b) (k : Keeps b q) where
   cursor-right s Listing w = tt
   cursor-right s (Offering t) w = tt
   cursor-right s (Waiting t) w = tt
-  cursor-right s (Sending p) w = go (isKept q (Sending p)) refl
+  cursor-right s (Sending a) w = go (isKept q (Sending a)) refl
     where
-      go : (t : Bool) → isKept q (Sending p) ≡ t → CursorIn b (Sending p) (cond t (cursorIn q) (cursorAt b (bodyRead q (p .entry)) (Sending p)))
+      go : (t : Bool) → isKept q (Sending a) ≡ t → CursorIn b (Sending a) (cond t (cursorIn q) (cursorAt b (bodyRead q (a .place .entry)) (Sending a)))
       go true e =
-          let x = both (eqb (placeIn q .entry) (p .entry)) (eqb (placeIn q .block) (p .block)) e in
-          let y : placeIn q ≡ p = ap₂ (λ (u v : ℕ). record { entry = u; block = v }) (eqb-true _ _ (x .0)) (eqb-true _ _ (x .1)) in
+          let x = both (eqb (placeIn q .entry) (a .place .entry)) (eqb (placeIn q .block) (a .place .block)) e in
+          let y : placeIn q ≡ a .place = ap₂ (λ (u v : ℕ). record { entry = u; block = v }) (eqb-true _ _ (x .0)) (eqb-true _ _ (x .1)) in
           subst (λ (u : Place). Right b u (cursorIn q)) y (k .cursor) w
-      go false e = rw (body-are (p .entry)) (cursor-found b bytes s (Sending p) w)
+      go false e = rw (body-are (a .place .entry)) (cursor-found b bytes s (Sending a) w)
   cursor-right s Closing w = tt
   cursor-right s (Ended e) w = tt
 
@@ -220,7 +227,8 @@ module _ (b q : List ℕ) (bytes : Bytes b) (k : Keeps b q) where
   after served Listing n l = k
   after served (Offering t) n l = k
   after served (Waiting t) n l = k
-  after served (Sending p) n l =
+  after served (Sending a) n l =
+      let p = a .place in
       let w = check-written b bytes in
       let f = w .fits (p .entry) in
       let e = ap (λ (x : List ℕ). take HAND-START x ++ handBytes p n) (k .contents) ∙ hand-changed (checkOf b) w (placeIn q) (cursorIn q) p n in

@@ -19,16 +19,17 @@ use Rattle.host_record.specs.declared.record.HostStage.the-variants.{Fresh, Ope
 use Rattle.host_record.specs.declared.record.End.{End}
 use Rattle.host_record.specs.declared.record.End.the-variants as end
 use Rattle.host_bytes.specs.declared.stage.StageWords.{StageWords}
-use Rattle.host_bytes.specs.Layout.{wordsBytes, TOKEN-AT, STAGE-START, FIRST-AT, SECOND-AT, MASK-AT, PACKETS-AT, PASSES-AT, SKIPPED-AT, LANDED-AT, HOST-SIZE, endWords, stageWords, stageBytes, flagByte, hostBytes, stageIn, hostIn, areFlags, flagsFit, refusedHost, readHost}
+use Rattle.host_bytes.specs.Layout.{wordsBytes, TOKEN-AT, STAGE-START, FIRST-AT, SECOND-AT, MASK-AT, PACKETS-AT, PASSES-AT, SKIPPED-AT, LANDED-AT, PASSED-AT, HOST-SIZE, endWords, stageWords, stageBytes, flagByte, passedIn, hostBytes, stageIn, hostIn, areFlags, flagsFit, refusedHost, readHost}
 use Rattle.host_bytes.specs.Promises.{HostSized, HostReadsBack, OthersBreakN1}
 use Rattle.host_bytes.proofs.Words.{laid}
 
--- a record: token and stage, the words, the two flags
-pub record-of : (h : Host) (w : StageWords) (a : List ℕ) (x y : ℕ) → w ≡ stageWords (h .stage)
+-- a record: token and stage, the words, the three flags
+pub record-of : (h : Host) (w : StageWords) (a : List ℕ) (x y z : ℕ) (t : Bool) → w ≡ stageWords (h .stage)
     → a ≡ laid FIRST-AT (w .first ∷ w .second ∷ h .mask ∷ h .packets ∷ h .passes ∷ []) (h .token ∷ w .number ∷ replicate (HOST-SIZE - FIRST-AT) 0)
-    → x ≡ flagByte (h .skipped) → y ≡ flagByte (h .landed) → set (set a SKIPPED-AT x) LANDED-AT y ≡ hostBytes h
+    → x ≡ flagByte (h .skipped) → y ≡ flagByte (h .landed) → t ≡ passedIn (h .stage) → z ≡ flagByte t
+    → set (set (set a SKIPPED-AT x) LANDED-AT y) PASSED-AT z ≡ hostBytes h
 unfolding hostBytes wordsBytes
-record-of h w a x y e f g i = rw (i, g, f, e)
+record-of h w a x y z t e f g i j k = rw (k, j, i, g, f, e)
 
 -- the parts of a record are bytes
 words-bytes : (n a b : ℕ) → n < 256 → Bytes (n ∷ bytesOf 4 a ++ bytesOf 4 b)
@@ -47,7 +48,7 @@ stage-number Opening = omega arith
 stage-number Listing = omega arith
 stage-number (Offering t) = omega arith
 stage-number (Waiting t) = omega arith
-stage-number (Sending p) = omega arith
+stage-number (Sending a) = omega arith
 stage-number Closing = omega arith
 stage-number (Ended e) = end-number e
 
@@ -69,7 +70,9 @@ unfolding hostBytes
 host-sized h f = record {
   size = refl;
   bytes =
-      let x = flagByte (h .skipped) ∷ flagByte (h .landed) ∷ [] in
+      let z = flagByte (passedIn (h .stage)) ∷ [] in
+      let y = flagByte (h .landed) ∷ z in
+      let x = flagByte (h .skipped) ∷ y in
       let n = bytesOf 4 (h .passes) ++ x in
       let p = bytesOf 4 (h .packets) ++ n in
       let m = bytesOf 4 (h .mask) ++ p in
@@ -78,8 +81,9 @@ host-sized h f = record {
       (join-bytes (bytesOf 4 (h .mask)) p (word-bytes 4 (h .mask))
       (join-bytes (bytesOf 4 (h .packets)) n (word-bytes 4 (h .packets))
       (join-bytes (bytesOf 4 (h .passes)) x (word-bytes 4 (h .passes))
-      (cons-bytes (flagByte (h .skipped)) (flagByte (h .landed) ∷ []) (flag-byte (h .skipped))
-      (cons-bytes (flagByte (h .landed)) [] (flag-byte (h .landed)) no-bytes))))));
+      (cons-bytes (flagByte (h .skipped)) y (flag-byte (h .skipped))
+      (cons-bytes (flagByte (h .landed)) z (flag-byte (h .landed))
+      (cons-bytes (flagByte (passedIn (h .stage))) [] (flag-byte (passedIn (h .stage))) no-bytes)))))));
 }
 
 -- a flag reads back
@@ -91,14 +95,14 @@ flag-small : (x : Bool) → leb (flagByte x) 1 ≡ true
 flag-small false = refl
 flag-small true = refl
 
--- a stage reads back from the bytes of its words
-stage-back : (s : HostStage) → FitsHostStage s → stageIn (stageWords s .number) (number (bytesOf 4 (stageWords s .first))) (number (bytesOf 4 (stageWords s .second))) ≡ s
+-- a stage reads back from the bytes of its words and its flag
+stage-back : (s : HostStage) → FitsHostStage s → stageIn (stageWords s .number) (number (bytesOf 4 (stageWords s .first))) (number (bytesOf 4 (stageWords s .second))) (passedIn s) ≡ s
 stage-back Fresh f = refl
 stage-back Opening f = refl
 stage-back Listing f = refl
 stage-back (Offering t) f = simp (round 4 (t .entry) (f .0), round 4 (t .busy) (f .1))
 stage-back (Waiting t) f = simp (round 4 (t .entry) (f .0), round 4 (t .busy) (f .1))
-stage-back (Sending p) f = simp (round 4 (p .entry) (f .0), round 4 (p .block) (f .1))
+stage-back (Sending a) f = simp (round 4 (a .place .entry) (f .0), round 4 (a .place .block) (f .1))
 stage-back Closing f = refl
 stage-back (Ended end.Done) f = refl
 stage-back (Ended (end.Status s)) f =
@@ -111,26 +115,26 @@ stage-back (Ended end.Busy) f = refl
 host-back : (h : Host) → FitsHost h → hostIn (hostBytes h) ≡ h
 unfolding hostBytes hostIn
 host-back h f =
-    simp (stage-back (h .stage) (f .stage), round 4 (h .mask) (f .mask), round 4 (h .packets) (f .packets), round 4 (h .passes) (f .passes), flag-back)
+    simp (flag-back, stage-back (h .stage) (f .stage), round 4 (h .mask) (f .mask), round 4 (h .packets) (f .packets), round 4 (h .passes) (f .passes))
 
 -- the flags of a record fit
-flags-of : (s : HostStage) (x y : Bool) → areFlags (stageWords s .number) (number (bytesOf 4 (stageWords s .first))) (flagByte x) (flagByte y) ≡ true
-flags-of Fresh x y = simp flag-small
-flags-of Opening x y = simp flag-small
-flags-of Listing x y = simp flag-small
-flags-of (Offering t) x y = simp flag-small
-flags-of (Waiting t) x y = simp flag-small
-flags-of (Sending p) x y = simp flag-small
-flags-of Closing x y = simp flag-small
-flags-of (Ended end.Done) x y = simp flag-small
-flags-of (Ended (end.Status s)) x y = simp flag-small
-flags-of (Ended end.Foreign) x y = simp flag-small
-flags-of (Ended end.Unexpected) x y = simp flag-small
-flags-of (Ended end.Busy) x y = simp flag-small
+flags-of : (s : HostStage) (x y z : Bool) → areFlags (stageWords s .number) (number (bytesOf 4 (stageWords s .first))) (flagByte x) (flagByte y) (flagByte z) ≡ true
+flags-of Fresh x y z = simp flag-small
+flags-of Opening x y z = simp flag-small
+flags-of Listing x y z = simp flag-small
+flags-of (Offering t) x y z = simp flag-small
+flags-of (Waiting t) x y z = simp flag-small
+flags-of (Sending a) x y z = simp flag-small
+flags-of Closing x y z = simp flag-small
+flags-of (Ended end.Done) x y z = simp flag-small
+flags-of (Ended (end.Status s)) x y z = simp flag-small
+flags-of (Ended end.Foreign) x y z = simp flag-small
+flags-of (Ended end.Unexpected) x y z = simp flag-small
+flags-of (Ended end.Busy) x y z = simp flag-small
 
 flags-fit : (h : Host) → (eqb (length (hostBytes h)) HOST-SIZE && flagsFit (hostBytes h)) ≡ true
 unfolding hostBytes flagsFit
-flags-fit h = flags-of (h .stage) (h .skipped) (h .landed)
+flags-fit h = flags-of (h .stage) (h .skipped) (h .landed) (passedIn (h .stage))
 
 -- every record reads back
 pub host-reads-back : HostReadsBack
@@ -153,18 +157,19 @@ unfolding readHost
 others-break-n1 b bundle e = rw e (refused-breaks bundle)
 
 -- the flags that were read
-pub flags-read : (b : List ℕ) (s e x y : ℕ) (t f : Bool) → s ≡ getD b STAGE-START 0 → e ≡ number (bytesAt 4 FIRST-AT b) → x ≡ getD b SKIPPED-AT 0 → y ≡ getD b LANDED-AT 0
-    → f ≡ areFlags s e x y → (eqb (length b) HOST-SIZE && f) ≡ t → (eqb (length b) HOST-SIZE && flagsFit b) ≡ t
+pub flags-read : (b : List ℕ) (s e x y z : ℕ) (t f : Bool) → s ≡ getD b STAGE-START 0 → e ≡ number (bytesAt 4 FIRST-AT b) → x ≡ getD b SKIPPED-AT 0 → y ≡ getD b LANDED-AT 0
+    → z ≡ getD b PASSED-AT 0 → f ≡ areFlags s e x y z → (eqb (length b) HOST-SIZE && f) ≡ t → (eqb (length b) HOST-SIZE && flagsFit b) ≡ t
 unfolding flagsFit
-flags-read b s e x y t f h i j k g w = ap (λ (u : Bool). eqb (length b) HOST-SIZE && u) (sym (g ∙ rw (h, i, j, k))) ∙ w
+flags-read b s e x y z t f h i j k l g w = ap (λ (u : Bool). eqb (length b) HOST-SIZE && u) (sym (g ∙ rw (h, i, j, k, l))) ∙ w
 
 -- the fields that were read
-pub fields-read : (b : List ℕ) (token mask packets passes number′ first second x y : ℕ) (stage : HostStage) → token ≡ getD b TOKEN-AT 0 → stage ≡ stageIn number′ first second
+pub fields-read : (b : List ℕ) (token mask packets passes number′ first second x y z : ℕ) (stage : HostStage) → token ≡ getD b TOKEN-AT 0
+    → stage ≡ stageIn number′ first second (eqb z 1)
     → number′ ≡ getD b STAGE-START 0 → first ≡ number (bytesAt 4 FIRST-AT b) → second ≡ number (bytesAt 4 SECOND-AT b) → mask ≡ number (bytesAt 4 MASK-AT b)
     → packets ≡ number (bytesAt 4 PACKETS-AT b) → passes ≡ number (bytesAt 4 PASSES-AT b) → x ≡ getD b SKIPPED-AT 0 → y ≡ getD b LANDED-AT 0
-    → record { token = token; stage = stage; mask = mask; packets = packets; passes = passes; skipped = eqb x 1; landed = eqb y 1 } ≡ hostIn b
+    → z ≡ getD b PASSED-AT 0 → record { token = token; stage = stage; mask = mask; packets = packets; passes = passes; skipped = eqb x 1; landed = eqb y 1 } ≡ hostIn b
 unfolding hostIn
-fields-read b token mask packets passes number′ first second x y stage e f g h i j k l m n = rw (e, f, g, h, i, j, k, l, m, n)
+fields-read b token mask packets passes number′ first second x y z stage e f g h i j k l m n o = rw (e, f, g, h, i, j, k, l, m, n, o)
 
 -- the fields where the length and the flags are a record's, and otherwise the refused record
 pub read-fits : (b : List ℕ) (h : Host) → (eqb (length b) HOST-SIZE && flagsFit b) ≡ true → h ≡ hostIn b → h ≡ readHost b

@@ -1,24 +1,27 @@
--- A block sent again (document 02, A4): what a copy of the previous packet is answered by, that it changes nothing, and that a session which is not receiving
--- holds no packet.
+-- A block sent again (document 02, A4): what a copy of the previous packet is answered with, that it changes nothing, what a repeat with other bytes is answered
+-- with, what D1 asks of the previous packet, and that a session which is not receiving holds none.
 use Prim.Native.Nat.{ℕ}
 use mathlib.Core.Path.{_≡_}
-use mathlib.Core.Bool.{false}
+use mathlib.Core.Bool.{true, false, _||_}
 use mathlib.Core.List.{List, [], _∷_}
 use Rattle.wire.specs.Bytes.{Bytes}
+use Rattle.wire.specs.Codes.{ERROR-INVALID}
 use Rattle.wire_content.specs.Head.{headIn}
 use Rattle.wire_content.specs.Reply.{replyBytes}
 use Rattle.device_component.specs.declared.record.Listed.{Listed}
-use Rattle.device_session.specs.Stage.{isReceiving}
+use Rattle.device_session.specs.Stage.{isReceiving, following}
 use Rattle.device_session.specs.Effect.{blankPacket, oneReply}
+use Rattle.device_session.specs.declared.stage.Receiving.{Receiving}
+use Rattle.device_session.specs.declared.stage.Stage.the-variants as stage
 use Rattle.device_session.specs.declared.owed.Owed.the-variants.{Nothing}
 use Rattle.device_receiving.specs.Content.{isFirst, isLast}
 use Rattle.device_receiving.specs.declared.checks.ContentVerdict.the-variants.{Answer, Take}
 use Rattle.device.specs.declared.record.Device.{Device}
 use Rattle.device.specs.declared.answer.Channel.{Channel}
 use Rattle.device.specs.Record.{FitsDevice}
-use Rattle.device.specs.Refusals.{Outcome, served}
+use Rattle.device.specs.Refusals.{D, Outcome, served, refusedBy}
 use Rattle.device.specs.Content.{contentVerdict, contentEntry, contentStaging}
-use Rattle.device.specs.Entries.{setUpOf, resetEntry, serveEntry}
+use Rattle.device.specs.Entries.{setUpOf, versionEntry, resetEntry, serveEntry}
 
 -- one reply with the sequence of the packet and this status, and the record as it was
 abbrev pub onlyReplies : Device → (report : List ℕ) → (status : ℕ) → Outcome
@@ -42,11 +45,31 @@ ResentBlock = (d : Device) (staging report : List ℕ) (slot : ℕ) → FitsDevi
     → (contentEntry (contentEntry d staging report .device) (contentStaging d staging report) report ≡ contentEntry d staging report)
     × (contentStaging (contentEntry d staging report .device) (contentStaging d staging report) report ≡ contentStaging d staging report)
 
--- a session that is not receiving holds no packet, so that equal states are equal
+-- while receiving, a packet with the previous one's sequence but other bytes, wherever they differ, is answered 0x0B
+abbrev pub OtherBytesInvalid : Type 0
+OtherBytesInvalid = (d : Device) (staging report : List ℕ) → contentEntry d staging report .row ≡ served → isReceiving (d .session .stage) ≡ true
+    → headIn report .sequence ≡ headIn (d .session .previous) .sequence → (report ≡ d .session .previous → ⊥) → contentVerdict d report ≡ Answer ERROR-INVALID
+
+-- so is one with the first or the last flag and the previous one's sequence, also where the bytes are the same
+abbrev pub FlaggedInvalid : Type 0
+FlaggedInvalid = (d : Device) (staging report : List ℕ) → contentEntry d staging report .row ≡ served → isReceiving (d .session .stage) ≡ true
+    → headIn report .sequence ≡ headIn (d .session .previous) .sequence → (isFirst (headIn report) || isLast (headIn report)) ≡ true
+    → contentVerdict d report ≡ Answer ERROR-INVALID
+
+-- while receiving, every entry refuses by D1 a record whose previous packet has another sequence than the one just before the next
+pub record PreviousJudged : Type 0 where
+  pub packets : (d : Device) (channel : Channel) (staging report : List ℕ) (r : Receiving) → d .session .stage ≡ stage.Receiving r
+      → (following (headIn (d .session .previous) .sequence) ≡ r .next → ⊥) → serveEntry d channel staging report ≡ refusedBy (D 1) d
+  pub versions : (d : Device) (r : Receiving) → d .session .stage ≡ stage.Receiving r
+      → (following (headIn (d .session .previous) .sequence) ≡ r .next → ⊥) → versionEntry d .row ≡ D 1
+  pub reset : (d : Device) (r : Receiving) → d .session .stage ≡ stage.Receiving r
+      → (following (headIn (d .session .previous) .sequence) ≡ r .next → ⊥) → resetEntry d ≡ record { row = D 1; device = d }
+
+-- a session that is not receiving holds no packet, so that sessions with the same stage and the same owed reply are the same
 abbrev pub HoldsNone : Device → Type 0
 HoldsNone d = isReceiving (d .session .stage) ≡ false → d .session .previous ≡ blankPacket
 
--- set-up makes such a record, and every call leaves one of one
+-- set-up makes such a record, and a call that is given such a record leaves such a record
 pub record HeldOnlyReceiving : Type 0 where
   pub setUp : (platform : ℕ) (list : List Listed) (count n : ℕ) → HoldsNone (setUpOf platform list count n .device)
   pub packets : (d : Device) (channel : Channel) (staging report : List ℕ) → HoldsNone d → HoldsNone (serveEntry d channel staging report .device)

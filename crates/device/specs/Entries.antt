@@ -29,7 +29,7 @@ pub record SetUp : Type 0 where
 abbrev pub toldSetUp : SetupAnswer → SetUp
 toldSetUp a = record { row = setup.rowOf (a .verdict); device = a .device }
 
--- a device as it is set up: idle, nothing staged, nothing owed
+-- a device as it is set up: idle, nothing staged, nothing owed, no packet held
 abbrev pub newDevice : (platform : ℕ) → List Listed → (count n : ℕ) → Device
 newDevice platform list count n = record {
   platform = platform;
@@ -70,7 +70,7 @@ pub record Reset : Type 0 where
 abbrev pub toldReset : ResetAnswer → Reset
 toldReset a = record { row = rowOf (a .refusal); device = a .device }
 
--- D1, or staged versions run, nothing is pending or owed, and the session is idle
+-- D1, or staged versions run, nothing is pending or owed, the session is idle and holds no packet
 unfoldable pub resetEntry : Device → Reset
 resetEntry d =
     cond (breaksD1 d) (record { row = D 1; device = d })

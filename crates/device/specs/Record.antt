@@ -39,7 +39,7 @@ withSession d components session = record {
   session = session;
 }
 
--- with these components, idle and owing nothing
+-- with these components, idle, owing nothing and holding no packet
 abbrev pub idleWith : Device → List Component → Device
 idleWith d components = withSession d components idle
 

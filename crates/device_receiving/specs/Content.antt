@@ -40,7 +40,7 @@ badFirst stage c = (not (isReceiving stage) && not (isFirst c)) || (isReceiving 
 abbrev pub isCopy : (previous report : List ℕ) → Bool
 isCopy previous report = same previous report && not (isFirst (headIn report) || isLast (headIn report))
 
--- check 4: receiving, and the block just taken is sent again; receiving, and the sequence is wrong
+-- check 4, in two parts: receiving, and the block just taken is sent again; receiving, and the sequence is wrong
 abbrev pub sentAgain : Stage → (copy : Bool) → ContentHead → Bool
 sentAgain stage copy c = isAgain (sequenceVerdict stage copy (c .sequence))
 

@@ -19,4 +19,17 @@ a1-differs = record { offered01 = (refl, refl); offered = (refl, refl); image01 
 
 pub a4-differs : A4Differs
 unfolding same firstOf any pairs badIds badRegions setupVerdict
-a4-differs = record { copy01 = (refl, refl); copy = (refl, refl) }
+a4-differs = record {
+  copy01 = (refl, refl, refl);
+  copy = (refl, refl, refl);
+  wrap01 = (refl, refl, refl);
+  wrap = (refl, refl, refl);
+  byte01 = (refl, refl, refl);
+  byte = (refl, refl, refl);
+  unused01 = (refl, refl, refl);
+  unused = (refl, refl, refl);
+  first01 = (refl, refl, refl);
+  first = (refl, refl, refl);
+  previous01 = (refl, refl, refl);
+  previous = (refl, refl);
+}

@@ -1,5 +1,5 @@
 -- The device's entries over any rules on versions and sequences: each definition that asks such a rule, with the rules for a parameter; what asks none is taken
--- as it stands. With the rules in force the answers are the entries' own (`RulesInForceAnswer`); with others some answers are others (`A1Differs`, `A4Differs`).
+-- as it stands. With the rules in force the answers are the entries' own (`RulesInForceAnswer`); with other rules some answers differ (`A1Differs`, `A4Differs`).
 use Prim.Native.Nat.{ℕ}
 use mathlib.Core.Bool.{Bool, true, not, cond, _||_}
 use mathlib.Core.List.{List, [], _∷_, _++_, map}

@@ -18,7 +18,7 @@ use Rattle.device.specs.Bench.{forOne, noNeed, answer}
 use Rattle.device.specs.Refusals.{Outcome, served, D}
 use Rattle.device.specs.Entries.{Reset}
 use Rattle.device_rules.specs.Rules.{Rules, inForce, document01}
-use Rattle.device_rules.specs.Entries.{serveBy, resetBy}
+use Rattle.device_rules.specs.Entries.{serveBy, serveStagingBy, resetBy}
 
 -- component 1 as the production build 1.2.0, with a region of 8 bytes; here variant 0 stands for a production build and 1 for a debug build, the papers fix none
 abbrev pub production : Component
@@ -67,19 +67,58 @@ pub record A1Differs : Type 0 where
   pub staged01 : resetting document01 ≡ record { row = served; device = deviceOf (plain 1 0x01000201 0 8) idle }
   pub staged : resetting inForce ≡ record { row = D 1; device = deviceOf (withStaged production debug) idle }
 
--- a block of one byte that is neither first nor last, with sequence 4
+-- a block of one byte for address 2, with these flags and this sequence, and the 52 bytes of its data, of which the first counts
+abbrev pub oneByte : (flags low high : ℕ) → List ℕ → List ℕ
+oneByte flags low high bytes = flags ∷ 1 ∷ low ∷ high ∷ 2 ∷ 0 ∷ 0 ∷ 0 ∷ bytes
+
+-- neither first nor last, with sequence 4; the same with another byte that counts, and with another that does not; and a first block with sequence 4
 abbrev pub middle : List ℕ
-middle = 0x00 ∷ 1 ∷ 4 ∷ 0 ∷ 2 ∷ 0 ∷ 0 ∷ 0 ∷ 0x77 ∷ replicate 51 0x00
+middle = oneByte 0x00 4 0 (0x77 ∷ replicate 51 0x00)
 
--- the session that has just taken it
-abbrev pub afterMiddle : Session
-afterMiddle = inStage idle (Receiving (record { slot = 0; token = 0xA5; next = 5 })) middle
+abbrev pub otherByte : List ℕ
+otherByte = oneByte 0x00 4 0 (0x78 ∷ replicate 51 0x00)
 
--- what it comes to when it is delivered once more
-abbrev pub delivering : Rules → Outcome
-delivering rules = serveBy rules (deviceOf production afterMiddle) Content (replicate 8 0) middle
+abbrev pub otherUnused : List ℕ
+otherUnused = oneByte 0x00 4 0 (0x77 ∷ replicate 50 0x00 ++ (0x01 ∷ []))
 
--- document 01's rules answer 0x0B, which ends the host; those in force answer 0; the record stays
+abbrev pub firstBlock : List ℕ
+firstBlock = oneByte 0x80 4 0 (0x77 ∷ replicate 51 0x00)
+
+-- neither first nor last, with sequence 65,535
+abbrev pub beforeWrap : List ℕ
+beforeWrap = oneByte 0x00 0xFF 0xFF (0x77 ∷ replicate 51 0x00)
+
+-- a session that receives, with the next sequence and the packet that it holds
+abbrev pub receives : (next : ℕ) → (previous : List ℕ) → Session
+receives next previous = inStage idle (Receiving (record { slot = 0; token = 0xA5; next = next })) previous
+
+-- what a packet comes to there, with a staging buffer of zeros, and the bytes afterwards
+abbrev pub delivering : Rules → Session → List ℕ → Outcome
+delivering rules session p = serveBy rules (deviceOf production session) Content (replicate 8 0) p
+
+abbrev pub leaving : Rules → Session → List ℕ → List ℕ
+leaving rules session p = serveStagingBy rules (deviceOf production session) Content (replicate 8 0) p
+
+-- one reply with this sequence and status, the record and the buffer as they were
+abbrev pub Only : Rules → Session → List ℕ → (low high status : ℕ) → Type 0
+Only rules session p low high status =
+    (delivering rules session p .sent ≡ (low ∷ high ∷ 0 ∷ 0 ∷ status ∷ replicate 11 0x00) ∷ [])
+    × (delivering rules session p .device ≡ deviceOf production session)
+    × (leaving rules session p ≡ replicate 8 0)
+
+-- a block that is delivered once more: document 01's rules answer 0x0B, those in force 0, also where the next sequence is 0 after 65,535. Where a byte differs, be
+-- it one that counts or not, and for a first block, both answer 0x0B. A record whose previous packet is not just before the next one is served by document 01's
+-- rules and refused by D1 in force
 pub record A4Differs : Type 0 where
-  pub copy01 : (delivering document01 .sent ≡ (4 ∷ 0 ∷ 0 ∷ 0 ∷ ERROR-INVALID ∷ replicate 11 0x00) ∷ []) × (delivering document01 .device ≡ deviceOf production afterMiddle)
-  pub copy : (delivering inForce .sent ≡ (4 ∷ 0 ∷ 0 ∷ 0 ∷ SUCCESS ∷ replicate 11 0x00) ∷ []) × (delivering inForce .device ≡ deviceOf production afterMiddle)
+  pub copy01 : Only document01 (receives 5 middle) middle 4 0 ERROR-INVALID
+  pub copy : Only inForce (receives 5 middle) middle 4 0 SUCCESS
+  pub wrap01 : Only document01 (receives 0 beforeWrap) beforeWrap 0xFF 0xFF ERROR-INVALID
+  pub wrap : Only inForce (receives 0 beforeWrap) beforeWrap 0xFF 0xFF SUCCESS
+  pub byte01 : Only document01 (receives 5 middle) otherByte 4 0 ERROR-INVALID
+  pub byte : Only inForce (receives 5 middle) otherByte 4 0 ERROR-INVALID
+  pub unused01 : Only document01 (receives 5 middle) otherUnused 4 0 ERROR-INVALID
+  pub unused : Only inForce (receives 5 middle) otherUnused 4 0 ERROR-INVALID
+  pub first01 : Only document01 (receives 5 firstBlock) firstBlock 4 0 ERROR-INVALID
+  pub first : Only inForce (receives 5 firstBlock) firstBlock 4 0 ERROR-INVALID
+  pub previous01 : Only document01 (receives 6 middle) middle 4 0 ERROR-INVALID
+  pub previous : (delivering inForce (receives 6 middle) middle .row ≡ D 1) × (resetBy inForce (deviceOf production (receives 6 middle)) .row ≡ D 1)

@@ -1,5 +1,5 @@
 -- What document 02 leaves as it is: where versions have the variant that their component runs, every call answers as by document 01's rules on versions (A1);
--- and every call but a block sent again answers as by document 01's rules on sequences (A4).
+-- and every call on a record that D1's new clause lets pass, but a block sent again, answers as by document 01's rules on sequences (A4).
 use Prim.Native.Nat.{ℕ, _<_}
 use mathlib.Core.Path.{_≡_}
 use mathlib.Core.Bool.{true, false}
@@ -73,11 +73,11 @@ abbrev pub NoCopyAsBefore : Type 0
 NoCopyAsBefore = (d : Device) (staging : List ℕ) (call : Call) → holdsWrong (d .session) ≡ false → BringsNoCopy d call
     → answerOf d staging call ≡ answerBy beforeA4 d staging call
 
--- a block sent again was answered 0x0B before A4 and is answered 0 now; neither changes anything (`AnswerChangesNothing`)
+-- what is answered 0 without being taken was answered 0x0B before A4; it changes nothing (`AnswerChangesNothing`)
 abbrev pub CopyWasInvalid : Type 0
 CopyWasInvalid = (d : Device) (report : List ℕ) → contentVerdict d report ≡ Answer SUCCESS → verdictOnBy beforeA4 d report ≡ Answer ERROR-INVALID
 
--- where all of these hold, every call answers as by document 01's rules
+-- under the premises of both, every call answers as by document 01's rules
 abbrev pub AsDocument01 : Type 0
 AsDocument01 = (d : Device) (staging : List ℕ) (call : Call) → StagedOne d → BroughtOne d staging call → holdsWrong (d .session) ≡ false → BringsNoCopy d call
     → answerOf d staging call ≡ answerBy document01 d staging call

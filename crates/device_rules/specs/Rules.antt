@@ -1,4 +1,4 @@
--- The rules that document 02 amends as values, those of document 01 and those in force: on versions (A1), and on the sequence of a block (A4).
+-- The rules that document 02 amends, as values, those of document 01 and those in force: on versions (A1), and on the sequence of a block (A4).
 use Prim.Native.Nat.{ℕ}
 use mathlib.Core.Bool.{Bool, false, cond}
 use mathlib.Core.List.{List}
@@ -48,7 +48,7 @@ pub record SequenceRules : Type 0 where
 abbrev pub sequences : SequenceRules
 sequences = record { judged = stages.sequenceVerdict; wrongPrevious = sound.wrongPrevious }
 
--- those of document 01: while receiving the expected sequence, otherwise any; no packet is held
+-- those of document 01: while receiving the expected sequence, otherwise any; the held packet is not looked at
 abbrev pub expected : Stage → (copy : Bool) → (sequence : ℕ) → SequenceVerdict
 expected Idle copy sequence = Next
 expected (Offered o) copy sequence = Next

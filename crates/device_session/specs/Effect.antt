@@ -1,4 +1,4 @@
--- The session, the one way it becomes idle, and what a packet that no row refuses does to it (document 01, "The device").
+-- The session, the one way it becomes idle, and what a packet that no row refuses does to it (document 01, "The device"; document 02, A4).
 use Prim.Native.Nat.{ℕ}
 use mathlib.Core.Path.{_≡_}
 use mathlib.Core.Bool.{true, false}
@@ -23,7 +23,7 @@ pub record FitsSession (s : Session) : Type 0 where
   pub size : length (s .previous) ≡ LONG-SIZE
   pub bytes : Bytes (s .previous)
 
--- no packet: what a session holds that is not receiving
+-- no packet, as 60 zero bytes: what a session holds while it is not receiving
 abbrev pub blankPacket : List ℕ
 blankPacket = replicate LONG-SIZE 0
 
@@ -31,7 +31,7 @@ blankPacket = replicate LONG-SIZE 0
 abbrev pub idle : Session
 idle = record { stage = Idle; owed = Nothing; previous = blankPacket }
 
--- the session in another stage, with the packet that it holds in it: while receiving that of the block taken last (document 02, A4), and otherwise none
+-- the session in another stage, holding this packet (document 02, A4)
 abbrev pub inStage : Session → Stage → (previous : List ℕ) → Session
 inStage session stage previous = record { stage = stage; owed = session .owed; previous = previous }
 

@@ -1,4 +1,4 @@
--- The stage of a session: idle, offered or receiving (document 01, "The device").
+-- The stage of a session: idle, offered or receiving (document 01, "The device"), and the judgement of a block's sequence (document 02, A4).
 use Prim.Native.Nat.{ℕ, _+_, _%_, _^_, _<_}
 use mathlib.Core.Bool.{Bool, true, false, cond}
 use lib.Dec.{eqb}

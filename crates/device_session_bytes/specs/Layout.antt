@@ -67,7 +67,7 @@ stageIn stage slot token next =
 abbrev pub owedIn : (owed token : ℕ) → Owed
 owedIn owed token = cond (eqb owed 1) (Token token) Nothing
 
--- the previous packet, in whatever stage; bytes that end before it does have none
+-- the previous packet, in whatever stage; bytes too short for it are read as no packet
 abbrev pub previousIn : List ℕ → List ℕ
 previousIn q = cond (leb SESSION-SIZE (length q)) (take LONG-SIZE (drop PREVIOUS-AT q)) blankPacket
 

@@ -89,7 +89,7 @@ fn owed_in(owed: u8, token: u8) -> Owed
     }
 }
 
-// The previous packet, in whatever stage; bytes that end before it does have none.
+// The previous packet, in whatever stage; bytes too short for it are read as no packet.
 fn previous_in(q: &[u8]) -> [u8; LONG_SIZE]
     ensures { λ r. ⌜ r ≡ previousIn (now (q .entry)) ⌝ }
 {

@@ -1,5 +1,5 @@
--- What the host decides on a reply (document 01, "The host"; document 02, A4): the table of rows by stage and reply, the ends H1 to H4, the replay rule, the
--- copy of a reply that is passed over. No byte of a bundle is looked at: only how many offers it has, and whether the block in hand is the last of its body.
+-- What the host decides on a reply (document 01, "The host"; document 02, A4): the table of rows by stage and reply, the ends H1 to H4, the replay rule, and
+-- the copy of a reply that is passed over. No byte of a bundle is looked at: only how many offers it has, and whether the block in hand is the last of its body.
 use Prim.Native.Nat.{ℕ, _+_, _-_}
 use mathlib.Core.Path.{_≡_}
 use mathlib.Core.Bool.{Bool, true, false, not, cond, _&&_, _||_}
@@ -142,7 +142,7 @@ abbrev pub repeatsTaken : Awaited → ContentReply → Bool
 repeatsTaken a r =
     (leb 1 (a .place .block) && not (a .passed)) && (eqb (r .sequence) (sequenceOf (a .place .block - 1)) && eqb (r .status) SUCCESS)
 
--- it is passed over: nothing is sent, and nothing changes but that one was passed over
+-- it is passed over: nothing is sent, and nothing changes but the note that one was passed over
 abbrev pub passOver : Place → Host → Move
 passOver p h = record { action = Nothing; host = at h (Sending (passedAt p)) }
 
@@ -151,7 +151,7 @@ abbrev pub goesOn : (n : ℕ) → Bool → Place → Host → Move
 goesOn n true p h = offerFrom n (p .entry + 1) (completes h (p .entry))
 goesOn n false p h = sendBlock (record { entry = p .entry; block = p .block + 1 }) h
 
--- on a reply to a block that is 16 bytes long: the reply just taken once more, H2 by its sequence, H1
+-- on a 16-byte reply to a block: the reply just taken once more, H2 by its sequence, H1
 abbrev pub hearsReply : (n : ℕ) → (last : Bool) → Awaited → Host → ContentReply → Move
 hearsReply n last a h r =
     cond (repeatsTaken a r) (passOver (a .place) h)

@@ -1,5 +1,5 @@
-// What the host decides on a reply (document 01, "The host"; document 02, A4): the table of rows by stage and reply, the ends H1 to H4, the replay rule, the
-// copy of a reply that is passed over. No byte of a bundle is looked at.
+// What the host decides on a reply (document 01, "The host"; document 02, A4): the table of rows by stage and reply, the ends H1 to H4, the replay rule, and
+// the copy of a reply that is passed over. No byte of a bundle is looked at.
 ghost use mathlib.Core.Path.{_≡_};
 ghost use Prim.Native.Nat.{_<_};
 ghost use Rattle.host_record.specs.Record.{withBit};
@@ -110,7 +110,7 @@ fn send_block(p: Place, h: Host) -> Move
     sends(h, HostStage::Sending(sent), Action::Block(p))
 }
 
-// A reply is passed over: nothing is sent, and nothing changes but that one was passed over.
+// A reply is passed over: nothing is sent, and nothing changes but the note that one was passed over.
 fn pass_over(p: Place, h: Host) -> Move
     ensures { λ r. ⌜ r ≡ decided.passOver p h ⌝ }
 {
@@ -255,7 +255,7 @@ fn repeats_taken(a: Awaited, r: ContentReply) -> bool
     !a.passed & ((r.sequence == sequence(block - 1)) & (r.status == codes::SUCCESS))
 }
 
-// On a reply to a block that is 16 bytes long: the reply just taken once more, H2 by its sequence, H1.
+// On a 16-byte reply to a block: the reply just taken once more, H2 by its sequence, H1.
 fn hears_reply(n: u32, last: bool, a: Awaited, h: Host, r: ContentReply) -> Move
     requires { ⌜ SpareCounts h × (a .place .entry < 32) × Spare (a .place .block) ⌝ }
     ensures { λ x. ⌜ x ≡ decided.hearsReply n last a h r ⌝ }

@@ -1,4 +1,4 @@
--- The host's record: its values, its start, and its report (document 01, "The host").
+-- The host's record: its values, its start, and its report (document 01, "The host"; document 02, A4).
 use Prim.Native.Nat.{ℕ, _+_, _/_, _%_, _^_, _<_}
 use mathlib.Core.Bool.{Bool, true, false, cond}
 use lib.Dec.{eqb}
@@ -43,7 +43,7 @@ pub record FitsHost (h : Host) : Type 0 where
 abbrev pub sentAt : Place → Awaited
 sentAt p = record { place = p; passed = false }
 
--- a reply was passed over while its own is awaited
+-- a block whose own reply is still awaited after one was passed over
 abbrev pub passedAt : Place → Awaited
 passedAt p = record { place = p; passed = true }
 

@@ -26,7 +26,7 @@ use Rattle.device.specs.Record.{find, component}
 use Rattle.device.specs.declared.record.Device.{Device}
 use Rattle.host.specs.Step.{entryAt, blocksAt}
 use Rattle.update.specs.Claim.{offerAt, imageOf, Inside, Good}
-use Rattle.update.specs.Run.{lastOf}
+use Rattle.update.specs.Run.{Schedule, lastOf}
 use Rattle.update.specs.Demand.{Premise}
 use Rattle.update.proofs.Demand.{demand-three}
 use Rattle.update_written.proofs.ReadBack.{image-reads-back}
@@ -131,10 +131,10 @@ module _ (list images : List ℕ) (room token : ℕ) (d : Device) (staging : Lis
         good = λ i k h here. good-body i k (omega (arith, back .count)) (ap (find d) (sym (id-back list images b back i)) ∙ here);
       }
 
-  stages : (reply : List ℕ) → Stages list images token d staging reply (lastOf (madeBundle list images) token d staging reply)
+  stages : (twice : Schedule) (reply : List ℕ) → Stages list images twice token d staging reply (lastOf (madeBundle list images) twice token d staging reply)
   stages reply =
       let b = madeBundle list images in
-      let r = demand-three b token d staging reply premise in
+      let r = demand-three b twice token d staging reply premise in
       record {
         demand = r;
         regions = λ i k h staged here. r .bytes .images i k (omega (arith, back .count)) staged (ap (find d) (id-back list images b back i) ∙ here)

@@ -132,7 +132,7 @@ module _ (list images : List ℕ) (room token : ℕ) (d : Device) (staging : Lis
       }
 
   stages : (twice : Schedule) (reply : List ℕ) → Stages list images twice token d staging reply (lastOf (madeBundle list images) twice token d staging reply)
-  stages reply =
+  stages twice reply =
       let b = madeBundle list images in
       let r = demand-three b twice token d staging reply premise in
       record {
@@ -145,4 +145,4 @@ pub made-premise : MadePremise
 made-premise list images room token d staging f = premise list images room token d staging f
 
 pub made-stages : MadeStages
-made-stages list images room token d staging reply f = stages list images room token d staging f reply
+made-stages list images twice room token d staging reply f = stages list images room token d staging f twice reply

@@ -27,7 +27,7 @@ use Rattle.bundle_layout.specs.Rows.{firstEntry, rowB5, repeated, rowB6, gap, r
 use Rattle.bundle.specs.Contents.{checkOf}
 use Rattle.host_table.specs.Table.{table}
 use Rattle.host_record.specs.Record.{reportOf}
-use Rattle.host_decide.specs.Decide.{act, hears, decideIn, decisionOf}
+use Rattle.host_decide.specs.Decide.{act, hears, hearsBlock, decideIn, decisionOf}
 use Rattle.host_packet.specs.Made.{laidOf, writtenOf}
 use Rattle.host.specs.Step.{breaksN1, packetOf, stepOn, stepOf}
 use Rattle.host.specs.Inner.{innerOf}
@@ -47,7 +47,7 @@ use Rattle.c_api.proofs.Layouts.{layouts-hold}
 use Rattle.c_api.proofs.Packets.{packets-hold}
 
 pub calls-hold : CallsHold
-unfolding flatten same firstOf any pairs offerBytes fieldsIn buildOf kindIn readOf flat replyBytes within blank put eraseOf writeOf firstFrom find badIds badRegions setupVerdict breaksD1 refusalOf rejections needUnmet offerVerdict onOffer offerEntry contentVerdict takeBlock onBlock contentEntry setUpOf versionEntry componentsBytes deviceBytes componentsIn deviceIn stagedFit isRecord readDevice withSessionBytes withComponentBytes listIn bundleRow checkOf innerOf hostBytes hostIn readHost bodiesBytes contentsBytes contentsIn setUpCall versionsCall offerCall contentCall checkCall headIn parse nextOf tallyOf entriesFrom entriesIn bodyIn firstEntry rowB5 repeated rowB6 gap rowB7 rowB8 table ones reportOf act hears decideIn decisionOf laidOf writtenOf breaksN1 packetOf stepOn stepOf contentStaging resetEntry resetCall contentCallStaging freshCall reportCall stepCall stepCheckedCall stepCheckedContents buildOfferCall readOfferCall writeCall flagsFit withListedBytes bodiesIn bodyRead listCall componentCall entryCall
+unfolding flatten same firstOf any pairs offerBytes fieldsIn buildOf kindIn readOf flat replyBytes within blank put eraseOf writeOf firstFrom find badIds badRegions setupVerdict breaksD1 refusalOf rejections needUnmet offerVerdict onOffer offerEntry contentVerdict takeBlock onBlock contentEntry setUpOf versionEntry componentsBytes deviceBytes componentsIn deviceIn stagedFit isRecord readDevice withSessionBytes withComponentBytes listIn bundleRow checkOf innerOf hostBytes hostIn readHost bodiesBytes contentsBytes contentsIn setUpCall versionsCall offerCall contentCall checkCall headIn parse nextOf tallyOf entriesFrom entriesIn bodyIn firstEntry rowB5 repeated rowB6 gap rowB7 rowB8 table ones reportOf act hears hearsBlock decideIn decisionOf laidOf writtenOf breaksN1 packetOf stepOn stepOf contentStaging resetEntry resetCall contentCallStaging freshCall reportCall stepCall stepCheckedCall stepCheckedContents buildOfferCall readOfferCall writeCall flagsFit withListedBytes bodiesIn bodyRead listCall componentCall entryCall
 calls-hold = record {
   records = λ session. refl;
   idle-session = refl;
@@ -59,6 +59,9 @@ calls-hold = record {
   passes-over = refl;
   takes = refl;
   writes = refl;
+  again = refl;
+  again-writes = refl;
+  judges = refl;
   resets = refl;
   refuses = refl;
   sending = refl;
@@ -72,6 +75,10 @@ calls-hold = record {
   starts = refl;
   begins = refl;
   begins-checked = refl;
+  passes-reply = refl;
+  passes-checked = refl;
+  passes-once = refl;
+  still-runs = refl;
   reports = refl;
   reports-failed = refl;
   steps = refl;

@@ -11,7 +11,7 @@ use Rattle.bundle_layout.specs.Rows.{served, B}
 use Rattle.bundle_layout.specs.Layout.{OFFER-LIMIT, blankEntry}
 use Rattle.bundle_layout.specs.declared.Entry.{Entry}
 use Rattle.bundle.specs.Contents.{Contents}
-use Rattle.device_session.specs.Effect.{idle, inStage, owing}
+use Rattle.device_session.specs.Effect.{blankPacket, idle, inStage, owing}
 use Rattle.device_session.specs.declared.effect.Session.{Session}
 use Rattle.device_session.specs.declared.owed.Owed.the-variants.{Token}
 use Rattle.device_session.specs.declared.stage.Stage.the-variants.{Idle, Receiving}
@@ -21,6 +21,7 @@ use Rattle.device.specs.declared.record.Device.{Device}
 use Rattle.device_component_bytes.specs.Layout.{COMPONENT-SIZE}
 use Rattle.device_session_bytes.specs.Layout.{sessionBytes}
 use Rattle.device_bytes.specs.Layout.{DEVICE-SIZE, LIST-SIZE, deviceBytes}
+use Rattle.host_record.specs.Record.{sentAt}
 use Rattle.host_record.specs.declared.record.Host.{Host}
 use Rattle.host_record.specs.declared.record.HostStage.the-variants.{Sending, Ended}
 use Rattle.host_record.specs.declared.record.End.the-variants as end
@@ -75,50 +76,64 @@ stagedComponents = filledTo (COMPONENT-LIMIT * COMPONENT-SIZE) (one ++ (1 ∷ 0x
 abbrev pub head : List ℕ
 head = 0x42 ∷ 0x00 ∷ 128 ∷ 0 ∷ 0 ∷ 0 ∷ 2 ∷ []
 
+-- the report that an example of the bench asks about
+abbrev pub reportOf : bench.Asked → List ℕ
+reportOf bench.versions = []
+reportOf (bench.packet channel p) = p
+
+-- a first block of one byte with sequence 0x1234
+abbrev pub block : List ℕ
+block = reportOf (bench.block 1 (replicate 4 0))
+
 -- the bench device with a session: offered on slot 0 with token 0xA5, owing nothing, or a READY to token 0x5A; receiving, with sequence 0x1235 next, owing it
+-- and holding the packet of the block before
 abbrev pub benchIn : Session → Device
 benchIn session = withSession (bench.bench Idle) (bench.bench Idle .components) session
 
 abbrev pub offered : Session
-offered = inStage idle bench.forOne
+offered = inStage idle bench.forOne blankPacket
 
 abbrev pub offeredOwing : Session
 offeredOwing = owing offered (Token 0x5A)
 
 abbrev pub receivingOwing : Session
-receivingOwing = owing (inStage idle (Receiving (record { slot = 0; token = 0xA5; next = 0x1235 }))) (Token 0x5A)
+receivingOwing = owing (inStage idle (Receiving (record { slot = 0; token = 0xA5; next = 0x1235 })) block) (Token 0x5A)
 
 -- idle, with other bytes where an idle session and a component with nothing staged have none; and what E2's offer leaves of it: the session is written anew
 abbrev pub strewnComponents : List ℕ
 strewnComponents = set components (COMPONENT-SIZE - 1) 9
 
 abbrev pub strewn : List ℕ
-strewn = head ++ (0 ∷ 9 ∷ 9 ∷ 9 ∷ 9 ∷ 0 ∷ 9 ∷ strewnComponents)
+strewn = head ++ (0 ∷ 9 ∷ 9 ∷ 9 ∷ 9 ∷ 0 ∷ 9 ∷ replicate LONG-SIZE 9 ++ strewnComponents)
 
 abbrev pub strewnOffered : List ℕ
 strewnOffered = head ++ (sessionBytes offered ++ strewnComponents)
 
--- the report that an example of the bench asks about, and the version reply of E1
-abbrev pub reportOf : bench.Asked → List ℕ
-reportOf bench.versions = []
-reportOf (bench.packet channel p) = p
-
+-- the version reply of E1
 abbrev pub firstReplies : List bench.Example → List (List ℕ)
 firstReplies [] = []
 firstReplies (x ∷ xs) = x .replies
 
--- E2's offer and its reply; a first block of one byte with sequence 0x1234, and its reply
+-- E2's offer and its reply; the reply to the block
 abbrev pub offer : List ℕ
 offer = reportOf (bench.offer bench.new bench.noNeed 0x02)
 
 abbrev pub accepted : List ℕ
 accepted = filledTo REPLIES-SIZE (flatten (bench.answer 0 1))
 
-abbrev pub block : List ℕ
-block = reportOf (bench.block 1 (replicate 4 0))
-
 abbrev pub taken : List ℕ
 taken = filledTo REPLIES-SIZE (flatten (bench.status 0))
+
+-- a block of one byte that is neither first nor last, with sequence 4 (document 02, A4); the session that has just taken it; and one that holds it although
+-- sequence 6 is next
+abbrev pub middle : List ℕ
+middle = 0x00 ∷ 1 ∷ 4 ∷ 0 ∷ 2 ∷ 0 ∷ 0 ∷ 0 ∷ 0x77 ∷ replicate 51 0
+
+abbrev pub afterMiddle : Session
+afterMiddle = inStage idle (Receiving (record { slot = 0; token = 0xA5; next = 5 })) middle
+
+abbrev pub strayed : Session
+strayed = inStage idle (Receiving (record { slot = 0; token = 0xA5; next = 6 })) middle
 
 -- an offer with every field another value
 abbrev pub fields : COffer
@@ -142,7 +157,7 @@ fieldsPacket = 3 ∷ 0x40 ∷ 9 ∷ 0xA5 ∷ 4 ∷ 0x03 ∷ 0x02 ∷ 1 ∷ 5 ∷
 abbrev pub sendingHost : Host
 sendingHost = record {
   token = 0xA5;
-  stage = Sending (record { entry = 2; block = 4 });
+  stage = Sending (sentAt (record { entry = 2; block = 4 }));
   mask = 3;
   packets = 300;
   passes = 2;
@@ -206,16 +221,35 @@ freshOne = 0xA5 ∷ replicate (HOST-SIZE - 1) 0
 abbrev pub begun : StepLeft
 begun = record {
   step = record { number = SERVED; entry = 0; length = SHORT-SIZE };
-  host = 0xA5 ∷ 1 ∷ replicate 12 0 ++ 1 ∷ replicate 9 0;
+  host = 0xA5 ∷ 1 ∷ replicate 12 0 ++ 1 ∷ replicate 10 0;
   packet = 0 ∷ 0 ∷ 0xFF ∷ 0xA5 ∷ replicate (LONG-SIZE - 4) 0;
 }
+
+-- a bundle of one offer, whose body has two records of one byte, and what its check leaves
+abbrev pub pair : List ℕ
+pair =
+    1 ∷ 1 ∷ 0 ∷ 0 ∷ 0 ∷ 0 ∷ 0 ∷ 0
+    ∷ 0 ∷ 0 ∷ 1 ∷ 0 ∷ 0 ∷ 3 ∷ 0 ∷ 1 ∷ 0 ∷ 0 ∷ 0 ∷ 0 ∷ 2 ∷ 0 ∷ 0x42 ∷ 0 ∷ 32 ∷ 0 ∷ 0 ∷ 0 ∷ 12 ∷ 0 ∷ 0 ∷ 0
+    ∷ 0 ∷ 0 ∷ 0 ∷ 0 ∷ 1 ∷ 7 ∷ 1 ∷ 0 ∷ 0 ∷ 0 ∷ 1 ∷ 8
+    ∷ []
+
+abbrev pub pairContents : List ℕ
+pairContents = 0 ∷ 0 ∷ 1 ∷ 32 ∷ 0 ∷ 0 ∷ 0 ∷ 12 ∷ 0 ∷ 0 ∷ 0 ∷ 2 ∷ 0 ∷ 0 ∷ 0 ∷ replicate ((OFFER-LIMIT - 1) * BODY-SIZE) 0 ++ noHand
+
+-- a host that awaits the reply to its second block, after 5 packets in 1 pass, and has passed over a reply (1) or none (0)
+abbrev pub secondAwaited : (passed : ℕ) → List ℕ
+secondAwaited passed = 0xA5 ∷ 5 ∷ 0 ∷ 0 ∷ 0 ∷ 0 ∷ 1 ∷ replicate 7 0 ++ 5 ∷ 0 ∷ 0 ∷ 0 ∷ 1 ∷ 0 ∷ 0 ∷ 0 ∷ 0 ∷ 0 ∷ passed ∷ []
+
+-- the reply to the first block once more: nothing is sent, and the record changes in its last byte alone (document 02, A4)
+abbrev pub passedReply : StepLeft
+passedReply = record { step = record { number = SERVED; entry = 0; length = 0 }; host = secondAwaited 1; packet = replicate LONG-SIZE 0 }
 
 -- what the calls leave, byte for byte
 pub record CallsHold : Type 0 where
   pub records : (session : Session) → deviceBytes (benchIn session) ≡ head ++ (sessionBytes session ++ components)
-  pub idle-session : sessionBytes idle ≡ replicate 7 0
-  pub offered-session : sessionBytes offered ≡ 1 ∷ 0 ∷ 0xA5 ∷ 0 ∷ 0 ∷ 0 ∷ 0 ∷ []
-  pub receiving-session : sessionBytes receivingOwing ≡ 2 ∷ 0 ∷ 0xA5 ∷ 0x35 ∷ 0x12 ∷ 1 ∷ 0x5A ∷ []
+  pub idle-session : sessionBytes idle ≡ replicate 67 0
+  pub offered-session : sessionBytes offered ≡ 1 ∷ 0 ∷ 0xA5 ∷ 0 ∷ 0 ∷ 0 ∷ 0 ∷ replicate 60 0
+  pub receiving-session : sessionBytes receivingOwing ≡ 2 ∷ 0 ∷ 0xA5 ∷ 0x35 ∷ 0x12 ∷ 1 ∷ 0x5A ∷ block
   pub sets-up : setUpCall (replicate DEVICE-SIZE 0) 0x0042 list 2 128 ≡ leaves SERVED (deviceBytes (benchIn idle))
   pub versions : versionsCall (deviceBytes (benchIn idle)) (replicate LONG-SIZE 9) ≡ leaves SERVED (flatten (firstReplies bench.examples))
   pub accepts : offerCall (deviceBytes (benchIn idle)) 128 offer (replicate REPLIES-SIZE 9)
@@ -225,13 +259,18 @@ pub record CallsHold : Type 0 where
       ≡ record { number = SERVED; count = 1; device = deviceBytes (benchIn receivingOwing); replies = taken }
   pub writes : contentCallStaging (deviceBytes (benchIn offeredOwing)) (replicate 128 0) block (replicate REPLIES-SIZE 9)
       ≡ 1 ∷ replicate 63 0xFF ++ replicate 64 0
+  pub again : contentCall (deviceBytes (benchIn afterMiddle)) (replicate 128 7) middle (replicate REPLIES-SIZE 9)
+      ≡ record { number = SERVED; count = 1; device = deviceBytes (benchIn afterMiddle); replies = filledTo REPLIES-SIZE (4 ∷ []) }
+  pub again-writes : contentCallStaging (deviceBytes (benchIn afterMiddle)) (replicate 128 7) middle (replicate REPLIES-SIZE 9) ≡ replicate 128 7
+  pub judges : contentCall (deviceBytes (benchIn strayed)) (replicate 128 7) middle (replicate REPLIES-SIZE 9)
+      ≡ record { number = 0x4401; count = 0; device = deviceBytes (benchIn strayed); replies = replicate REPLIES-SIZE 0 }
   pub resets : resetCall (deviceBytes (benchIn receivingOwing)) ≡ leaves SERVED (deviceBytes (benchIn idle))
   pub refuses : offerCall (deviceBytes (benchIn idle)) 127 offer (replicate REPLIES-SIZE 9)
       ≡ record { number = 0x4402; count = 0; device = deviceBytes (benchIn idle); replies = replicate REPLIES-SIZE 0 }
   pub sending : hostBytes sendingHost
-      ≡ 0xA5 ∷ 5 ∷ 2 ∷ 0 ∷ 0 ∷ 0 ∷ 4 ∷ 0 ∷ 0 ∷ 0 ∷ 3 ∷ 0 ∷ 0 ∷ 0 ∷ 0x2C ∷ 0x01 ∷ 0 ∷ 0 ∷ 2 ∷ 0 ∷ 0 ∷ 0 ∷ 0 ∷ 1 ∷ []
+      ≡ 0xA5 ∷ 5 ∷ 2 ∷ 0 ∷ 0 ∷ 0 ∷ 4 ∷ 0 ∷ 0 ∷ 0 ∷ 3 ∷ 0 ∷ 0 ∷ 0 ∷ 0x2C ∷ 0x01 ∷ 0 ∷ 0 ∷ 2 ∷ 0 ∷ 0 ∷ 0 ∷ 0 ∷ 1 ∷ 0 ∷ []
   pub failed : hostBytes failedHost
-      ≡ 0xA5 ∷ 7 ∷ 1 ∷ 0 ∷ 0 ∷ 0 ∷ 5 ∷ 0 ∷ 0 ∷ 0 ∷ 0 ∷ 0 ∷ 0 ∷ 0 ∷ 5 ∷ 0 ∷ 0 ∷ 0 ∷ 1 ∷ 0 ∷ 0 ∷ 0 ∷ 1 ∷ 0 ∷ []
+      ≡ 0xA5 ∷ 7 ∷ 1 ∷ 0 ∷ 0 ∷ 0 ∷ 5 ∷ 0 ∷ 0 ∷ 0 ∷ 0 ∷ 0 ∷ 0 ∷ 0 ∷ 5 ∷ 0 ∷ 0 ∷ 0 ∷ 1 ∷ 0 ∷ 0 ∷ 0 ∷ 1 ∷ 0 ∷ 0 ∷ []
   pub kept : contentsBytes contents (record { entry = 1; block = 0 }) 187
       ≡ 0 ∷ 0 ∷ 2 ∷ 56 ∷ 0 ∷ 0 ∷ 0 ∷ 74 ∷ 0 ∷ 0 ∷ 0 ∷ 2 ∷ 0 ∷ 0 ∷ 0 ∷ 130 ∷ 0 ∷ 0 ∷ 0 ∷ 74 ∷ 0 ∷ 0 ∷ 0 ∷ 2 ∷ 0 ∷ 0 ∷ 0
       ∷ replicate ((OFFER-LIMIT - 2) * BODY-SIZE) 0 ++ 1 ∷ 0 ∷ 0 ∷ 0 ∷ 0 ∷ 0 ∷ 0 ∷ 0 ∷ 187 ∷ replicate 7 0
@@ -248,6 +287,15 @@ pub record CallsHold : Type 0 where
   pub starts : freshCall (replicate HOST-SIZE 9) 0xA5 ≡ leaves SERVED freshOne
   pub begins : stepCall freshOne small [] (replicate LONG-SIZE 9) ≡ begun
   pub begins-checked : stepCheckedCall freshOne smallContents small [] (replicate LONG-SIZE 9) ≡ begun
+  pub passes-reply : stepCall (secondAwaited 0) pair (replicate SHORT-SIZE 0) (replicate LONG-SIZE 9) ≡ passedReply
+  pub passes-checked : stepCheckedCall (secondAwaited 0) pairContents pair (replicate SHORT-SIZE 0) (replicate LONG-SIZE 9) ≡ passedReply
+  pub passes-once : stepCall (secondAwaited 1) pair (replicate SHORT-SIZE 0) (replicate LONG-SIZE 9)
+      ≡ record {
+        step = record { number = SERVED; entry = 0; length = 0 };
+        host = 0xA5 ∷ 7 ∷ 2 ∷ replicate 11 0 ++ 5 ∷ 0 ∷ 0 ∷ 0 ∷ 1 ∷ replicate 6 0;
+        packet = replicate LONG-SIZE 0;
+      }
+  pub still-runs : reportCall (secondAwaited 1) ≡ record { number = SERVED; completed = 0; mask = 0; packets = 5; passes = 1; ending = 0; status = 0 }
   pub reports : reportCall (hostBytes sendingHost)
       ≡ record { number = SERVED; completed = 2; mask = 3; packets = 300; passes = 2; ending = 0; status = 0 }
   pub reports-failed : reportCall (hostBytes failedHost)
@@ -265,7 +313,7 @@ pub record CallsHold : Type 0 where
   pub lists-no-more : listCall list COMPONENT-LIMIT listedTwo ≡ leaves 0x4304 list
   pub tells-two : componentCall (deviceBytes (benchIn idle)) 1
       ≡ record { number = SERVED; id = 2; running = minorOne 1; base = 64; length = 64; pending = 0; staged = noVersion }
-  pub tells-staged : componentCall (head ++ (replicate 7 0 ++ stagedComponents)) 0
+  pub tells-staged : componentCall (head ++ (replicate 67 0 ++ stagedComponents)) 0
       ≡ record { number = SERVED; id = 1; running = minorOne 2; base = 0; length = 64; pending = 1; staged = minorOne 3 }
   pub tells-no-more : componentCall (deviceBytes (benchIn idle)) 2 ≡ noComponent 0x4304
   pub tells-of-none : componentCall (replicate DEVICE-SIZE 0) 0 ≡ noComponent 0x4401

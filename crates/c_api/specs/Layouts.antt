@@ -1,4 +1,5 @@
--- The layouts of include/cfu.h in literal bytes, with every byte of every number another, so that no other layout that reads back can take their place.
+-- The layouts of include/cfu.h in literal bytes, with every byte of every number and of the previous packet another, so that no other layout that reads back can
+-- take their place.
 use Prim.Native.Nat.{ℕ, _*_, _-_}
 use mathlib.Core.Path.{_≡_}
 use mathlib.Core.Bool.{true, false}
@@ -15,7 +16,7 @@ use Rattle.device_component.specs.declared.record.Component.{Component}
 use Rattle.device_component.specs.declared.record.Fixed.{Fixed}
 use Rattle.device_component.specs.declared.record.Listed.{Listed}
 use Rattle.device_component.specs.declared.record.Staged.the-variants.{Pending}
-use Rattle.device_session.specs.Effect.{noReplies}
+use Rattle.device_session.specs.Effect.{blankPacket, noReplies}
 use Rattle.device_session.specs.declared.effect.Replies.{Replies}
 use Rattle.device_session.specs.declared.effect.Session.{Session}
 use Rattle.device_session.specs.declared.owed.Owed.the-variants.{Nothing, Token}
@@ -25,7 +26,7 @@ use Rattle.device.specs.declared.record.Device.{Device}
 use Rattle.device_component_bytes.specs.Layout.{COMPONENT-SIZE, componentBytes, listedIn}
 use Rattle.device_session_bytes.specs.Layout.{sessionBytes}
 use Rattle.device_bytes.specs.Layout.{deviceBytes}
-use Rattle.host_record.specs.Record.{freshHost}
+use Rattle.host_record.specs.Record.{sentAt, passedAt, freshHost}
 use Rattle.host_record.specs.declared.record.Host.{Host}
 use Rattle.host_record.specs.declared.record.Place.{Place}
 use Rattle.host_record.specs.declared.record.Turn.{Turn}
@@ -43,12 +44,20 @@ fixed = record { id = 1; region = record { base = record { 0 = 0x09080706 }; len
 abbrev pub pending : Component
 pending = record { fixed = fixed; running = record { 0 = 0x05040302 }; staged = Pending (record { 0 = 0x11100F0E }) }
 
--- two sessions: offered, owing nothing; receiving, owing a READY
+-- the 60 bytes of a packet that a session holds
+abbrev pub packet : List ℕ
+packet =
+    9 ∷ 10 ∷ 11 ∷ 12 ∷ 13 ∷ 14 ∷ 15 ∷ 16 ∷ 17 ∷ 18 ∷ 19 ∷ 20 ∷ 21 ∷ 22 ∷ 23 ∷ 24 ∷ 25 ∷ 26 ∷ 27 ∷ 28
+    ∷ 29 ∷ 30 ∷ 31 ∷ 32 ∷ 33 ∷ 34 ∷ 35 ∷ 36 ∷ 37 ∷ 38 ∷ 39 ∷ 40 ∷ 41 ∷ 42 ∷ 43 ∷ 44 ∷ 45 ∷ 46 ∷ 47 ∷ 48
+    ∷ 49 ∷ 50 ∷ 51 ∷ 52 ∷ 53 ∷ 54 ∷ 55 ∷ 56 ∷ 57 ∷ 58 ∷ 59 ∷ 60 ∷ 61 ∷ 62 ∷ 63 ∷ 64 ∷ 65 ∷ 66 ∷ 67 ∷ 68
+    ∷ []
+
+-- two sessions: offered, owing nothing and holding no packet; receiving, owing a READY and holding one
 abbrev pub offered : Session
-offered = record { stage = Offered (record { slot = 3; token = 4 }); owed = Nothing }
+offered = record { stage = Offered (record { slot = 3; token = 4 }); owed = Nothing; previous = blankPacket }
 
 abbrev pub receiving : Session
-receiving = record { stage = Receiving (record { slot = 3; token = 4; next = 0x0605 }); owed = Token 8 }
+receiving = record { stage = Receiving (record { slot = 3; token = 4; next = 0x0605 }); owed = Token 8; previous = packet }
 
 -- a device that lists one such component and receives
 abbrev pub device : Device
@@ -74,7 +83,8 @@ stages =
     ∷ Listing
     ∷ Offering turn
     ∷ Waiting turn
-    ∷ Sending place
+    ∷ Sending (sentAt place)
+    ∷ Sending (passedAt place)
     ∷ Closing
     ∷ Ended end.Done
     ∷ Ended (end.Status 9)
@@ -86,7 +96,7 @@ stages =
 abbrev pub host : Host
 host = record {
   token = 1;
-  stage = Sending (record { entry = 0x05040302; block = 0x09080706 });
+  stage = Sending (passedAt (record { entry = 0x05040302; block = 0x09080706 }));
   mask = 0x0D0C0B0A;
   packets = 0x11100F0E;
   passes = 0x15141312;
@@ -119,8 +129,8 @@ pub record LayoutsHold : Type 0 where
   pub component : componentBytes pending ≡ 1 ∷ 2 ∷ 3 ∷ 4 ∷ 5 ∷ 6 ∷ 7 ∷ 8 ∷ 9 ∷ 10 ∷ 11 ∷ 12 ∷ 13 ∷ 1 ∷ 14 ∷ 15 ∷ 16 ∷ 17 ∷ []
   pub listed : listedIn (1 ∷ 2 ∷ 3 ∷ 4 ∷ 5 ∷ 6 ∷ 7 ∷ 8 ∷ 9 ∷ 10 ∷ 11 ∷ 12 ∷ 13 ∷ []) ≡ record { fixed = fixed; running = record { 0 = 0x05040302 } }
   -- the session, and the device's record around both
-  pub offering : sessionBytes offered ≡ 1 ∷ 3 ∷ 4 ∷ 0 ∷ 0 ∷ 0 ∷ 0 ∷ []
-  pub receives : sessionBytes receiving ≡ 2 ∷ 3 ∷ 4 ∷ 5 ∷ 6 ∷ 1 ∷ 8 ∷ []
+  pub offering : sessionBytes offered ≡ 1 ∷ 3 ∷ 4 ∷ 0 ∷ 0 ∷ 0 ∷ 0 ∷ replicate 60 0
+  pub receives : sessionBytes receiving ≡ 2 ∷ 3 ∷ 4 ∷ 5 ∷ 6 ∷ 1 ∷ 8 ∷ packet
   pub records : deviceBytes device
       ≡ 1 ∷ 2 ∷ 3 ∷ 4 ∷ 5 ∷ 6 ∷ 7 ∷ sessionBytes receiving ++ (componentBytes pending ++ replicate ((COMPONENT-LIMIT - 1) * COMPONENT-SIZE) 0)
   -- the stages and ends of a host, its record, and the fresh one with token 0
@@ -131,6 +141,7 @@ pub record LayoutsHold : Type 0 where
       ∷ (3 ∷ 1 ∷ 2 ∷ 3 ∷ 4 ∷ 5 ∷ 6 ∷ 7 ∷ 8 ∷ [])
       ∷ (4 ∷ 1 ∷ 2 ∷ 3 ∷ 4 ∷ 5 ∷ 6 ∷ 7 ∷ 8 ∷ [])
       ∷ (5 ∷ 1 ∷ 2 ∷ 3 ∷ 4 ∷ 5 ∷ 6 ∷ 7 ∷ 8 ∷ [])
+      ∷ (5 ∷ 1 ∷ 2 ∷ 3 ∷ 4 ∷ 5 ∷ 6 ∷ 7 ∷ 8 ∷ [])
       ∷ (6 ∷ 0 ∷ 0 ∷ 0 ∷ 0 ∷ 0 ∷ 0 ∷ 0 ∷ 0 ∷ [])
       ∷ (7 ∷ 0 ∷ 0 ∷ 0 ∷ 0 ∷ 0 ∷ 0 ∷ 0 ∷ 0 ∷ [])
       ∷ (7 ∷ 1 ∷ 0 ∷ 0 ∷ 0 ∷ 9 ∷ 0 ∷ 0 ∷ 0 ∷ [])
@@ -139,7 +150,7 @@ pub record LayoutsHold : Type 0 where
       ∷ (7 ∷ 4 ∷ 0 ∷ 0 ∷ 0 ∷ 0 ∷ 0 ∷ 0 ∷ 0 ∷ [])
       ∷ []
   pub hosts : hostBytes host
-      ≡ 1 ∷ 5 ∷ 2 ∷ 3 ∷ 4 ∷ 5 ∷ 6 ∷ 7 ∷ 8 ∷ 9 ∷ 10 ∷ 11 ∷ 12 ∷ 13 ∷ 14 ∷ 15 ∷ 16 ∷ 17 ∷ 18 ∷ 19 ∷ 20 ∷ 21 ∷ 1 ∷ 0 ∷ []
+      ≡ 1 ∷ 5 ∷ 2 ∷ 3 ∷ 4 ∷ 5 ∷ 6 ∷ 7 ∷ 8 ∷ 9 ∷ 10 ∷ 11 ∷ 12 ∷ 13 ∷ 14 ∷ 15 ∷ 16 ∷ 17 ∷ 18 ∷ 19 ∷ 20 ∷ 21 ∷ 1 ∷ 0 ∷ 1 ∷ []
   pub fresh : hostBytes (freshHost 0) ≡ replicate HOST-SIZE 0
   -- the contents of a checked bundle: row, entry, count, bodies, the block in hand, the cursor
   pub keeps : contentsBytes contents hand 0x1C1B1A1918171615

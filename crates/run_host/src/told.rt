@@ -3,6 +3,7 @@ use host_bytes::FIRST_AT;
 use host_bytes::LANDED_AT;
 use host_bytes::MASK_AT;
 use host_bytes::PACKETS_AT;
+use host_bytes::PASSED_AT;
 use host_bytes::PASSES_AT;
 use host_bytes::SECOND_AT;
 use host_bytes::SKIPPED_AT;
@@ -38,7 +39,8 @@ pub fn step(a: StepAnswer) {
     pick(b"nothing; |sent %*; ", (0 < n) as u8, first(&packet, n));
 }
 
-// The bytes of a record: stage or end with its two numbers, token, mask, packets, passes, and whether this pass had a SKIP and a completed image.
+// The bytes of a record: stage or end with its two numbers, token, mask, packets, passes, whether this pass had a SKIP and a completed image, and whether a
+// reply was passed over.
 pub fn record(b: &[u8]) {
     let stage = byte_at(b, STAGE_START);
     let first = rest(b, FIRST_AT as usize);
@@ -58,5 +60,6 @@ pub fn record(b: &[u8]) {
     form(b", packets %4", rest(b, PACKETS_AT as usize));
     form(b", passes %4", rest(b, PASSES_AT as usize));
     form(b"{|, skipped}", rest(b, SKIPPED_AT));
-    form(b"{|, landed}\n", rest(b, LANDED_AT));
+    form(b"{|, landed}", rest(b, LANDED_AT));
+    form(b"{|, passed}\n", rest(b, PASSED_AT));
 }

@@ -19,18 +19,26 @@ use device_session::owed::Owed;
 use device_session_bytes::NEXT_AT;
 use device_session_bytes::OWED_AT;
 use device_session_bytes::OWED_TOKEN_AT;
+use device_session_bytes::PREVIOUS_AT;
 use device_session_bytes::SLOT_AT;
 use device_session_bytes::TOKEN_AT;
+use host_record::report::Progress;
+use host_record::report::Report;
 use run_print::form::form;
 use run_print::form::pick;
+use run_print::line;
+use run_print::names;
+use run_print::part;
 use run_print::rest;
 use run_print::text;
 use std::num::wrapping_add_usize;
 use wire::codes;
 use wire::codes::COMPONENT_LIMIT;
+use wire::codes::LONG_SIZE;
 use wire::codes::SHORT_SIZE;
 use wire::words::byte_at;
 use wire::words::least;
+use wire::words::same;
 
 pub fn set_up(v: SetupVerdict) {
     form(
@@ -116,14 +124,15 @@ fn reply(n: usize, r: &[u8]) {
     }
 }
 
-// A packet of the host, and what the device answers.
-pub fn exchange(p: &[u8], r: Refusal, replies: Replies) {
+// A packet of the host, which arrives for the first time or again, and what the device answers.
+pub fn exchange(p: &[u8], again: bool, r: Refusal, replies: Replies) {
     let bytes = replies.reply;
     pick(
-        b"content flags %a%A sequence %2: |information %1: |extended %1: |offer %B%1: ",
+        b"content flags %a%A sequence %2|information %1|extended %1|offer %B%1",
         kind_of(p),
         p,
     );
+    pick(b": |, again: ", again as u8, p);
     if replies.due {
         reply(p.len(), &bytes);
     } else {
@@ -135,7 +144,13 @@ pub fn exchange(p: &[u8], r: Refusal, replies: Replies) {
     }
 }
 
-// A session: its stage, and what is owed.
+// The previous packet of a session, where it is not blank.
+fn previous(held: &[u8]) {
+    let blank = [0u8; LONG_SIZE];
+    pick(b", previous %*|", same(held, &blank) as u8, held);
+}
+
+// A session: its stage, what is owed, and the previous packet.
 fn session(b: &[u8]) {
     let stage = byte_at(b, 0);
     pick(
@@ -150,6 +165,7 @@ fn session(b: &[u8]) {
         byte_at(b, OWED_AT),
         rest(b, OWED_TOKEN_AT),
     );
+    previous(part(b, PREVIOUS_AT, LONG_SIZE));
 }
 
 // A component: its id, running version, region, and what is staged.
@@ -179,6 +195,25 @@ pub fn record(b: &[u8]) {
         i += 1;
     }
     text(b"\n");
+}
+
+// How far a host is, or how it ended.
+fn progress(p: Progress) {
+    match p {
+        Progress::Running => text(b"running"),
+        Progress::Ended(e) => pick(b"done|H1 status %1|H2|H3|H4", e.number(), &[e.status()]),
+    }
+}
+
+// A host's report.
+pub fn report(r: Report) {
+    let p = r.progress;
+    progress(p);
+    line::decimal32(names::PACKETS, r.packets);
+    line::decimal32(names::PASSES, r.passes);
+    line::decimal32(names::COMPLETED, r.completed);
+    line::hex32(names::MASK, r.mask, 2);
+    line::word(names::END);
 }
 
 // What a run leaves: the record, and the bytes of the staging buffer.

@@ -3,19 +3,13 @@ use device::record::Device;
 use device_bytes::DEVICE_SIZE;
 use device_bytes::device_bytes;
 use device_bytes::fields_in;
-use host_record::report::Progress;
-use host_record::report::Report;
 use run_print::first;
 use run_print::form::form;
-use run_print::form::pick;
-use run_print::line;
-use run_print::names;
 use run_print::part;
 use run_print::rest;
 use run_print::script::FRAMES;
 use run_print::script::PAYLOAD_SIZE;
 use run_print::script::next;
-use run_print::text;
 use run_script::case;
 use run_script::tell;
 use update::RunRefusal;
@@ -33,29 +27,12 @@ fn refusal(r: RunRefusal) {
     }
 }
 
-fn progress(p: Progress) {
-    match p {
-        Progress::Running => text(b"running"),
-        Progress::Ended(e) => pick(b"done|H1 status %1|H2|H3|H4", e.number(), &[e.status()]),
-    }
-}
-
-fn report(r: Report) {
-    let p = r.progress;
-    progress(p);
-    line::decimal32(names::PACKETS, r.packets);
-    line::decimal32(names::PASSES, r.passes);
-    line::decimal32(names::COMPLETED, r.completed);
-    line::hex32(names::MASK, r.mask, 2);
-    line::word(names::END);
-}
-
 fn run_whole(bundle: &[u8], token: u8, d: Device, staging: &mut [u8]) -> Device {
     let a = update::run(bundle, token, d, staging);
     let r = a.refusal;
     let told = a.report;
     refusal(r);
-    report(told);
+    tell::report(told);
     a.device
 }
 
@@ -87,7 +64,7 @@ fn main() {
         if !f.whole {
             return;
         }
-        if f.kind != b'#' {
+        if f.kind == b'R' {
             run_case(first(&payload, f.len));
         }
         k += 1;

@@ -320,8 +320,7 @@ module _ (b : List ℕ) (token : ℕ) (replies : ℕ → List ℕ) (α : Accepte
   known-at (suc k) =
       let w = known-at k in
       subst (λ (x : Step). KnownAt b (x .host) (x .host .stage) (traceAfter x (replies k) (at k .awaited) (at k .trace)) (awaitedAfter x (at k .awaited)) × (length (awaitedAfter x (at k .awaited)) ≤ 1))
-      (sym (step-at b token replies α s t k))
-      (
+      (sym (step-at b token replies α s t k)) (
         after-by b α (at k .host) (at k .trace) (at k .awaited) (replies k) (at k .host .stage) refl (ready-at b token replies α s t k) (w .0) (w .1),
         one-awaited (passesOver (moved b (moveAt b token replies α s t k))) (at k .awaited) _ (w .1)
             (one-sent b (moveAt b token replies α s t k .host .token) (moveAt b token replies α s t k .action)),

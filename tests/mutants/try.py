@@ -22,7 +22,7 @@ CRATES = ['wire', 'wire_offer', 'wire_content', 'wire_version', 'crc16', 'image'
           'device_receiving', 'device', 'device_rules', 'bundle_records', 'bundle_layout', 'bundle', 'host_record', 'host_table', 'host_decide', 'host_packet', 'host',
           'update_passes', 'update']
 # the statements that compute, and what they stand on
-PROOFS = {'wire': ['Tests'], 'device_component': ['record/Fits', 'record/Ranges'], 'device_session': ['effect/Laws', 'effect/Ranges'], 'device': ['Bench'],
+PROOFS = {'wire': ['Tests', 'Bounds'], 'device_component': ['record/Fits', 'record/Ranges'], 'device_session': ['effect/Laws', 'effect/Ranges'], 'device': ['Bench'],
           'device_rules': ['Examples'], 'update': ['Fitting', 'Goodness', 'Bench', 'Cases']}
 
 

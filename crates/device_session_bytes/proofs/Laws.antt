@@ -34,12 +34,8 @@ session-sized t h =
     ∙ ap₂ (λ (m n : ℕ). m + n) (stage-sized (t .stage)) (length-append (owedBytes (t .owed)) (t .previous) ∙ ap₂ (λ (m n : ℕ). m + n) (owed-sized (t .owed)) h)
 
 -- the bytes with a copy in their part from `at` on
-abbrev pub put : (at k : ℕ) → (out last : List ℕ) → List ℕ
+abbrev put : (at k : ℕ) → (out last : List ℕ) → List ℕ
 put at k out last = take at out ++ (last ++ drop k (drop at out))
-
--- they stay as many
-pub put-sized : (at k : ℕ) (out last : List ℕ) → length last ≡ length (take k (drop at out)) → length (put at k out last) ≡ length out
-put-sized at k out last e = simp (length-append, length-take, length-drop) (omega (arith, simp (length-take, length-drop) at e))
 
 -- a session, from copies of its parts, one behind the other
 pub session-of : (t : Session) (out s o x y z : List ℕ) → length out ≡ SESSION-SIZE → length (t .previous) ≡ LONG-SIZE → s ≡ stageBytes (t .stage) → o ≡ owedBytes (t .owed)

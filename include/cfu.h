@@ -51,8 +51,15 @@ extern "C" {
 /* ---- The version of this interface ---- */
 
 /* The major counts changes that a program must follow, the minor what was only added. */
-#define CFU_INTERFACE_MAJOR 1
+#define CFU_INTERFACE_MAJOR 2
 #define CFU_INTERFACE_MINOR 0
+
+/* What a program that was written for major 1 has to follow:
+ *   - the records are longer, a device's 200 bytes in place of 140, a host's 25 in place of 24, and a device's components stand at 74 in place of 14. Lend
+ *     buffers of CFU_DEVICE_SIZE and CFU_HOST_SIZE bytes. A record that older code left is refused by C1, as is any buffer of its length; its bytes in a longer
+ *     buffer are another record, which need not be refused. For a kept device reset it with the older code, so that what is staged runs, and set it up anew
+ *     with this one. For a kept host let its update end with the older code, or begin again with cfu_host_fresh: its first packet, code 0, closes the session;
+ *   - a step of the host that has nothing to send need not be its end: see cfu_host_step. */
 
 /* ---- Versions of firmware ---- */
 
@@ -81,10 +88,11 @@ extern "C" {
 
 /* ---- Places in lent bytes, and the sizes of parts that stand there several times ---- */
 
-/* A device's record: its session, the ready-reply in it, the components. A component: its running version, its region (base, then length), whether a version is
- * staged (then that version). A component of set-up's list: what stands before that. */
+/* A device's record: its session, the ready-reply and the previous packet in it, the components. A component: its running version, its region (base, then
+ * length), whether a version is staged (then that version). A component of set-up's list: what stands before that. */
 #define CFU_DEVICE_SESSION_AT 7
 #define CFU_DEVICE_OWED_AT 12
+#define CFU_DEVICE_PREVIOUS_AT 14
 #define CFU_DEVICE_COMPONENTS_AT 74
 #define CFU_COMPONENT_SIZE 18
 #define CFU_COMPONENT_RUNNING_AT 1
@@ -107,13 +115,14 @@ extern "C" {
 #define CFU_CONTENTS_HAND_AT 87
 #define CFU_CONTENTS_CURSOR_AT 95
 
-/* A host's record: the stage and its two numbers, the mask, and the two flags of the pass. */
+/* A host's record: the stage and its two numbers, the mask, the two flags of the pass, and the flag of a reply that was passed over. */
 #define CFU_HOST_STAGE_AT 1
 #define CFU_HOST_FIRST_AT 2
 #define CFU_HOST_SECOND_AT 6
 #define CFU_HOST_MASK_AT 10
 #define CFU_HOST_SKIPPED_AT 22
 #define CFU_HOST_LANDED_AT 23
+#define CFU_HOST_PASSED_AT 24
 
 /* ---- Limits ---- */
 
@@ -145,8 +154,9 @@ extern "C" {
 #define CFU_S4 0x5304
 
 /* Device. D1: a stage, an owed or a staged that no record has; a record that breaks S1 to S4, opens a session on a component that is not listed or is pending,
- * owes a ready-reply while idle, or has a staged version whose variant is not the running one or whose major and minor are lower. D2: another staging length
- * than at set-up. D3: a report of another length than 16 (offer channel) or 60 (content channel). */
+ * receives while the sequence of its previous packet is not just before the next one (65,535 is just before 0), owes a ready-reply while idle, or has a staged
+ * version whose variant is not the running one or whose major and minor are lower. D2: another staging length than at set-up. D3: a report of another length
+ * than 16 (offer channel) or 60 (content channel). */
 #define CFU_D1 0x4401
 #define CFU_D2 0x4402
 #define CFU_D3 0x4403
@@ -191,7 +201,7 @@ extern "C" {
 #define CFU_RUNNING 0
 #define CFU_DONE 1    /* the host came to its end; cfu_report.completed says how many offers the device took, which may be none */
 #define CFU_H1 0x4801 /* a content status other than 0; cfu_report.status has it */
-#define CFU_H2 0x4802 /* a reply that is not 16 bytes, or whose token or sequence is not the host's */
+#define CFU_H2 0x4802 /* a reply that is not 16 bytes, or whose token or sequence is not the one awaited, and that cfu_host_step does not pass over */
 #define CFU_H3 0x4803 /* a reply that the table of steps has no step for */
 #define CFU_H4 0x4804 /* a ninth BUSY for one offer in one pass */
 
@@ -234,7 +244,7 @@ extern "C" {
 #define CFU_ERROR_VERSION 0x07 /* the image's variant is not the running one, or its major and minor are lower */
 #define CFU_ERROR_INVALID_ADDR 0x09
 #define CFU_ERROR_NO_OFFER 0x0A
-#define CFU_ERROR_INVALID 0x0B
+#define CFU_ERROR_INVALID 0x0B /* also a block that comes again, unless it is a copy that cfu_device_content answers with CFU_SUCCESS */
 
 /* ---- Numbers that cross together ---- */
 
@@ -318,14 +328,14 @@ typedef struct cfu_written {
 typedef struct cfu_step {
     uint32_t number;
     uint32_t entry;  /* the entry that a bundle's row names */
-    uint32_t length; /* how many bytes of the packet to send: 0, 16 (offer channel) or 60 (content channel) */
+    uint32_t length; /* how many bytes of the packet to send: 16 (offer channel), 60 (content channel), or 0, which need not be the end */
 } cfu_step;
 
 typedef struct cfu_report {
     uint32_t number;
     uint32_t completed; /* how many offers were completed */
     uint32_t mask;      /* which: bit i for entry i, counted from 0 */
-    uint32_t packets;
+    uint32_t packets; /* how many the host made; what a bus delivers twice counts once */
     uint32_t passes;
     uint32_t ending;
     uint32_t status; /* the content status of H1, otherwise 0 */
@@ -367,14 +377,16 @@ typedef struct cfu_entry {
  *     7  stage (1): 0 idle, 1 offered, 2 receiving
  *     8  slot (1): the component's place in the list, from 0; 9 token (1), 10 next sequence (2)
  *    12  owed ready-reply (1): 0 none, 1 owed; 13 its token (1)
+ *    14  previous packet (CFU_LONG_SIZE): while receiving, the content packet of the block that was taken last
  *    74  CFU_COMPONENT_LIMIT times 18 bytes: id (1), running version (4), region base (4), region length (4), staged (1): 0 nothing, 1 pending; staged
  *        version (4)
- * Only these calls need to write one, and cfu_device_component reads a component. Fields that the stage does not have, the token where none is
- * owed and the staged version where nothing is staged are not looked at, whatever stands there; a call that writes the session or the component writes zero
- * there. A served offer call writes the session anew, a served content call the session and the component that it was on (the first while it was idle), set-up
- * and a reset the whole record; so a packet that changes nothing of the record may still put zeros for bytes that are not looked at. Bytes with another stage,
- * owed or staged than these are refused by D1, in the components that are not in use too, and so is a record that breaks the rules of a device. All zeros are
- * such: zero a record before set-up, and a refused set-up leaves one that no call serves.
+ * Only these calls need to write one, and cfu_device_component reads a component. Fields that the stage does not have, the token where none is owed and the
+ * staged version where nothing is staged are not looked at, whatever stands there; a call that writes the session or the component writes zero there. The
+ * previous packet alone stays as it is, looked at or not, until a block is taken, which writes its packet there, or the session begins or ends or code 0 comes,
+ * which write zeros; D1 looks at its sequence alone. A served offer call writes the session anew, a served content call the session and the component that it
+ * was on (the first while it was idle), set-up and a reset the whole record; so a packet that changes nothing of the record may still put zeros for bytes that
+ * are not looked at. Bytes with another stage, owed or staged than these are refused by D1, in the components that are not in use too, and so is a record that
+ * breaks the rules of a device. All zeros are such: zero a record before set-up, and a refused set-up leaves one that no call serves.
  */
 
 /*
@@ -414,6 +426,10 @@ cfu_replies cfu_device_offer(uint8_t *device, size_t device_len, const uint8_t *
  * Judges a report of the content channel: erases and writes in the staging buffer as the protocol says, and writes one or two replies: the reply to the
  * block, for the content channel, and after it, where a ready-reply was owed and the session is now idle, the READY, for the offer channel. Returns as
  * cfu_device_offer does, with a count of 1 or 2; a refusal leaves the staging buffer as it was.
+ *
+ * Some hubs deliver a packet twice. While receiving, a copy of the packet that was taken last, all of its 60 bytes, also those behind its data, is answered
+ * with CFU_SUCCESS, and nothing changes, however often it comes. Any other repeat gets an error and changes nothing either: one with a byte that differs, or of
+ * the first block, CFU_ERROR_INVALID, and one of the last block, whose session is over, CFU_ERROR_NO_OFFER.
  */
 cfu_replies cfu_device_content(uint8_t *device, size_t device_len, uint8_t *staging, size_t staging_len, const uint8_t *report, size_t report_len,
                                uint8_t *replies, size_t replies_len);
@@ -472,8 +488,9 @@ cfu_written cfu_bundle_write(const uint8_t *list, size_t list_len, const uint8_t
  *        done, 1 to 4 for H1 to H4) and the content status of H1, of which the low byte is read; what the stage does not use is written as zero and not read
  *    10  mask of completed offers (4), 14 packets (4), 18 passes (4)
  *    22  this pass had a SKIP (1), 23 a completed image (1): 0 or 1
- * Only these calls need to write one. A stage over 7, an end over 4 and a byte 22 or 23 over 1 are refused by N1, as is a record that does not fit the bundle.
- * All zeros are the fresh record with token 0.
+ *    24  a reply was passed over since the block in hand was sent (1): 0 or 1, looked at where the host sends and written as zero elsewhere
+ * Only these calls need to write one. A stage over 7, an end over 4 and a byte 22, 23 or 24 over 1, whatever the stage, are refused by N1, as is a record that
+ * does not fit the bundle. All zeros are the fresh record with token 0.
  */
 
 /*
@@ -484,9 +501,16 @@ uint32_t cfu_host_fresh(uint8_t *host, size_t host_len, uint8_t token);
 /*
  * One step: takes the reply to the packet before and writes the next packet into CFU_LONG_SIZE bytes, with zeros after it. At the first step none is
  * awaited, and the reply, which may be of length 0, is not looked at. Step again only once a reply has come: to notify on ready (extended, code 1) the device
- * may send it much later. Returns CFU_SERVED with the length to send, which is 0 once the host has ended, well or not (cfu_host_report); C1 (host), C3
- * (packet); B1 to B8 with the entry; or N1. A B row or N1 leaves the packet zeroed. Each step checks the whole bundle: for a session of many packets take
- * cfu_host_step_checked.
+ * may send it much later. Returns CFU_SERVED with the length to send; C1 (host), C3 (packet); B1 to B8 with the entry; or N1. A B row or N1 leaves the packet
+ * zeroed. Each step checks the whole bundle: for a session of many packets take cfu_host_step_checked.
+ *
+ * A length of 0 means that there is nothing to send, for one of two reasons, which cfu_host_report(host).ending tells apart:
+ *   - CFU_RUNNING: the reply was passed over. A bus that delivers a block twice also brings two replies to it; where a block that is not the first of its body
+ *     is awaiting its reply, and what comes is the reply to the block before once more (its sequence, CFU_SUCCESS), the host takes no notice of it and counts
+ *     nothing. Send nothing, wait for the next reply, and step with that one. Never step with the same reply again: one is passed over for each block, and a
+ *     second ends the host with H2;
+ *   - any other: the host has ended, well or not, and each further step answers 0 again.
+ * A loop that stops at the first 0 breaks off an update where a block came twice.
  */
 cfu_step cfu_host_step(uint8_t *host, size_t host_len, const uint8_t *bundle, size_t bundle_len, const uint8_t *reply, size_t reply_len, uint8_t *packet,
                        size_t packet_len);

@@ -253,7 +253,7 @@ static inline const char *cfu_sentence(uint32_t kind, uint32_t number)
         case CFU_H1:
             return "the device refused a block or its image";
         case CFU_H2:
-            return "the reply is not 16 bytes, or its token or sequence is not the host's";
+            return "the reply is not 16 bytes, or its token or sequence is not the one awaited";
         case CFU_H3:
             return "the reply has a status that does not answer what was sent";
         case CFU_H4:

@@ -331,15 +331,18 @@ hold("DEVICE_SIZE", DEVICE_HEAD_SIZE + COMPONENT_LIMIT * (LISTED.size + STAGED.s
 hold("HOST_SIZE", HOST.size)
 hold("COMPONENTS_SIZE", COMPONENT_LIMIT * RUNNING.size)
 for name, number in dict(
-        DEVICE_SESSION_AT=DEVICE.size, DEVICE_OWED_AT=DEVICE.size + SESSION.size, DEVICE_COMPONENTS_AT=DEVICE_HEAD_SIZE,
+        DEVICE_SESSION_AT=DEVICE.size, DEVICE_OWED_AT=DEVICE.size + SESSION.size,
+        DEVICE_PREVIOUS_AT=DEVICE.size + SESSION.size + OWED.size, DEVICE_COMPONENTS_AT=DEVICE_HEAD_SIZE,
         COMPONENT_SIZE=LISTED.size + STAGED.size, COMPONENT_RUNNING_AT=LISTED_AT.running, COMPONENT_REGION_AT=LISTED_AT.base, COMPONENT_STAGED_AT=LISTED.size,
         LISTED_SIZE=LISTED.size, RUNNING_SIZE=RUNNING.size, RUNNING_ID_AT=RUNNING_AT.id, BUNDLE_HEAD_SIZE=BUNDLE_HEAD.size, BUNDLE_ENTRY_SIZE=ENTRY.size,
         HOST_STAGE_AT=HOST_AT.stage, HOST_FIRST_AT=HOST_AT.first, HOST_SECOND_AT=HOST_AT.second, HOST_MASK_AT=HOST_AT.mask, HOST_SKIPPED_AT=HOST_AT.skipped,
-        HOST_LANDED_AT=HOST_AT.landed).items():
+        HOST_LANDED_AT=HOST_AT.landed, HOST_PASSED_AT=HOST_AT.passed).items():
     hold(name, number)
 hold_comment(r"\n \* +(\d+)  CFU_COMPONENT_LIMIT times (\d+) bytes: id \(1\), running version", DEVICE_HEAD_SIZE, LISTED.size + STAGED.size)
 hold_comment(r"(\d+)  stage \(1\): 0 idle", DEVICE.size)
 hold_comment(r"(\d+)  owed ready-reply", DEVICE.size + SESSION.size)
+hold_comment(r"(\d+)  previous packet \(CFU_LONG_SIZE\)", DEVICE.size + SESSION.size + OWED.size)
+hold_comment(r"a byte (\d+), (\d+) or (\d+) over 1,", HOST_AT.skipped, HOST_AT.landed, HOST_AT.passed)
 hold_comment(r"(\d+)  mask of completed offers \(4\), (\d+) packets \(4\), (\d+) passes \(4\)", HOST_AT.mask, HOST_AT.packets, HOST_AT.passes)
 hold_comment(r"the 16 bytes of the bundle at (\d+) \+ (\d+) i", BUNDLE_HEAD.size, ENTRY.size)
 for code, number in dict(

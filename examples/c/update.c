@@ -1,8 +1,10 @@
 /*
- * update.c: updates a simulated device from a bundle file, over the C interface include/cfu.h (document 01, "The device", "The host", E12 and E13).
+ * update.c: updates a simulated device from a bundle file, over the C interface include/cfu.h (document 01, "The device", "The host", E12 and E13; document 02,
+ * A4).
  *
- * Device and host stand in one process, and `exchange` stands for the bus between them. On a PC the host's half stays and `exchange` sends the packet over HID;
- * in a device the body of `exchange` is what the main loop does with a packet that has come.
+ * Device and host stand in one process, and a bus between them: `deliver` takes a packet to the device, `bring` takes the next reply to the host. On a PC the
+ * host's half stays, and the two write and read over HID; in a device `serve` is what the main loop does with a packet that has come. With --twice the bus has
+ * a hub that delivers blocks twice.
  *
  * Ends with status
  *     0  done: every offer of the bundle was completed
@@ -45,6 +47,7 @@ static const char USAGE[] =
     "  --staging BYTES             the device's staging memory (up to the end of the last region)\n"
     "  --token NUMBER              the host's token (0xA5)\n"
     "  --packets                   print each packet and each reply\n"
+    "  --twice                     deliver every block that is neither first nor last twice, as some hubs do\n"
     "  --help                      print this\n"
     "\n"
     "Numbers are decimal, or hexadecimal behind 0x. The end's status:\n"
@@ -115,10 +118,9 @@ static uint32_t show_device(const struct device *d)
 }
 
 /*
- * The bus: hands a packet to the device and brings its reply. A device that has served this host alone since its code 0 owes no ready-reply, so that one reply
- * comes for each packet; where none comes, a length of 0 lets the host end by H2.
+ * Answers a packet that has come. A device that has served this host alone since its code 0 owes no ready-reply, so that one reply comes for each packet.
  */
-static uint32_t exchange(struct device *d, const uint8_t *packet, size_t length, uint8_t *reply, size_t *reply_len)
+static uint32_t serve(struct device *d, const uint8_t *packet, size_t length, uint8_t *reply, size_t *reply_len)
 {
     uint8_t due[CFU_REPLIES_SIZE] = {0};
     cfu_replies r = length == CFU_SHORT_SIZE
@@ -127,6 +129,47 @@ static uint32_t exchange(struct device *d, const uint8_t *packet, size_t length,
     *reply_len = r.count > 0 ? CFU_SHORT_SIZE : 0;
     memcpy(reply, due, CFU_SHORT_SIZE);
     return r.number;
+}
+
+/* ---- The bus ---- */
+
+/* Replies on their way to the host, the oldest first. Never more than three: that to the copy of a block, that to the next block, and that to its copy. */
+enum { ON_THE_WAY = 3 };
+
+struct bus {
+    struct device *device;
+    bool twice; /* blocks that are neither first nor last are delivered twice */
+    uint8_t replies[ON_THE_WAY][CFU_SHORT_SIZE];
+    size_t lengths[ON_THE_WAY];
+    unsigned count;
+};
+
+static bool is_doubled(const struct bus *bus, const uint8_t *packet, size_t length)
+{
+    return bus->twice && length == CFU_LONG_SIZE && (packet[0] & (CFU_FLAG_FIRST_BLOCK | CFU_FLAG_LAST_BLOCK)) == 0;
+}
+
+/* Takes a packet to the device, once or twice; the replies are then on their way. */
+static uint32_t deliver(struct bus *bus, const uint8_t *packet, size_t length)
+{
+    uint32_t number = CFU_SERVED;
+    unsigned times = is_doubled(bus, packet, length) ? 2 : 1;
+    for (unsigned i = 0; i < times && number == CFU_SERVED && bus->count < ON_THE_WAY; i++, bus->count++)
+        number = serve(bus->device, packet, length, bus->replies[bus->count], &bus->lengths[bus->count]);
+    return number;
+}
+
+/* Takes the next reply to the host; where none comes, a length of 0 lets the host end by H2. */
+static size_t bring(struct bus *bus, uint8_t *reply)
+{
+    if (bus->count == 0)
+        return 0;
+    size_t length = bus->lengths[0];
+    memcpy(reply, bus->replies[0], CFU_SHORT_SIZE);
+    bus->count--;
+    memmove(bus->replies[0], bus->replies[1], bus->count * sizeof bus->replies[0]);
+    memmove(bus->lengths, bus->lengths + 1, bus->count * sizeof bus->lengths[0]);
+    return length;
 }
 
 /* ---- The bundle ---- */
@@ -203,23 +246,30 @@ static void end_line(struct progress *p)
     p->open = false;
 }
 
-static void tell_offer_packet(struct progress *p, const struct bundle *b, const uint8_t *packet, const uint8_t *reply, size_t reply_len, uint32_t pass)
+static void tell_offer_packet(struct progress *p, const uint8_t *packet, uint32_t pass)
 {
     cfu_offer_packet sent = cfu_read_offer(packet, CFU_SHORT_SIZE);
-    cfu_offer_reply got = cfu_read_offer_reply(reply, reply_len);
-    const char *answer = got.number == CFU_SERVED ? cfu_name(CFU_OF_OFFER_STATUS, got.status) : "no reply";
     if (sent.kind == CFU_KIND_INFORMATION && sent.signal.code == CFU_INFO_START_OFFER_LIST) {
         end_line(p);
         printf("pass %u\n", (unsigned)pass);
     }
+    if (!p->packets)
+        return;
+    print_bytes("->", packet, CFU_SHORT_SIZE);
+    if (sent.kind == CFU_KIND_OFFER)
+        printf("offer for component %u\n", (unsigned)sent.offer.id);
+    else if (sent.kind == CFU_KIND_INFORMATION)
+        printf("information: %s\n", cfu_sentence(CFU_OF_INFORMATION, sent.signal.code));
+    else
+        printf("extended: %s\n", cfu_sentence(CFU_OF_EXTENDED, sent.signal.code));
+}
+
+static void tell_offer_reply(struct progress *p, const struct bundle *b, const uint8_t *packet, const uint8_t *reply, size_t reply_len)
+{
+    cfu_offer_packet sent = cfu_read_offer(packet, CFU_SHORT_SIZE);
+    cfu_offer_reply got = cfu_read_offer_reply(reply, reply_len);
+    const char *answer = got.number == CFU_SERVED ? cfu_name(CFU_OF_OFFER_STATUS, got.status) : "no reply";
     if (p->packets) {
-        print_bytes("->", packet, CFU_SHORT_SIZE);
-        if (sent.kind == CFU_KIND_OFFER)
-            printf("offer for component %u\n", (unsigned)sent.offer.id);
-        else if (sent.kind == CFU_KIND_INFORMATION)
-            printf("information: %s\n", cfu_sentence(CFU_OF_INFORMATION, sent.signal.code));
-        else
-            printf("extended: %s\n", cfu_sentence(CFU_OF_EXTENDED, sent.signal.code));
         print_bytes("<-", reply, reply_len);
         printf("%s\n", answer);
     }
@@ -236,26 +286,41 @@ static void tell_offer_packet(struct progress *p, const struct bundle *b, const 
     printf("\n");
 }
 
-static void tell_content_packet(struct progress *p, const struct bundle *b, const uint8_t *packet, const uint8_t *reply, size_t reply_len)
+/* A block, and its copy where the bus delivers it twice. */
+static void tell_content_packet(struct progress *p, const struct bundle *b, const uint8_t *packet, bool doubled)
 {
     uint8_t data[CFU_DATA_SIZE];
     cfu_content sent = cfu_read_content(packet, CFU_LONG_SIZE, data, sizeof data);
-    cfu_content_reply got = cfu_read_content_reply(reply, reply_len);
     unsigned block = sent.sequence + 1u, blocks = (unsigned)records_of(b, p->entry);
-    bool last = (sent.flags & CFU_FLAG_LAST_BLOCK) != 0;
     if (p->packets) {
         print_bytes("->", packet, CFU_LONG_SIZE);
         printf("content: block %u, bytes %u at address %u\n", block, (unsigned)sent.length, (unsigned)sent.address);
-        print_bytes("<-", reply, reply_len);
-        printf("%s\n", got.number == CFU_SERVED ? cfu_sentence(CFU_OF_CONTENT_STATUS, got.status) : "no reply");
+        if (doubled) {
+            print_bytes("->", packet, CFU_LONG_SIZE);
+            printf("content: block %u again, bytes %u at address %u\n", block, (unsigned)sent.length, (unsigned)sent.address);
+        }
     } else if (p->terminal) {
         printf("\r  offer %u: block %u of %u, %u %%", (unsigned)p->entry, block, blocks, 100 * block / blocks);
         fflush(stdout);
         p->open = true;
     }
-    if (last && got.number == CFU_SERVED && got.status == CFU_SUCCESS) {
+}
+
+static void tell_content_reply(struct progress *p, const struct bundle *b, const uint8_t *packet, const uint8_t *reply, size_t reply_len, bool passed_over)
+{
+    uint8_t data[CFU_DATA_SIZE];
+    cfu_content sent = cfu_read_content(packet, CFU_LONG_SIZE, data, sizeof data);
+    cfu_content_reply got = cfu_read_content_reply(reply, reply_len);
+    if (p->packets) {
+        print_bytes("<-", reply, reply_len);
+        printf("%s", got.number == CFU_SERVED ? cfu_sentence(CFU_OF_CONTENT_STATUS, got.status) : "no reply");
+        if (passed_over)
+            printf(": block %u again, passed over", got.sequence + 1u);
+        printf("\n");
+    }
+    if ((sent.flags & CFU_FLAG_LAST_BLOCK) != 0 && !passed_over && got.number == CFU_SERVED && got.status == CFU_SUCCESS) {
         end_line(p);
-        printf("  offer %u: completed, blocks %u\n", (unsigned)p->entry, blocks);
+        printf("  offer %u: completed, blocks %u\n", (unsigned)p->entry, (unsigned)records_of(b, p->entry));
     }
 }
 
@@ -277,26 +342,40 @@ static int show_report(const struct bundle *b, cfu_report r)
     return status;
 }
 
-/* A whole session: a step, the bus, and the reply to the next step, until the host sends nothing more. */
-static int update(struct device *d, struct bundle *b, uint8_t token, struct progress p)
+/*
+ * A whole session: a step, the packet to the device, and the next reply to the next step, until the host has ended. A step that sends nothing is the end only
+ * where the host runs no more: where it runs, the reply was one of two to a block that the bus delivered twice, and the next reply is awaited.
+ */
+static int update(struct bus *bus, struct bundle *b, uint8_t token, struct progress p)
 {
-    uint8_t host[CFU_HOST_SIZE], packet[CFU_LONG_SIZE], reply[CFU_SHORT_SIZE];
-    size_t reply_len = 0;
+    uint8_t host[CFU_HOST_SIZE], packet[CFU_LONG_SIZE], sent[CFU_LONG_SIZE], reply[CFU_SHORT_SIZE];
+    size_t sent_len = 0, reply_len = 0; /* of the packet that was sent last, and of the reply that came last */
+    cfu_report report = {0};
     uint32_t number = cfu_host_fresh(host, sizeof host, token);
     while (number == CFU_SERVED) {
         cfu_step step =
             cfu_host_step_checked(host, sizeof host, b->contents, sizeof b->contents, b->bytes, b->length, reply, reply_len, packet, sizeof packet);
+        report = cfu_host_report(host, sizeof host);
         number = step.number;
-        if (number != CFU_SERVED || step.length == 0)
+        if (sent_len == CFU_SHORT_SIZE)
+            tell_offer_reply(&p, b, sent, reply, reply_len);
+        else if (sent_len == CFU_LONG_SIZE)
+            tell_content_reply(&p, b, sent, reply, reply_len, step.length == 0 && report.ending == CFU_RUNNING);
+        if (number != CFU_SERVED || report.ending != CFU_RUNNING)
             break;
-        number = exchange(d, packet, step.length, reply, &reply_len);
-        if (step.length == CFU_SHORT_SIZE)
-            tell_offer_packet(&p, b, packet, reply, reply_len, cfu_host_report(host, sizeof host).passes);
-        else
-            tell_content_packet(&p, b, packet, reply, reply_len);
+        if (step.length > 0) {
+            if (step.length == CFU_SHORT_SIZE)
+                tell_offer_packet(&p, packet, report.passes);
+            else
+                tell_content_packet(&p, b, packet, is_doubled(bus, packet, step.length));
+            number = deliver(bus, packet, step.length);
+            sent_len = step.length;
+            memcpy(sent, packet, sent_len);
+        }
+        reply_len = bring(bus, reply);
     }
     end_line(&p);
-    return number == CFU_SERVED ? show_report(b, cfu_host_report(host, sizeof host)) : refused(number, 0, CALL_REFUSED);
+    return number == CFU_SERVED ? show_report(b, report) : refused(number, 0, CALL_REFUSED);
 }
 
 /* ---- The command line ---- */
@@ -305,6 +384,7 @@ struct options {
     const char *file;
     uint8_t token;
     bool packets;
+    bool twice;
     bool staging; /* its length was given */
 };
 
@@ -402,6 +482,8 @@ static int take_options(int count, char **words, struct device *d, struct option
     for (int i = 1; i < count; i++) {
         if (strcmp(words[i], "--packets") == 0) {
             o->packets = true;
+        } else if (strcmp(words[i], "--twice") == 0) {
+            o->twice = true;
         } else if (strncmp(words[i], "--", 2) == 0) {
             if (i + 1 == count)
                 return wrong("%s: no such option, or its value is missing", words[i]);
@@ -445,7 +527,8 @@ static int run(struct device *d, const struct options *o)
         return refused(number, 0, CALL_REFUSED);
 
     struct progress p = {o->packets, !o->packets && isatty(fileno(stdout)), 1, false};
-    int status = update(d, &b, o->token, p);
+    struct bus bus = {.device = d, .twice = o->twice};
+    int status = update(&bus, &b, o->token, p);
 
     printf("device:\n");
     if ((number = show_device(d)) != CFU_SERVED)

@@ -1,5 +1,6 @@
 #!/usr/bin/env python3
-"""Runs the C example on good and damaged bundles and on devices that refuse, and checks its lines and its status against document 01.
+"""Runs the C example on good and damaged bundles, on devices that refuse and over a bus that delivers blocks twice, and checks its lines and its status against
+document 01 and document 02, A1 and A4.
 
 cases.py [--few] COMMAND..    COMMAND runs the example: its path, with a checker before it where there is one; --few takes the cases that lend every buffer once
 
@@ -59,12 +60,26 @@ def information(code, words):
     return asked(cfu.information(code, TOKEN), cfu.ACCEPT, f"information: {words}", "ACCEPT")
 
 
-def contents(data):
-    lines = []
-    for sequence, (address, flags, block) in enumerate(cfu.blocks(data)):
-        lines += [line("->", cfu.content(flags, sequence, address, block), f"content: block {sequence + 1}, bytes {len(block)} at address {address}"),
-                  line("<-", cfu.content_reply(sequence), "taken")]
+def sent_blocks(records, twice=False, refused=None):
+    """The lines of a body's blocks. records: (address, data). twice: those that are neither first nor last come twice, and of the two replies the second comes to
+    the host in place of the next block's. refused: the first block that the device refuses, by its place from 0, with the status and its words."""
+    lines, late = [], None
+    for sequence, (address, data) in enumerate(records):
+        flags = (cfu.FIRST if sequence == 0 else 0) | (cfu.LAST if sequence == len(records) - 1 else 0)
+        doubled = twice and flags == 0
+        for again in ("", " again")[:2 if doubled else 1]:
+            lines.append(line("->", cfu.content(flags, sequence, address, data), f"content: block {sequence + 1}{again}, bytes {len(data)} at address {address}"))
+        if late is not None:
+            lines.append(line("<-", cfu.content_reply(late), f"taken: block {late + 1} again, passed over"))
+        if refused and refused[0] == sequence:
+            return lines + [line("<-", cfu.content_reply(sequence, refused[1]), refused[2])]
+        lines.append(line("<-", cfu.content_reply(sequence), "taken"))
+        late = sequence if doubled else None
     return lines
+
+
+def contents(data):
+    return sent_blocks([(address, block) for address, _, block in cfu.blocks(data)])
 
 
 SENT_1 = offer(1, V130, token=TOKEN, need=2, least=V120 >> 8)
@@ -83,6 +98,45 @@ E13_PACKETS = (
     + asked(SENT_2, cfu.REJECT, "offer for component 2", "REJECT", cfu.SWAP_PENDING) + ["  offer 2: REJECT: the component awaits a reset"]
     + END)
 assert sum(text.startswith("->") for text in E13_PACKETS) == 13
+
+# A4: images that the writer cuts into 52, 10 and 2 bytes, in E13's order; and one of 200 bytes, in four blocks, of which two in a row come twice
+THREE_1, THREE_2, FOUR = image(1, V130), image(2, V120), image(2, V120, 200)
+THREES = bundle([(OFFER_1, cfu.written_body(THREE_1)), (OFFER_2, cfu.written_body(THREE_2))])
+FOURS = one(2, V120, body(FOUR))
+FOURS_DEVICE = ["--component", "2:1.1.0:0:200"]
+
+
+def cut_in_three(data):
+    return [(0, data[:52]), (52, data[52:62]), (62, data[62:])]
+
+
+def threes_packets(twice):
+    """E13's packets with a block more in each body."""
+    return (START
+            + ["pass 1"] + LIST + SKIPPED
+            + asked(SENT_2, cfu.ACCEPT, "offer for component 2", "ACCEPT") + ["  offer 2: ACCEPT"] + sent_blocks(cut_in_three(THREE_2), twice)
+            + ["  offer 2: completed, blocks 3"] + END
+            + ["pass 2"] + LIST
+            + asked(SENT_1, cfu.ACCEPT, "offer for component 1", "ACCEPT") + ["  offer 1: ACCEPT"] + sent_blocks(cut_in_three(THREE_1), twice)
+            + ["  offer 1: completed, blocks 3"]
+            + asked(SENT_2, cfu.REJECT, "offer for component 2", "REJECT", cfu.SWAP_PENDING) + ["  offer 2: REJECT: the component awaits a reset"]
+            + END)
+
+
+def one_offer(blocks):
+    """Component 2's offer alone, and its blocks, up to the last of them."""
+    return START + ["pass 1"] + LIST + asked(SENT_2, cfu.ACCEPT, "offer for component 2", "ACCEPT") + ["  offer 1: ACCEPT"] + blocks
+
+
+FOUR_BLOCKS = [(address, block) for address, _, block in cfu.blocks(FOUR)]
+assert [len(data) for _, data in FOUR_BLOCKS] == [52, 52, 52, 44]
+# Of 15 packets two are copied: the copies and the replies that are passed over are further lines.
+assert [sum(text.startswith(mark) for text in threes_packets(twice)) for twice in (False, True) for mark in ("->", "<-")] == [15, 15, 17, 17]
+assert [text.split("  ")[1] for text in sent_blocks(FOUR_BLOCKS, twice=True)] == [
+    "content: block 1, bytes 52 at address 0", "taken",
+    "content: block 2, bytes 52 at address 52", "content: block 2 again, bytes 52 at address 52", "taken",
+    "content: block 3, bytes 52 at address 104", "content: block 3 again, bytes 52 at address 104", "taken: block 2 again, passed over", "taken",
+    "content: block 4, bytes 44 at address 156", "taken: block 3 again, passed over", "taken"]
 
 AFTER = ["device after the reset:"]
 BOTH_NEW = ["device:", "  component 1 runs 1.2.0, pending 1.3.0", "  component 2 runs 1.1.0, pending 1.2.0"] + AFTER + [
@@ -135,10 +189,10 @@ def rows(command, work, name, data, text):
     checked(name, got in (ALL, NOT_ALL, ENDED) and head and offers == expected[1:] and err == "", f"status {got}; {err}{out}")
 
 
-def on_a_terminal(command, path):
+def on_a_terminal(command, name, args, wanted):
     """The progress line: written over by a carriage return, ended by a line end."""
     ours, theirs = pty.openpty()
-    done = subprocess.Popen(command + [path], stdout=theirs, stderr=theirs)
+    done = subprocess.Popen(command + args, stdout=theirs, stderr=theirs)
     os.close(theirs)
     out = b""
     while True:
@@ -150,8 +204,7 @@ def on_a_terminal(command, path):
             break
         out += part
     status = done.wait()
-    wanted = b"\r  offer 2: block 1 of 2, 50 %\r  offer 2: block 2 of 2, 100 %\r\n  offer 2: completed, blocks 2\r\n"
-    checked("a progress line on a terminal", status == ALL and out.count(wanted) == 1, out)
+    checked(f"a progress line on a terminal, {name}", status == ALL and out.count(wanted) == 1, out)
 
 
 def main():
@@ -184,6 +237,7 @@ def main():
         case("E13 in the other order", OTHER_ORDER, ALL, "pass 1", "  offer 1: ACCEPT", "  offer 1: completed, blocks 2", "  offer 2: ACCEPT",
              "  offer 2: completed, blocks 2", "done", report(2, 2, 9, 1), *BOTH_NEW)
         case("E13 packet by packet", E12, ALL, *E13_PACKETS, "done", report(2, 2, 13, 2), *BOTH_NEW, args=["--packets"])
+        case("blocks twice, packet by packet", THREES, ALL, *threes_packets(True), "done", report(2, 2, 15, 2), *BOTH_NEW, args=["--twice", "--packets"])
         case("a wrong CRC", one(2, V120, with_bad_crc(2, V120)), ENDED,
              "ended H1: the device refused a block or its image with status 0x05: the image's CRC is wrong", report(0, 1, 5, 1), *BOTH_OLD)
         if not few:
@@ -221,6 +275,8 @@ def further(command, work, case, refusal, report):
     case("a block past the region", one(2, V120, body_record(13, bytes(52))), ENDED,
          "ended H1: the device refused a block or its image with status 0x09: the block reaches past the region", report(0, 1, 4, 1), *BOTH_OLD)
 
+    doubled(case, report)
+
     # devices that set-up refuses
     refusal("S1", E12, SET_UP, "refused S1", args=["--staging", "65537"])
     refusal("S3 for id 0", E12, SET_UP, "refused S3", args=["--component", "0:1.0.0:0:64"])
@@ -239,14 +295,14 @@ def further(command, work, case, refusal, report):
 
     # command lines
     path = os.path.join(work, "E13")
-    for args in ([], ["--packets"], [path, path], [path, "--token"], [path, "--colour", "1"], [path, "--token", "256"], [path, "--token", "x"], [path, "--token", ""],
+    for args in ([], ["--packets"], ["--twice"], [path, "--twice=1"], [path, path], [path, "--token"], [path, "--colour", "1"], [path, "--token", "256"], [path, "--token", "x"], [path, "--token", ""],
                  [path, "--token", "-1"], [path, "--platform", "0x10000"], [path, "--platform", "0x"], [path, "--staging", "0x1000000"], [path, "--component", "1:1.2:0:64"],
                  [path, "--component", "1:1.2.0:0:64:"], [path, "--component", "1:1.2.0:0:4294967296"], [path, "--component", "1:256.2.0:0:64"],
                  [path] + (cfu.COMPONENT_LIMIT + 1) * ["--component", "1:1.2.0:0:64"]):
         got, out, err = ran(command, args)
         checked(f"the command line {args}", got == COMMAND_LINE and out == "" and err.startswith("update: ") and err.endswith("(update --help)\n"), f"status {got}; {err}{out}")
     got, out, err = ran(command, ["--help"])
-    checked("--help", got == 0 and all(f"\n  {status}  " in out for status in range(LOST + 1)) and err == "", out)
+    checked("--help", got == 0 and all(f"\n  {status}  " in out for status in range(LOST + 1)) and "\n  --twice " in out and err == "", out)
 
     # output that is lost
     for args in ([path], ["--help"], [os.path.join(work, "E13-in-the-other-order"), "--packets"]):
@@ -260,7 +316,39 @@ def further(command, work, case, refusal, report):
     for name, (data, text) in inspected.items():
         rows(command, work, f"tests/inspect, {name}", data, text)
     if "valgrind" not in command[0]:
-        on_a_terminal(command, path)
+        on_a_terminal(command, "E13", [path], b"\r  offer 2: block 1 of 2, 50 %\r  offer 2: block 2 of 2, 100 %\r\n  offer 2: completed, blocks 2\r\n")
+        blocks = b"".join(b"\r  offer 1: block %d of 4, %d %%" % (block, 25 * block) for block in range(1, 5))
+        on_a_terminal(command, "blocks twice", [os.path.join(work, "two-blocks-in-a-row-twice"), "--twice", *FOURS_DEVICE],
+                      b"  offer 1: ACCEPT\r\n" + blocks + b"\r\n  offer 1: completed, blocks 4\r\n")
+
+
+def doubled(case, report):
+    """A4: over a bus that delivers blocks twice the host passes over the second replies; nothing is counted, and without --packets no line tells of it."""
+    for name, args in (("once", []), ("twice", ["--twice"])):
+        case(f"blocks of three, {name}", THREES, ALL, "pass 1", "  offer 1: SKIP: its need is not met", "  offer 2: ACCEPT", "  offer 2: completed, blocks 3",
+             "pass 2", "  offer 1: ACCEPT", "  offer 1: completed, blocks 3", "  offer 2: REJECT: the component awaits a reset",
+             "done", report(2, 2, 15, 2), *BOTH_NEW, args=args)
+    case("blocks of three, once, packet by packet", THREES, ALL, *threes_packets(False), "done", report(2, 2, 15, 2), *BOTH_NEW, args=["--packets"])
+    case("two blocks in a row twice", FOURS, ALL, *one_offer(sent_blocks(FOUR_BLOCKS, twice=True)), "  offer 1: completed, blocks 4", *END, "done", report(1, 1, 8, 1),
+         "device:", "  component 2 runs 1.1.0, pending 1.2.0", *AFTER, "  component 2 runs 1.2.0", args=["--twice", "--packets", *FOURS_DEVICE])
+    # bodies of one and of two blocks have none that is neither first nor last
+    case("E13 over a bus that doubles", E12, ALL, *E13_PACKETS, "done", report(2, 2, 13, 2), *BOTH_NEW, args=["--twice", "--packets"])
+    case("one block over a bus that doubles", one(2, V120, body(image(2, V120, 52))), ALL,
+         *one_offer(sent_blocks([(0, image(2, V120, 52))], twice=True)), "  offer 1: completed, blocks 1", *END, "done", report(1, 1, 5, 1),
+         "device:", "  component 2 runs 1.1.0, pending 1.2.0", *AFTER, "  component 2 runs 1.2.0", args=["--twice", "--packets", "--component", "2:1.1.0:0:52"])
+    # a doubled block that the device refuses, the first of them and the one after it: the first of the two replies ends the host, the second does not reach it
+    past = "the block reaches past the region"
+    for name, records, block in (("the first", [(0, bytes(52)), (60, bytes(10)), (62, bytes(2))], 1),
+                                 ("the second", [(0, bytes(52)), (52, bytes(10)), (60, bytes(10)), (62, bytes(2))], 2)):
+        case(f"{name} doubled block past the region", one(2, V120, b"".join(body_record(*each) for each in records)), ENDED,
+             *one_offer(sent_blocks(records, twice=True, refused=(block, cfu.ERROR_INVALID_ADDR, past))),
+             f"ended H1: the device refused a block or its image with status 0x09: {past}", report(0, 1, 4 + block, 1), *BOTH_OLD, args=["--twice", "--packets"])
+    # a wrong CRC is found at the last block, whose reply comes after the one that is passed over
+    bad = bytearray(image(2, V120))
+    bad[20] ^= 1
+    case("a wrong CRC behind a doubled block", one(2, V120, cfu.written_body(bytes(bad))), ENDED,
+         *one_offer(sent_blocks(cut_in_three(bytes(bad)), twice=True, refused=(2, cfu.ERROR_CRC, "the image's CRC is wrong"))),
+         "ended H1: the device refused a block or its image with status 0x05: the image's CRC is wrong", report(0, 1, 6, 1), *BOTH_OLD, args=["--twice", "--packets"])
 
 
 main()

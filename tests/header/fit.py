@@ -69,7 +69,7 @@ def source_pairs(crate):
 
 
 PLACES = {"specs": spec_pairs, "src": source_pairs}
-# The crates whose constants others name.
+# The crates whose constants others name, each after those that it names.
 BELOW = ("wire", "device_component", "device_component_bytes", "device_session_bytes", "bundle_layout")
 
 
@@ -78,7 +78,7 @@ def constants(place, *patterns):
     pairs = PLACES[place]
     below = {}
     for crate in BELOW:
-        below.update(values(pairs(crate)))
+        below.update(values(pairs(crate), below))
     out = {}
     for crate in sorted(os.path.basename(path) for pattern in patterns for path in glob.glob(os.path.join(TOP, "crates", pattern))):
         out.update(values(pairs(crate), below))
@@ -99,14 +99,15 @@ LENT = ("c_*", "*_bytes")
 
 # The header's names of places and parts, and the crates' own.
 PARTS = (
-    ("device*_bytes", {"DEVICE_SESSION_AT": "SESSION_START", "DEVICE_OWED_AT": "SESSION_START + OWED_AT", "DEVICE_COMPONENTS_AT": "COMPONENTS_START",
+    ("device*_bytes", {"DEVICE_SESSION_AT": "SESSION_START", "DEVICE_OWED_AT": "SESSION_START + OWED_AT",
+                       "DEVICE_PREVIOUS_AT": "SESSION_START + PREVIOUS_AT", "DEVICE_COMPONENTS_AT": "COMPONENTS_START",
                        "COMPONENT_SIZE": "COMPONENT_SIZE", "COMPONENT_RUNNING_AT": "RUNNING_AT", "COMPONENT_REGION_AT": "REGION_AT",
                        "COMPONENT_STAGED_AT": "STAGED_AT", "LISTED_SIZE": "LISTED_SIZE"}),
     ("c_version", {"RUNNING_SIZE": "RUNNING_SIZE", "RUNNING_ID_AT": "ID_AT"}),
     ("bundle_layout", {"BUNDLE_HEAD_SIZE": "HEAD", "BUNDLE_ENTRY_SIZE": "ENTRY"}),
     ("host_bytes", {"CONTENTS_BODIES_AT": "BODIES_START", "BODY_SIZE": "BODY_SIZE", "BODY_RECORDS_AT": "RECORDS_IN", "CONTENTS_HAND_AT": "HAND_START",
                     "CONTENTS_CURSOR_AT": "CURSOR_START", "HOST_STAGE_AT": "STAGE_START", "HOST_FIRST_AT": "FIRST_AT", "HOST_SECOND_AT": "SECOND_AT",
-                    "HOST_MASK_AT": "MASK_AT", "HOST_SKIPPED_AT": "SKIPPED_AT", "HOST_LANDED_AT": "LANDED_AT"}),
+                    "HOST_MASK_AT": "MASK_AT", "HOST_SKIPPED_AT": "SKIPPED_AT", "HOST_LANDED_AT": "LANDED_AT", "HOST_PASSED_AT": "PASSED_AT"}),
 )
 
 NUMBERS = files("c_types/specs/Numbers.antt", "c_device/specs/Numbers.antt", "c_host/specs/Numbers.antt", "c_host/specs/Check.antt",
@@ -201,6 +202,7 @@ LAYOUTS = (
     (r"(\d+)  slot \(1\): .*; (\d+) token \(1\), (\d+) next sequence \(2\)", "device_bytes",
      ["SESSION_START + SLOT_AT", "SESSION_START + TOKEN_AT", "SESSION_START + NEXT_AT"]),
     (r"(\d+)  owed ready-reply \(1\): .*; (\d+) its token \(1\)", "device_bytes", ["SESSION_START + OWED_AT", "SESSION_START + OWED_TOKEN_AT"]),
+    (r"(\d+)  previous packet \(CFU_LONG_SIZE\)", "device_bytes", ["SESSION_START + PREVIOUS_AT"]),
     (r"(\d+)  CFU_COMPONENT_LIMIT times (\d+) bytes: id \(1\), running version", "device_bytes", ["COMPONENTS_START", "COMPONENT_SIZE"]),
     (r"the components of a version reply: CFU_COMPONENT_LIMIT times (\d+) ", "c_version", ["RUNNING_SIZE"]),
     (r"the 16 bytes of the bundle at (\d+) \+ (\d+) i", "bundle_layout", ["HEAD", "ENTRY"]),
@@ -214,7 +216,10 @@ LAYOUTS = (
     (r"(\d+)  \(4\) and (\d+) \(4\): entry and its BUSY replies", "host_bytes", ["FIRST_AT", "SECOND_AT"]),
     (r"(\d+)  mask of completed offers \(4\), (\d+) packets \(4\), (\d+) passes \(4\)", "host_bytes", ["MASK_AT", "PACKETS_AT", "PASSES_AT"]),
     (r"(\d+)  this pass had a SKIP \(1\), (\d+) a completed image \(1\)", "host_bytes", ["SKIPPED_AT", "LANDED_AT"]),
-    (r"a byte (\d+) or (\d+) over 1 ", "host_bytes", ["SKIPPED_AT", "LANDED_AT"]),
+    (r"(\d+)  a reply was passed over since the block in hand was sent \(1\)", "host_bytes", ["PASSED_AT"]),
+    (r"a byte (\d+), (\d+) or (\d+) over 1,", "host_bytes", ["SKIPPED_AT", "LANDED_AT", "PASSED_AT"]),
+    (r"a device's (\d+) bytes in place of 140, a host's (\d+) in place of 24, and a device's components stand at (\d+) in", "*_bytes",
+     ["DEVICE_SIZE", "HOST_SIZE", "COMPONENTS_START"]),
 )
 WIDTHS_OF = (
     (r"bytes: " + FIELDS + r"staged \((\d)\): .*; staged[ *\n]+version \((\d)\)", "device_component_bytes",

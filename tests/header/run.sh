@@ -64,8 +64,12 @@ slip "a kind" 's/^#define CFU_KIND_EXTENDED 3/#define CFU_KIND_EXTENDED 2/' CFU_
 slip "a component's size in a record" 's/\( CFU_COMPONENT_LIMIT times [0-9]*\)\( bytes: id (1)\)/\11\2/' COMPONENT_SIZE
 slip "another limit in a comment" 's/ CFU_OFFER_LIMIT times / CFU_COMPONENT_LIMIT times /' BODIES_START
 slip "a place in a device's record" 's/^\( \* *[0-9]*\)\(  owed ready-reply\)/\11\2/' OWED_AT
+slip "the previous packet's place" 's/^\( \* *[0-9]*\)\(  previous packet\)/\11\2/' PREVIOUS_AT
+slip "the previous packet's place by its name" 's/^#define CFU_DEVICE_PREVIOUS_AT [0-9]*/&1/' CFU_DEVICE_PREVIOUS_AT
 slip "a width in a device's record" 's/region base ([0-9])/region base (2)/' REGION_AT
 slip "a place in a host's record" 's/^\( \* *[0-9]*\)\(  mask of\)/\11\2/' MASK_AT
+slip "the place of a reply that was passed over" 's/^\( \* *[0-9]*\)\(  a reply was passed over\)/\11\2/' PASSED_AT
+slip "a size in the words on older records" 's/bytes in place of 140, a host.s 25/bytes in place of 140, a host'"'"'s 24/' HOST_SIZE
 slip "a place in the contents" 's/^\( \* *[0-9]*\)\(  the block that\)/\11\2/' HAND_START
 slip "a place in the writer's list" 's/, at 20 how long it is/, at 24 how long it is/' SHORT_SIZE
 slip "a width in the writer's list" 's/how long it is (4)/how long it is (2)/' SHORT_SIZE

@@ -170,7 +170,7 @@ fn run_lent(p: &[u8], twice: bool, device: &mut [u8], staging: &mut [u8]) {
     fill(staging, byte_at(p, case::FILL_AT));
     tell::record(device);
     let host = run_turns(
-        rest(p, case::BUNDLE_AT + skip),
+        rest(rest(p, skip), case::BUNDLE_AT),
         byte_at(p, case::TOKEN_AT),
         part(p, case::PATTERN_AT, skip),
         device,
@@ -190,10 +190,8 @@ fn pattern_size(twice: bool) -> usize {
 fn run_case(p: &[u8], twice: bool) {
     let mut device = [0u8; DEVICE_SIZE];
     let mut staging = [0u8; case::STAGING_SIZE];
-    copy(
-        &mut device,
-        part(p, case::RECORD_AT + pattern_size(twice), DEVICE_SIZE),
-    );
+    let shifted = rest(p, pattern_size(twice));
+    copy(&mut device, part(shifted, case::RECORD_AT, DEVICE_SIZE));
     let n = staging_len_in(&device) as usize;
     if n <= case::STAGING_SIZE {
         run_lent(p, twice, &mut device, &mut staging[..n]);

@@ -50,13 +50,16 @@ impl Way {
 
 // One more, behind the others.
 pub fn put_reply(way: Way, replies: &mut [u8], reply: &[u8]) -> Way {
-    let at = place(std::num::wrapping_add_u32(way.from, way.count));
-    let end = at + SHORT_SIZE;
-    if end <= replies.len() {
-        copy(&mut replies[at..end], reply);
-    }
-    Way {
+    let more = Way {
         from: way.from,
         count: std::num::wrapping_add_u32(way.count, 1),
+    };
+    let i = std::num::wrapping_add_u32(way.from, way.count) % PLACES;
+    let at = i as usize * SHORT_SIZE;
+    let end = at + SHORT_SIZE;
+    if replies.len() < end {
+        return more;
     }
+    copy(&mut replies[at..end], reply);
+    more
 }

@@ -19,4 +19,4 @@ a1-differs = record { offered01 = (refl, refl); offered = (refl, refl); image01 
 
 pub a4-differs : A4Differs
 unfolding same firstOf any pairs badIds badRegions setupVerdict
-a4-differs = record { copy01 = (refl, refl); copy = (refl, refl) }
+a4-differs = record { copy01 = (refl, refl); copy = (refl, refl); bytes = refl; other01 = refl; other = refl }

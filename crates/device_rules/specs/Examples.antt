@@ -18,7 +18,7 @@ use Rattle.device.specs.Bench.{forOne, noNeed, answer}
 use Rattle.device.specs.Refusals.{Outcome, served, D}
 use Rattle.device.specs.Entries.{Reset}
 use Rattle.device_rules.specs.Rules.{Rules, inForce, document01}
-use Rattle.device_rules.specs.Entries.{serveBy, resetBy}
+use Rattle.device_rules.specs.Entries.{serveBy, serveStagingBy, resetBy}
 
 -- component 1 as the production build 1.2.0, with a region of 8 bytes; here variant 0 stands for a production build and 1 for a debug build, the papers fix none
 abbrev pub production : Component
@@ -79,7 +79,17 @@ afterMiddle = inStage idle (Receiving (record { slot = 0; token = 0xA5; next = 5
 abbrev pub delivering : Rules → Outcome
 delivering rules = serveBy rules (deviceOf production afterMiddle) Content (replicate 8 0) middle
 
+-- what a repeat with another last byte comes to
+abbrev pub repeating : Rules → Outcome
+repeating rules =
+    serveBy rules (deviceOf production afterMiddle) Content (replicate 8 0) (0x00 ∷ 1 ∷ 4 ∷ 0 ∷ 2 ∷ 0 ∷ 0 ∷ 0 ∷ 0x77 ∷ replicate 50 0x00 ++ 0x01 ∷ [])
+
 -- document 01's rules answer 0x0B, which ends the host; those in force answer 0; the record stays
 pub record A4Differs : Type 0 where
   pub copy01 : (delivering document01 .sent ≡ (4 ∷ 0 ∷ 0 ∷ 0 ∷ ERROR-INVALID ∷ replicate 11 0x00) ∷ []) × (delivering document01 .device ≡ deviceOf production afterMiddle)
   pub copy : (delivering inForce .sent ≡ (4 ∷ 0 ∷ 0 ∷ 0 ∷ SUCCESS ∷ replicate 11 0x00) ∷ []) × (delivering inForce .device ≡ deviceOf production afterMiddle)
+  -- and write nothing
+  pub bytes : serveStagingBy inForce (deviceOf production afterMiddle) Content (replicate 8 0) middle ≡ replicate 8 0
+  -- a repeat with another byte, of those that are not written, is wrong by both
+  pub other01 : repeating document01 .sent ≡ (4 ∷ 0 ∷ 0 ∷ 0 ∷ ERROR-INVALID ∷ replicate 11 0x00) ∷ []
+  pub other : repeating inForce .sent ≡ (4 ∷ 0 ∷ 0 ∷ 0 ∷ ERROR-INVALID ∷ replicate 11 0x00) ∷ []

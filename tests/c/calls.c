@@ -719,6 +719,10 @@ static void host_copies(void)
         CHECK(r.ending == CFU_H2 && r.completed == 1 && r.mask == 1 && r.packets == 8 && r.passes == 1);
     }
 
+    /* which read as an offer reply is a SKIP for token 0 */
+    cfu_offer_reply q = cfu_read_offer_reply(AT(shorter));
+    CHECK(q.number == CFU_SERVED && q.token == 0 && q.reason == 0 && q.status == CFU_OFFER_SKIP);
+
     /* where the host does not send the note is not looked at, and the step writes it as zero */
     CHECK(cfu_host_fresh(AT(host), 0xA5) == CFU_SERVED);
     host[EDGE + CFU_HOST_PASSED_AT] = 1;

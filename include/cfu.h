@@ -494,7 +494,8 @@ cfu_written cfu_bundle_write(const uint8_t *list, size_t list_len, const uint8_t
  */
 
 /*
- * Makes the record of a host that has sent nothing. Returns CFU_SERVED or C1 (host).
+ * Makes the record of a host that has sent nothing. Returns CFU_SERVED or C1 (host). Where a bus may deliver packets twice take a token other than 0: the reply
+ * to a last block that comes a second time, read as one to the next offer, is a SKIP for token 0.
  */
 uint32_t cfu_host_fresh(uint8_t *host, size_t host_len, uint8_t token);
 
@@ -504,7 +505,7 @@ uint32_t cfu_host_fresh(uint8_t *host, size_t host_len, uint8_t token);
  * may send it much later. Returns CFU_SERVED with the length to send; C1 (host), C3 (packet); B1 to B8 with the entry; or N1. A B row or N1 leaves the packet
  * zeroed. Each step checks the whole bundle: for a session of many packets take cfu_host_step_checked.
  *
- * A length of 0 means that there is nothing to send, for one of two reasons, which cfu_host_report(host).ending tells apart:
+ * CFU_SERVED with a length of 0 means that there is nothing to send, for one of two reasons, which cfu_host_report(host).ending tells apart:
  *   - CFU_RUNNING: the reply was passed over. A bus that delivers a block twice also brings two replies to it; where a block that is not the first of its body
  *     is awaiting its reply, and what comes is the reply to the block before once more (its sequence, CFU_SUCCESS), the host takes no notice of it and counts
  *     nothing. Send nothing, wait for the next reply, and step with that one. Never step with the same reply again: one is passed over for each block, and a

@@ -1,4 +1,4 @@
-//! The simulated device of `cfu update`: its record, its staging memory, and the bus to it.
+//! The simulated device of `cfu update`: its record and its staging memory.
 use cfu_updater::bundle_cut::ERASED;
 use cfu_updater::c_device::{cfu_device_reset, cfu_device_set_up, cfu_device_version_reply};
 use cfu_updater::c_device_packet::{cfu_device_content, cfu_device_offer};
@@ -71,9 +71,9 @@ impl Device {
         Ok(())
     }
 
-    /// The bus: hands a packet to the device and brings its reply. A device that has served this host alone since the start owes no ready-reply, so that one
-    /// reply comes for each packet; where none comes, an empty one lets the host end by H2.
-    pub fn exchange(&mut self, packet: &[u8]) -> Result<Vec<u8>, Refused> {
+    /// Answers a packet. A device that has served this host alone since the start owes no ready-reply, so that one reply comes for each packet; where none
+    /// comes, it is an empty one.
+    pub fn serve(&mut self, packet: &[u8]) -> Result<Vec<u8>, Refused> {
         let mut due = [0; 2 * SHORT_SIZE]; // up to two replies
         let replies = if packet.len() == SHORT_SIZE {
             cfu_device_offer(&mut self.record, &self.staging, packet, &mut due)

@@ -171,6 +171,8 @@ be -, standard input.
   --staging BYTES    the device's staging memory (up to the end of the last region)
   --token N          the host's token (0x{BENCH_TOKEN:02X})
   --packets          print each packet and each reply
+  --twice            deliver every block that is neither first nor last twice, as some hubs do;
+                     the host passes over the second reply to it
   --help, -h         print this
 
 {}",

@@ -4,6 +4,7 @@
 
 mod args;
 mod bundle;
+mod bus;
 mod device;
 mod failure;
 mod files;

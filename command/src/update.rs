@@ -10,6 +10,7 @@ use cfu_updater::words::{name, sentence, Kind};
 
 use crate::args::{read_value, Known, Line};
 use crate::bundle::Bundle;
+use crate::bus::Bus;
 use crate::device::{Device, Listed, Refused};
 use crate::failure::{text, Failure, Status};
 use crate::files::called;
@@ -24,6 +25,7 @@ const COMPONENT: &str = "--component";
 const STAGING: &str = "--staging";
 const TOKEN: &str = "--token";
 const PACKETS: &str = "--packets";
+const TWICE: &str = "--twice";
 
 /// The platform and the token where none is given.
 pub const BENCH_PLATFORM: u16 = 0x0042;
@@ -32,18 +34,20 @@ pub const BENCH_TOKEN: u8 = 0xA5;
 /// The most that `--staging` takes, which is over what a device can have.
 const STAGING_MOST: u32 = 0xFF_FFFF;
 
-/// What the command line says of the device and of the host.
+/// What the command line says of the device, of the host and of the bus between them.
 struct Options {
     platform: u16,
     components: Vec<Listed>,
     staging: usize,
     token: u8,
     packets: bool,
+    twice: bool,
 }
 
 /// Carries out the words behind the verb.
 pub fn run(words: &[OsString], out: &mut Output) -> Result<Status, Failure> {
-    let known = [Known::Valued(PLATFORM), Known::Valued(COMPONENT), Known::Valued(STAGING), Known::Valued(TOKEN), Known::Flag(PACKETS)];
+    let known =
+        [Known::Valued(PLATFORM), Known::Valued(COMPONENT), Known::Valued(STAGING), Known::Valued(TOKEN), Known::Flag(PACKETS), Known::Flag(TWICE)];
     let line = Line::read(words, &known)?;
     let options = options(&line)?;
     let [name] = line.exactly(["BUNDLE"])?;
@@ -80,6 +84,7 @@ fn options(line: &Line) -> Result<Options, Failure> {
         components,
         token: line.value(TOKEN, "a number up to 0xFF", values::byte)?.unwrap_or(BENCH_TOKEN),
         packets: line.has(PACKETS),
+        twice: line.has(TWICE),
     })
 }
 
@@ -124,7 +129,7 @@ fn simulate(out: &mut Output, bundle: &Bundle, options: &Options) -> Result<Stat
     let mut device = Device::set_up(options.platform, &options.components, options.staging)?;
     out.line(format!("device: platform 0x{:04X}, staging {}", options.platform, options.staging));
     device.show(out)?;
-    let report = session::update(&mut device, bundle, options.token, options.packets, out)?;
+    let report = session::update(&mut Bus::new(&mut device, options.twice), bundle, options.token, options.packets, out)?;
     show_report(out, bundle, &report);
     out.line("device:");
     device.show(out)?;

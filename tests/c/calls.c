@@ -1,6 +1,6 @@
 /*
  * calls.c: each function of include/cfu.h, called from C on the values of document 01 (E1 to E10, E13, and a case of each row that the interface gives) and of
- * document 02, A3; and the words and macros of the headers. The bytes around each lent buffer are checked: no call writes there.
+ * document 02, A1, A3 and A4; and the words and macros of the headers. The bytes around each lent buffer are checked: no call writes there.
  *
  * usage: calls BUNDLE, where BUNDLE is examples/e12.bundle
  */
@@ -160,24 +160,39 @@ static void device_bytes(void)
     BUFFER(new_device, CFU_DEVICE_SIZE);
     bench();
     memcpy(new_device, device, sizeof device);
-    /* idle, nothing owed, nothing staged: slot, token, sequence, owed token and staged versions have no meaning */
+    /* idle, nothing owed, nothing staged: slot, token, sequence, owed token, previous packet and staged versions have no meaning */
     memset(device + EDGE + CFU_DEVICE_SESSION_AT + 1, 0x99, CFU_DEVICE_OWED_AT - CFU_DEVICE_SESSION_AT - 1);
     device[EDGE + CFU_DEVICE_OWED_AT + 1] = 0x99;
+    memset(device + EDGE + CFU_DEVICE_PREVIOUS_AT, 0x99, CFU_LONG_SIZE);
     for (unsigned i = 0; i < CFU_COMPONENT_LIMIT; i++)
         memset(device + EDGE + STAGED(i) + 1, 0x99, 4);
     memcpy(wanted, device, sizeof device);
     CHECK(cfu_device_version_reply(AT(device), AT(longer)) == CFU_SERVED);
     CHECK(SAME(longer, 2, 0, 0, 2, 0, 2, 0, 1, 0, 1, 0x42, 0, 0, 1, 0, 1, 0, 2, 0x42, 0));
-    /* an offer writes the session anew and leaves the rest */
+    /* an offer writes the session anew and leaves the rest; the previous packet stays where the session does, and goes where one opens */
+    offered(5, 2, CFU_REJECT_OLD_FW, CFU_OFFER_REJECT);
+    memset(wanted + EDGE + CFU_DEVICE_SESSION_AT, 0, CFU_DEVICE_PREVIOUS_AT - CFU_DEVICE_SESSION_AT);
+    CHECK(memcmp(device, wanted, sizeof device) == 0);
     offered(0, 0, 0, CFU_OFFER_ACCEPT);
     memcpy(wanted + EDGE + CFU_DEVICE_SESSION_AT, (const uint8_t[SESSION_SIZE]){1, 0, 0xA5}, SESSION_SIZE);
     CHECK(memcmp(device, wanted, sizeof device) == 0);
-    /* content also writes the session's component */
+    /* content also writes the session's component; the packet of a block that is taken is the previous one */
     device[EDGE + CFU_DEVICE_OWED_AT + 1] = 0x99;
+    memset(device + EDGE + CFU_DEVICE_PREVIOUS_AT, 0x99, CFU_LONG_SIZE);
     block(1, 0, 7, CFU_SUCCESS);
-    memcpy(wanted + EDGE + CFU_DEVICE_SESSION_AT, (const uint8_t[SESSION_SIZE]){2, 0, 0xA5, 8}, SESSION_SIZE);
+    memcpy(wanted + EDGE + CFU_DEVICE_SESSION_AT, (const uint8_t[SESSION_SIZE]){2, 0, 0xA5, 8, 0, 0, 0, CFU_FLAG_FIRST_BLOCK, 1, 7}, SESSION_SIZE);
     memset(wanted + EDGE + STAGED(0) + 1, 0, 4);
     CHECK(memcmp(device, wanted, sizeof device) == 0);
+    /* its sequence, 7, is just before the next one, 8: D1 for another, and for another next one; the rest of the packet is not judged */
+    no_device(CFU_DEVICE_PREVIOUS_AT + 2, 6);
+    no_device(CFU_DEVICE_PREVIOUS_AT + 2, 8);
+    no_device(CFU_DEVICE_PREVIOUS_AT + 3, 1);
+    no_device(CFU_DEVICE_SESSION_AT + 3, 7);
+    no_device(CFU_DEVICE_SESSION_AT + 4, 1);
+    memset(device + EDGE + CFU_DEVICE_PREVIOUS_AT, 0xFF, 2);
+    memset(device + EDGE + CFU_DEVICE_PREVIOUS_AT + 4, 0xFF, CFU_LONG_SIZE - 4);
+    CHECK(cfu_device_version_reply(AT(device), AT(longer)) == CFU_SERVED);
+    memcpy(device, wanted, sizeof device);
     /* a flag past its range is D1, in a component that is not in use too */
     no_device(CFU_DEVICE_SESSION_AT, 3);
     no_device(CFU_DEVICE_OWED_AT, 2);
@@ -283,6 +298,147 @@ static void device_calls(void)
     CHECK(cfu_device_offer(AT(device), AT(staging), OFFER, sizeof OFFER, replies + EDGE, CFU_REPLIES_SIZE - 1).number == CFU_C3);
     CHECK(cfu_device_content(device + EDGE, 0, AT(staging), last, sizeof last, AT(replies)).number == CFU_C1);
     CHECK(cfu_device_content(AT(device), AT(staging), last, sizeof last, replies + EDGE, CFU_REPLIES_SIZE - 1).number == CFU_C3);
+}
+
+/* ---- A block that comes again (document 02, A4) ---- */
+
+/* A content packet for component 1 of the bench device: its data are so many bytes of this value, and what is unused has another. */
+static void make_content(uint8_t *packet, uint8_t flags, uint8_t length, uint16_t sequence, uint8_t address, uint8_t value)
+{
+    memset(packet, (uint8_t)~value, CFU_LONG_SIZE);
+    memcpy(packet, (const uint8_t[]){flags, length, (uint8_t)sequence, (uint8_t)(sequence >> 8), address, 0, 0, 0}, CFU_DATA_AT);
+    memset(packet + CFU_DATA_AT, value, length);
+}
+
+/* A content packet, and the status in its one reply. */
+static void answered(const uint8_t *packet, uint8_t status)
+{
+    sends(packet, CFU_LONG_SIZE, CFU_SERVED, 1);
+    CHECK(SAME(replies, packet[2], packet[3], 0, 0, status));
+}
+
+/* The same, and neither the record nor the staging memory changes. */
+static void unchanged(const uint8_t *packet, uint8_t status)
+{
+    BUFFER(record, CFU_DEVICE_SIZE);
+    BUFFER(memory, STAGING);
+    memcpy(record, device, sizeof device);
+    memcpy(memory, staging, sizeof staging);
+    answered(packet, status);
+    CHECK(memcmp(record, device, sizeof device) == 0 && memcmp(memory, staging, sizeof staging) == 0);
+}
+
+/* The previous packet in the device's record. */
+static int previous_is(const uint8_t *packet)
+{
+    return memcmp(device + EDGE + CFU_DEVICE_PREVIOUS_AT, packet, CFU_LONG_SIZE) == 0;
+}
+
+static void device_copies(void)
+{
+    static const uint8_t none[CFU_LONG_SIZE];
+    uint8_t first[CFU_LONG_SIZE], middle[CFU_LONG_SIZE], third[CFU_LONG_SIZE], last[CFU_LONG_SIZE], other[CFU_LONG_SIZE];
+    make_content(first, CFU_FLAG_FIRST_BLOCK, 50, 7, 0, 0x11);
+    make_content(middle, 0, 4, 8, 50, 0x22);
+    make_content(third, 0, 4, 9, 54, 0x33);
+    make_content(last, CFU_FLAG_LAST_BLOCK, 6, 10, 58, 0x44);
+    bench();
+    CHECK(previous_is(none));
+    unchanged(middle, CFU_ERROR_NO_OFFER);
+    offered(0, 0, 0, CFU_OFFER_ACCEPT);
+    unchanged(middle, CFU_ERROR_INVALID);
+
+    /* the first block: a second one is refused, and so is the same without the flag, whose bytes are others */
+    answered(first, CFU_SUCCESS);
+    CHECK(previous_is(first));
+    unchanged(first, CFU_ERROR_INVALID);
+    memcpy(other, first, sizeof other);
+    other[0] = 0;
+    unchanged(other, CFU_ERROR_INVALID);
+
+    /* a copy of a block that is neither first nor last, once and several times: what stands in the memory meanwhile is not written over */
+    answered(middle, CFU_SUCCESS);
+    CHECK(previous_is(middle));
+    for (unsigned i = 0; i < 5; i++)
+        unchanged(middle, CFU_SUCCESS);
+    staging[EDGE + 50] = 0x77;
+    unchanged(middle, CFU_SUCCESS);
+    CHECK(staging[EDGE + 50] == 0x77);
+    staging[EDGE + 50] = 0x22;
+    /* one bit that differs in any of the 60 bytes, those behind the data too; a block refused in between does not matter */
+    for (unsigned place = 0; place < CFU_LONG_SIZE; place++) {
+        memcpy(other, middle, sizeof other);
+        other[place] ^= 0x80;
+        unchanged(other, CFU_ERROR_INVALID);
+        unchanged(middle, CFU_SUCCESS);
+    }
+    /* offers in between do not matter either; a copy brings no READY that is owed */
+    offered(0, 0, 0, CFU_OFFER_BUSY);
+    const uint8_t notify[CFU_SHORT_SIZE] = {CFU_NOTIFY_ON_READY, 0, 0xFE, 0x31};
+    offers(notify, sizeof notify, CFU_SERVED, 0);
+    unchanged(middle, CFU_SUCCESS);
+
+    /* the next block, after which only its own copy is one */
+    answered(third, CFU_SUCCESS);
+    CHECK(previous_is(third));
+    unchanged(middle, CFU_ERROR_INVALID);
+    unchanged(third, CFU_SUCCESS);
+    /* the last block: its image is judged, the READY comes, the session is over, and a second one finds none */
+    sends(last, sizeof last, CFU_SERVED, 2);
+    CHECK(SAME(replies, 10, 0, 0, 0, CFU_ERROR_CRC, 0, 0, 0, 0, 0, 0, 0, 0, 0, 0, 0, 0, 0, 0, 0x31, 0, 0, 0, 0, 0, 0, 0, 0, CFU_OFFER_READY));
+    CHECK(previous_is(none));
+    unchanged(last, CFU_ERROR_NO_OFFER);
+    unchanged(third, CFU_ERROR_NO_OFFER);
+    for (unsigned i = 0; i < STAGING; i++)
+        CHECK(staging[EDGE + i] == (i < 50 ? 0x11 : i < 54 ? 0x22 : i < 58 ? 0x33 : i < 64 ? 0x44 : 0x77));
+}
+
+/* Sequences past 65,535, and previous packets that no run leaves. */
+static void device_wraps(void)
+{
+    uint8_t first[CFU_LONG_SIZE], middle[CFU_LONG_SIZE], third[CFU_LONG_SIZE];
+    make_content(first, CFU_FLAG_FIRST_BLOCK, 1, 0xFFFE, 0, 0x11);
+    make_content(middle, 0, 1, 0xFFFF, 1, 0x22);
+    make_content(third, 0, 1, 0, 2, 0x33);
+    bench();
+    offered(0, 0, 0, CFU_OFFER_ACCEPT);
+    answered(first, CFU_SUCCESS);
+    answered(middle, CFU_SUCCESS);
+    CHECK(device[EDGE + CFU_DEVICE_SESSION_AT + 3] == 0 && device[EDGE + CFU_DEVICE_SESSION_AT + 4] == 0);
+    unchanged(middle, CFU_SUCCESS);
+    /* 65,535 is just before 0, and nothing else is */
+    no_device(CFU_DEVICE_PREVIOUS_AT + 2, 0xFE);
+    no_device(CFU_DEVICE_PREVIOUS_AT + 3, 0);
+    no_device(CFU_DEVICE_SESSION_AT + 3, 1);
+    answered(third, CFU_SUCCESS);
+    unchanged(third, CFU_SUCCESS);
+    unchanged(middle, CFU_ERROR_INVALID);
+    /* a copy is answered before its address is looked at; a previous packet with a flag has no copy */
+    memset(device + EDGE + CFU_DEVICE_PREVIOUS_AT + 4, 0xFF, 4);
+    memset(third + 4, 0xFF, 4);
+    unchanged(third, CFU_SUCCESS);
+    device[EDGE + CFU_DEVICE_PREVIOUS_AT] = third[0] = CFU_FLAG_LAST_BLOCK;
+    unchanged(third, CFU_ERROR_INVALID);
+    /* code 0 takes the previous packet away, and a reset does, also one that is not looked at */
+    const uint8_t start[CFU_SHORT_SIZE] = {CFU_INFO_START_ENTIRE_TRANSACTION, 0, 0xFF, 0x31};
+    for (unsigned i = 0; i < 2; i++) {
+        if (i == 0)
+            offers(start, sizeof start, CFU_SERVED, 1);
+        else
+            CHECK(cfu_device_reset(AT(device)) == CFU_SERVED);
+        CHECK(filled(device + CFU_DEVICE_SESSION_AT, SESSION_SIZE, 0));
+        memset(device + EDGE + CFU_DEVICE_PREVIOUS_AT, 0x99, CFU_LONG_SIZE);
+    }
+    /* a record of the length that it had before A4 */
+    enum { OLD_SIZE = 140 };
+    bench();
+    CHECK(cfu_device_set_up(device + EDGE, OLD_SIZE, 0x0042, AT(list), 2, AT(staging)) == CFU_C1);
+    CHECK(cfu_device_version_reply(device + EDGE, OLD_SIZE, AT(longer)) == CFU_C1);
+    CHECK(cfu_device_offer(device + EDGE, OLD_SIZE, AT(staging), OFFER, sizeof OFFER, AT(replies)).number == CFU_C1);
+    CHECK(cfu_device_content(device + EDGE, OLD_SIZE, AT(staging), first, sizeof first, AT(replies)).number == CFU_C1);
+    CHECK(cfu_device_component(device + EDGE, OLD_SIZE, 0).number == CFU_C1);
+    CHECK(cfu_device_reset(device + EDGE, OLD_SIZE) == CFU_C1);
+    EDGES(device);
 }
 
 static void packet_calls(void)
@@ -407,6 +563,7 @@ static void host_bytes(const uint8_t *bundle, size_t length)
     no_host(bundle, length, CFU_HOST_STAGE_AT, 8);
     no_host(bundle, length, CFU_HOST_SKIPPED_AT, 2);
     no_host(bundle, length, CFU_HOST_LANDED_AT, 2);
+    no_host(bundle, length, CFU_HOST_PASSED_AT, 2);
     /* H1 with status 5: of its four bytes the low one is read */
     const uint8_t ended[CFU_HOST_SIZE] = {0xA5, 7, 1, 0, 0, 0, 5, 0x99, 0x99, 0x99};
     memcpy(host + EDGE, ended, sizeof ended);
@@ -414,6 +571,8 @@ static void host_bytes(const uint8_t *bundle, size_t length)
     CHECK(r.number == CFU_SERVED && r.ending == CFU_H1 && r.status == 5);
     no_host(bundle, length, CFU_HOST_FIRST_AT, 5);
     no_host(bundle, length, CFU_HOST_SECOND_AT - 1, 1);
+    no_host(bundle, length, CFU_HOST_PASSED_AT, 0xFF);
+    host[EDGE + CFU_HOST_PASSED_AT] = 1;
     cfu_step a = cfu_host_step(AT(host), bundle, length, replies + EDGE, 0, AT(longer));
     CHECK(a.number == CFU_SERVED && a.length == 0 && SAME(host, 0xA5, 7, 1, 0, 0, 0, 5));
     /* done: the status is not read */
@@ -424,6 +583,157 @@ static void host_bytes(const uint8_t *bundle, size_t length)
     a = cfu_host_step(AT(host), bundle, length, replies + EDGE, 0, AT(longer));
     CHECK(a.number == CFU_SERVED && a.length == 0 && SAME(host, 0xA5, 7));
     EDGES(host), EDGES(longer);
+}
+
+/* ---- A reply that comes again (document 02, A4) ---- */
+
+/* One offer, for component 2, and its body of four records of a byte. */
+static const uint8_t FOUR_BLOCKS[] = {1, 1, 0, 0, 0, 0, 0, 0,
+                                      0, 0, 2, 0, 0, 2, 0, 1, 0, 0, 0, 0, 2, 0, 0x42, 0, 32, 0, 0, 0, 24, 0, 0, 0,
+                                      0, 0, 0, 0, 1, 0xA0, 1, 0, 0, 0, 1, 0xA1, 2, 0, 0, 0, 1, 0xA2, 3, 0, 0, 0, 1, 0xA3};
+
+/* A step with this reply, by both calls: they answer the same length, and leave the same record and packet. */
+static uint32_t steps(const uint8_t *reply, size_t reply_len)
+{
+    BUFFER(other, CFU_LONG_SIZE);
+    CLEAR(longer, 0x33);
+    CLEAR(other, 0x44);
+    memcpy(other_host, host, sizeof host);
+    cfu_step a = cfu_host_step(AT(host), FOUR_BLOCKS, sizeof FOUR_BLOCKS, reply, reply_len, AT(longer));
+    cfu_step b = cfu_host_step_checked(AT(other_host), AT(contents), FOUR_BLOCKS, sizeof FOUR_BLOCKS, reply, reply_len, AT(other));
+    EDGES(host), EDGES(other_host), EDGES(contents), EDGES(longer), EDGES(other);
+    CHECK(a.number == CFU_SERVED && b.number == CFU_SERVED && a.entry == 0 && b.entry == 0 && a.length == b.length);
+    CHECK(memcmp(host, other_host, sizeof host) == 0 && memcmp(longer + EDGE, other + EDGE, CFU_LONG_SIZE) == 0);
+    return a.length;
+}
+
+static uint32_t steps_by(uint16_t sequence, uint8_t status)
+{
+    CHECK(cfu_build_content_reply(sequence, status, AT(shorter)) == CFU_SERVED);
+    return steps(AT(shorter));
+}
+
+/* How far the host is, and what it has counted, while nothing is completed. */
+static int is_at(uint32_t ending, uint32_t packets)
+{
+    cfu_report r = cfu_host_report(AT(host));
+    return r.number == CFU_SERVED && r.ending == ending && r.status == 0 && r.completed == 0 && r.mask == 0 && r.packets == packets && r.passes == 1;
+}
+
+/* The host awaits the reply to a block of the first pass, counted from 0, which is packet 4 and so on; passed: a reply was passed over. */
+static int awaits(uint8_t block, uint8_t passed)
+{
+    return SAME(host, 0xA5, 5, 0, 0, 0, 0, block, 0, 0, 0, 0, 0, 0, 0, (uint8_t)(4 + block), 0, 0, 0, 1, 0, 0, 0, 0, 0, passed) && is_at(CFU_RUNNING, 4u + block);
+}
+
+/* Brings the host to a block, each reply coming once. */
+static void bring_to(uint8_t block)
+{
+    CHECK(cfu_bundle_check(FOUR_BLOCKS, sizeof FOUR_BLOCKS, AT(contents)).number == CFU_SERVED);
+    CHECK(cfu_host_fresh(AT(host), 0xA5) == CFU_SERVED);
+    CHECK(cfu_build_offer_reply(0xA5, 0, CFU_OFFER_ACCEPT, AT(shorter)) == CFU_SERVED);
+    CHECK(steps(shorter + EDGE, 0) == CFU_SHORT_SIZE);
+    CHECK(steps(AT(shorter)) == CFU_SHORT_SIZE && steps(AT(shorter)) == CFU_SHORT_SIZE && steps(AT(shorter)) == CFU_LONG_SIZE);
+    for (uint8_t i = 0; i < block; i++) {
+        CHECK(awaits(i, 0));
+        CHECK(steps_by(i, CFU_SUCCESS) == CFU_LONG_SIZE);
+    }
+    CHECK(awaits(block, 0));
+}
+
+/* The host ends by H2 with this reply, and has counted as many packets as before. */
+static void ends_by(uint16_t sequence, uint8_t status)
+{
+    const uint32_t packets = cfu_host_report(AT(host)).packets;
+    CHECK(steps_by(sequence, status) == 0 && FILLED(longer, 0) && is_at(CFU_H2, packets));
+    CHECK(steps_by(sequence, status) == 0 && is_at(CFU_H2, packets));
+}
+
+static void host_copies(void)
+{
+    /* while the first block is awaited nothing is passed over: neither its own sequence less one nor what was taken before */
+    bring_to(0);
+    ends_by(0xFFFF, CFU_SUCCESS);
+    bring_to(0);
+    CHECK(steps_by(0, CFU_SUCCESS) == CFU_LONG_SIZE && awaits(1, 0));
+
+    for (uint8_t block = 1; block < 4; block++) {
+        /* the reply just taken, again: nothing to send, the host runs, nothing is counted, the contents stay */
+        bring_to(block);
+        memcpy(new_contents, contents, sizeof contents);
+        CHECK(steps_by((uint16_t)(block - 1), CFU_SUCCESS) == 0 && FILLED(longer, 0));
+        CHECK(awaits(block, 1) && memcmp(new_contents, contents, sizeof contents) == 0);
+        /* a second one is H2 */
+        ends_by((uint16_t)(block - 1), CFU_SUCCESS);
+        /* its own reply then takes the host on, and the next block may have one passed over again */
+        bring_to(block);
+        CHECK(steps_by((uint16_t)(block - 1), CFU_SUCCESS) == 0 && awaits(block, 1));
+        CHECK(steps_by(block, CFU_SUCCESS) == (block < 3 ? CFU_LONG_SIZE : CFU_SHORT_SIZE));
+        CHECK(block == 3 || (awaits((uint8_t)(block + 1), 0) && steps_by(block, CFU_SUCCESS) == 0 && awaits((uint8_t)(block + 1), 1)));
+        /* or its own refusal ends it */
+        bring_to(block);
+        CHECK(steps_by((uint16_t)(block - 1), CFU_SUCCESS) == 0 && steps_by(block, CFU_ERROR_INVALID_ADDR) == 0);
+        cfu_report r = cfu_host_report(AT(host));
+        CHECK(r.ending == CFU_H1 && r.status == CFU_ERROR_INVALID_ADDR && r.packets == 4u + block && r.completed == 0);
+
+        /* equal is by sequence and status, whatever the reserved bytes have */
+        bring_to(block);
+        const uint8_t odd[CFU_SHORT_SIZE] = {(uint8_t)(block - 1), 0, 0x99, 0x99, CFU_SUCCESS, 0x99, 0x99, 0x99, 0x99, 0x99, 0x99, 0x99, 0x99, 0x99, 0x99, 0x99};
+        CHECK(steps(odd, sizeof odd) == 0 && awaits(block, 1));
+        /* not one of another status, as a device gives to a doubled first block, nor of another sequence, nor of another length */
+        bring_to(block);
+        ends_by((uint16_t)(block - 1), CFU_ERROR_INVALID);
+        bring_to(block);
+        ends_by((uint16_t)(block - 2), CFU_SUCCESS);
+        bring_to(block);
+        ends_by((uint16_t)(block + 1), CFU_SUCCESS);
+        bring_to(block);
+        ends_by((uint16_t)(block - 1 + 0x100), CFU_SUCCESS);
+        bring_to(block);
+        CHECK(steps(odd, sizeof odd - 1) == 0 && is_at(CFU_H2, 4u + block));
+        /* the note in the record alone decides */
+        bring_to(block);
+        host[EDGE + CFU_HOST_PASSED_AT] = 1;
+        ends_by((uint16_t)(block - 1), CFU_SUCCESS);
+    }
+
+    /* each block's reply twice, but the last's: as many packets as without, and done */
+    bring_to(0);
+    for (uint8_t block = 0; block < 3; block++) {
+        CHECK(steps_by(block, CFU_SUCCESS) == CFU_LONG_SIZE && awaits((uint8_t)(block + 1), 0));
+        CHECK(longer[EDGE + 2] == block + 1 && longer[EDGE + CFU_DATA_AT] == 0xA1 + block);
+        CHECK(steps_by(block, CFU_SUCCESS) == 0 && awaits((uint8_t)(block + 1), 1));
+    }
+    CHECK(steps_by(3, CFU_SUCCESS) == CFU_SHORT_SIZE && SAME(longer, CFU_INFO_END_OFFER_LIST, 0, 0xFF, 0xA5));
+    CHECK(SAME(host, 0xA5, 6, 0, 0, 0, 0, 0, 0, 0, 0, 1, 0, 0, 0, 8, 0, 0, 0, 1, 0, 0, 0, 0, 1));
+    memcpy(third_host, host, sizeof host);
+    CHECK(cfu_build_offer_reply(0xA5, 0, CFU_OFFER_ACCEPT, AT(shorter)) == CFU_SERVED);
+    CHECK(steps(AT(shorter)) == 0);
+    cfu_report r = cfu_host_report(AT(host));
+    CHECK(r.ending == CFU_DONE && r.completed == 1 && r.mask == 1 && r.packets == 8 && r.passes == 1);
+    /* the last block's reply twice is H2, and so is what a device answers to a doubled last block */
+    for (unsigned i = 0; i < 2; i++) {
+        memcpy(host, third_host, sizeof host);
+        CHECK(steps_by(3, i == 0 ? CFU_SUCCESS : CFU_ERROR_NO_OFFER) == 0);
+        r = cfu_host_report(AT(host));
+        CHECK(r.ending == CFU_H2 && r.completed == 1 && r.mask == 1 && r.packets == 8 && r.passes == 1);
+    }
+
+    /* which read as an offer reply is a SKIP for token 0 */
+    cfu_offer_reply q = cfu_read_offer_reply(AT(shorter));
+    CHECK(q.number == CFU_SERVED && q.token == 0 && q.reason == 0 && q.status == CFU_OFFER_SKIP);
+
+    /* where the host does not send the note is not looked at, and the step writes it as zero */
+    CHECK(cfu_host_fresh(AT(host), 0xA5) == CFU_SERVED);
+    host[EDGE + CFU_HOST_PASSED_AT] = 1;
+    CHECK(steps(shorter + EDGE, 0) == CFU_SHORT_SIZE && SAME(host, 0xA5, 1, 0, 0, 0, 0, 0, 0, 0, 0, 0, 0, 0, 0, 1));
+    /* a record of the length that it had before A4 */
+    enum { OLD_SIZE = 24 };
+    CHECK(cfu_host_fresh(host + EDGE, OLD_SIZE, 0xA5) == CFU_C1);
+    CHECK(cfu_host_step(host + EDGE, OLD_SIZE, FOUR_BLOCKS, sizeof FOUR_BLOCKS, shorter + EDGE, 0, AT(longer)).number == CFU_C1);
+    CHECK(cfu_host_step_checked(host + EDGE, OLD_SIZE, AT(contents), FOUR_BLOCKS, sizeof FOUR_BLOCKS, shorter + EDGE, 0, AT(longer)).number == CFU_C1);
+    CHECK(cfu_host_report(host + EDGE, OLD_SIZE).number == CFU_C1);
+    EDGES(host);
 }
 
 /* E13 by the step that checks the bundle each time and by the one that does not, side by side. */
@@ -930,8 +1240,11 @@ int main(int count, char **words)
     CHECK(length == 204);
     device_calls();
     device_bytes();
+    device_copies();
+    device_wraps();
     packet_calls();
     host_calls(bundle, length);
+    host_copies();
     writer_calls();
     list_calls();
     component_calls();

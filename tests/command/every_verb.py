@@ -27,7 +27,7 @@ def sections():
 
 VERBS = {verb: sorted(set(re.findall(r"--[a-z][a-z-]*", text))) for verb, text in sections().items()}
 assert VERBS == {"inspect": ["--json"], "make": ["--dry-run", "--manifest", "--offer", "--platform", "--size", "--stamp"], "split": ["--swap-protocol"],
-                 "join": ["--swap-protocol"], "update": ["--component", "--packets", "--platform", "--staging", "--token"]}, VERBS
+                 "join": ["--swap-protocol"], "update": ["--component", "--packets", "--platform", "--staging", "--token", "--twice"]}, VERBS
 
 
 def desk(work, name):

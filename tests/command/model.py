@@ -1,4 +1,4 @@
-"""What `cfu` must print and write, worked out from docs/COMMAND.md, include/words.txt, document 01 and requests A1 and A3 of document 02.
+"""What `cfu` must print and write, worked out from docs/COMMAND.md, include/words.txt, document 01 and requests A1, A3 and A4 of document 02.
 
 The formats are those of tests/cfu.py; nothing here comes from a run of the program.
 """
@@ -387,14 +387,18 @@ class Device:
 class Session:
     """A whole run of a fresh host against a device: its lines."""
 
-    def __init__(self, device, offers, token, packets, over_one_line):
-        self.device, self.offers, self.token, self.shows, self.over_one_line = device, offers, token, packets, over_one_line
+    def __init__(self, device, offers, token, packets, twice, over_one_line):
+        self.device, self.offers, self.token, self.shows, self.twice, self.over_one_line = device, offers, token, packets, twice, over_one_line
         self.lines, self.sent, self.passes, self.completed, self.ended = [], 0, 0, 0, None
+
+    def show(self, mark, data, words):
+        if self.shows:
+            self.lines.append(f"{mark} {data.hex(' ').upper()}  {words}\n")
 
     def exchange(self, packet, what, reply, answer):
         self.sent += 1
-        if self.shows:
-            self.lines += [f"-> {packet.hex(' ').upper()}  {what}\n", f"<- {reply.hex(' ').upper()}  {answer}\n"]
+        self.show("->", packet, what)
+        self.show("<-", reply, answer)
 
     def information(self, code):
         self.exchange(cfu.information(code, self.token), f"information: {INFORMATION[code]}", cfu.offer_reply(self.token, cfu.ACCEPT), "ACCEPT")
@@ -412,13 +416,22 @@ class Session:
         return status
 
     def blocks(self, entry, component, laid):
-        count, line_is_open = len(laid), ""
+        """late: the block whose second reply the host gets before that to the one that it has just sent (A4). It passes over it, and nothing counts it."""
+        count, line_is_open, late = len(laid), "", None
         for sequence, (address, data) in enumerate(laid):
             first, last = sequence == 0, sequence == count - 1
             status = self.device.content(component, address, data, first, last)
             flags = (cfu.FIRST if first else 0) | (cfu.LAST if last else 0)
-            self.exchange(cfu.content(flags, sequence, address, data), f"content: block {sequence + 1}, bytes {len(data)} at address {address}",
-                          cfu.content_reply(sequence, status), CONTENT_STATUS[status])
+            packet, where = cfu.content(flags, sequence, address, data), f"bytes {len(data)} at address {address}"
+            self.sent += 1
+            self.show("->", packet, f"content: block {sequence + 1}, {where}")
+            doubled = self.twice and not first and not last
+            if doubled:
+                self.show("->", packet, f"content: block {sequence + 1} again, {where}")
+            if late is not None:
+                self.show("<-", cfu.content_reply(late), f"{CONTENT_STATUS[cfu.SUCCESS]}: block {late + 1} again, passed over")
+            self.show("<-", cfu.content_reply(sequence, status), CONTENT_STATUS[status])
+            late = sequence if doubled else None
             if self.over_one_line and not self.shows:
                 self.lines.append(f"\r  offer {entry}: block {sequence + 1} of {count}, {100 * (sequence + 1) // count} %")
                 line_is_open = "\n"
@@ -454,7 +467,7 @@ class Session:
         return skipped and self.completed > before and self.passes < len(self.offers)
 
 
-def update_text(name, data, answer=None, components=BENCH, staging=None, platform=cfu.PLATFORM, token=TOKEN, packets=False, over_one_line=False):
+def update_text(name, data, answer=None, components=BENCH, staging=None, platform=cfu.PLATFORM, token=TOKEN, packets=False, twice=False, over_one_line=False):
     """Status and lines. answer: as in inspect_text."""
     if answer:
         return 1, f"{refusal(*answer)}\n"
@@ -470,7 +483,7 @@ def update_text(name, data, answer=None, components=BENCH, staging=None, platfor
         return 1, "".join(lines) + f"{refusal(row)}\n"
     device = Device(components, platform)
     lines += [f"device: platform 0x{platform:04X}, staging {staging}\n"] + device.lines()
-    session = Session(device, offers, token, packets, over_one_line)
+    session = Session(device, offers, token, packets, twice, over_one_line)
     session.run()
     lines += session.lines + ["device:\n"] + device.lines()
     device.reset()

@@ -1,4 +1,4 @@
-"""`cfu update`: E13, devices and images that refuse, bundles that are refused, and the progress line of a terminal."""
+"""`cfu update`: E13, devices and images that refuse, blocks that come twice, bundles that are refused, and the progress line of a terminal."""
 import errno
 import re
 
@@ -16,20 +16,25 @@ def one(component, number, data, **fields):
     return bundle([(offer(component, number, **fields), data)])
 
 
-def bad_crc(component, number):
+def wrong_crc(component, number):
+    """An image with a byte that its CRC does not fit."""
     data = bytearray(image(component, number))
     data[20] ^= 1
-    return body(bytes(data))
+    return bytes(data)
 
 
-def words_of(components=None, staging=None, platform=None, token=None, packets=False):
+def bad_crc(component, number):
+    return body(wrong_crc(component, number))
+
+
+def words_of(components=None, staging=None, platform=None, token=None, packets=False, twice=False):
     """The options for a device and a host."""
     words = []
     for it in components or ():
         words += ["--component", f"{it.id}:{version_words(it.running)}:{it.base}:{it.length}"]
     for name, value in (("--staging", staging), ("--platform", platform), ("--token", token)):
         words += [] if value is None else [name, str(value)]
-    return words + (["--packets"] if packets else [])
+    return words + (["--packets"] if packets else []) + (["--twice"] if twice else [])
 
 
 def update(folder, name, data, end=None, answer=None, **how):
@@ -103,6 +108,68 @@ def set_ups(folder):
          update_text("E13", E12)[1], cwd=folder)
 
 
+# A4: E13's offers with bodies that the writer cuts, into 52, 10 and 2 bytes; a body of four blocks, of which two in a row come twice
+THREES = bundle([(packet, written_body(image(component, number))) for (packet, _), (component, number) in zip(E12_OFFERS, ((1, V130), (2, V120)))])
+FOUR = image(2, V120, 200)
+FOURS, FOURS_DEVICE = one(2, V120, body(FOUR)), regions((2, V110, 200))
+
+
+def without_bytes(text):
+    """Lines of packets with `..` for their bytes, as the page has them."""
+    return re.sub(r"^(->|<-)(?: [0-9A-F]{2})+  ", r"\1 ..  ", text, flags=re.M)
+
+
+def doubled(folder):
+    """A4: over a bus that delivers blocks twice."""
+    shown = without_bytes(update_text("threes", THREES, packets=True, twice=True)[1])
+    check("the model gives the page's example of blocks that come twice", count=(2, shown.count(page_block("-> ..  content: block 2"))))
+    # Two bodies of three blocks: a packet more each than E13's 13, and none for a copy.
+    report = "report: completed 2 of 2, packets 15, passes 2"
+    for packets in (False, True):
+        for twice in (False, True):
+            name = f"blocks {'twice' if twice else 'once'}, packets {packets}"
+            update(folder, name, THREES, report, packets=packets, twice=twice)
+            update(folder, f"{name}, two in a row", FOURS, "report: completed 1 of 1, packets 8, passes 1", components=FOURS_DEVICE, packets=packets, twice=twice)
+    check("two blocks in a row twice: the replies in their order", text=(
+        [("content: block 1", "taken"), ("content: block 2", "content: block 2 again", "taken"),
+         ("content: block 3", "content: block 3 again", "taken: block 2 again, passed over", "taken"), ("content: block 4", "taken: block 3 again, passed over", "taken")],
+        told_blocks(update_text("fours", FOURS, components=FOURS_DEVICE, packets=True, twice=True)[1])))
+    # Without --packets the lines and the status are those of a run without --twice, whatever comes: every bundle that the check accepts, and bodies that are refused.
+    refused = {"the first doubled block past the region": [(0, bytes(52)), (60, bytes(10)), (62, bytes(2))],
+               "the second doubled block past the region": [(0, bytes(52)), (52, bytes(10)), (60, bytes(10)), (62, bytes(2))],
+               "the last block past the region": [(0, bytes(52)), (52, bytes(10)), (63, bytes(2))]}
+    for name, records in refused.items():
+        data = one(2, V120, b"".join(body_record(*record) for record in records))
+        for packets in (False, True):
+            update(folder, f"{name}, twice, packets {packets}", data, f"ended H1: {SENTENCE['H1']} with status 0x09: {SENTENCE['ERROR_INVALID_ADDR']}", packets=packets, twice=True)
+    for packets in (False, True):
+        update(folder, f"a wrong CRC behind a doubled block, packets {packets}", one(2, V120, written_body(wrong_crc(2, V120))),
+               f"ended H1: {SENTENCE['H1']} with status 0x05: {SENTENCE['ERROR_CRC']}", packets=packets, twice=True)
+        update(folder, f"E13 over a bus that doubles, packets {packets}", E12, "report: completed 2 of 2, packets 13, passes 2", packets=packets, twice=True)
+        update(folder, f"one block over a bus that doubles, packets {packets}", one(2, V120, body(image(2, V120, 52))), "report: completed 1 of 1, packets 5, passes 1",
+               components=regions((2, V110, 52)), packets=packets, twice=True)
+    for name, (data, _) in inspected.items():
+        if known_answer(name) is None:
+            file = save(folder, "either", data)
+            status, text = update_text(file, data)
+            case(f"update --twice, tests/inspect, {name}", ["update", "--twice", file], status, text, cwd=folder)
+    # On a terminal the progress is that of the blocks, once each.
+    for name, data, how in (("threes", THREES, {}), ("fours", FOURS, {"components": FOURS_DEVICE})):
+        status, text = update_text(save(folder, name, data), data, over_one_line=True, twice=True, **how)
+        got, out, err = terminal(["update", name, "--twice", *words_of(**how)], cwd=folder)
+        check(f"update, {name} on a terminal, blocks twice", status=(status, got), output=(on_terminal(text), COLOUR.sub("", out)), messages=("", err))
+
+
+def told_blocks(text):
+    """The words of the lines of blocks and of their replies, without places, from one block of the host's to the next."""
+    out = []
+    for mark, words in re.findall(r"^(->|<-) \.\.  (content: block[^,\n]*|taken[^\n]*)", without_bytes(text), re.M):
+        if mark == "->" and "again" not in words:
+            out.append(())
+        out[-1] += (words,)
+    return out
+
+
 def command_lines(folder):
     for words in ([], ["--packets"], ["E13", "E13"], ["E13", "--token"], ["E13", "--colour", "1"], ["E13", "--colour"], ["E13", "--token", "256"], ["E13", "--token", "x"],
                   ["E13", "--token", ""], ["E13", "--token", "-1"], ["E13", "--token", "+1"], ["E13", "--token", " 1"], ["E13", "--token", "1_0"], ["E13", "--token", "0x+1"],
@@ -112,7 +179,7 @@ def command_lines(folder):
                   ["E13", "--component", "1:256.2.0:0:64"], ["E13", "--component", "1:1.65536.0:0:64"], ["E13", "--component", "1:1.2.256:0:64"],
                   ["E13", "--component", "256:1.2.0:0:64"], ["E13", "--component", "1:1.2.0:0"], ["E13", "--component", "1:1.2.0::64"],
                   ["E13"] + (COMPONENT_LIMIT + 1) * ["--component", "1:1.2.0:0:64"], ["E13", "--json"], ["E13", "--swap-protocol"], ["E13", "--packets=1"],
-                  ["E13", "--packets="], ["--packets=yes", "E13"]):
+                  ["E13", "--packets="], ["--packets=yes", "E13"], ["--twice"], ["E13", "--twice="], ["E13", "--twice=2"], ["E13", "--twice", "2"]):
         case(f"update, the command line {words}", ["update", *words], 2, "", wrong_line("update"), cwd=folder)
 
 
@@ -144,6 +211,7 @@ def cases(work):
     folder = fresh(work, "update")
     runs(folder)
     set_ups(folder)
+    doubled(folder)
     command_lines(folder)
     terminals(folder)
     for name, (data, _) in inspected.items():

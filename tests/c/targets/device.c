@@ -1,6 +1,6 @@
 /*
- * device.c: the device's calls alone, for a microcontroller with 16 KiB of memory, where calls.c does not fit: E13 of document 01. The packets are laid out here
- * from E12's bundle, without the library's host.
+ * device.c: the device's calls alone, for a microcontroller with 16 KiB of memory, where calls.c does not fit: E13 of document 01, and document 02, A4. The packets
+ * are laid out here from E12's bundle, without the library's host.
  *
  * usage: device BUNDLE, where BUNDLE is examples/e12.bundle
  */
@@ -59,6 +59,16 @@ static void offer(unsigned place, uint8_t reason, uint8_t status)
     offered(packet, reason, status);
 }
 
+/* A content packet, and the status in its reply. */
+static void block(uint8_t flags, uint8_t sequence, uint8_t address, const uint8_t *data, uint8_t length, uint8_t status)
+{
+    uint8_t packet[CFU_LONG_SIZE] = {flags, length, sequence, 0, address};
+    const uint8_t reply[CFU_SHORT_SIZE] = {sequence, 0, 0, 0, status};
+    memcpy(packet + CFU_DATA_AT, data, length);
+    cfu_replies r = cfu_device_content(device, sizeof device, staging, sizeof staging, packet, sizeof packet, replies, sizeof replies);
+    CHECK(r.number == CFU_SERVED && r.count == 1 && replied(reply));
+}
+
 /* The records of an entry's body as content packets; then the region is the image. */
 static void contents(unsigned place)
 {
@@ -66,19 +76,27 @@ static void contents(unsigned place)
     uint8_t image[REGION];
     for (uint8_t sequence = 0; body < end; sequence++) {
         const uint8_t length = body[4], *data = body + RECORD_HEAD, *next = data + length;
-        uint8_t packet[CFU_LONG_SIZE] = {0};
-        const uint8_t reply[CFU_SHORT_SIZE] = {sequence, 0, 0, 0, CFU_SUCCESS};
-        packet[0] = (uint8_t)((sequence == 0 ? CFU_FLAG_FIRST_BLOCK : 0) | (next == end ? CFU_FLAG_LAST_BLOCK : 0));
-        packet[1] = length;
-        packet[2] = sequence;
-        memcpy(packet + 4, body, 4);
-        memcpy(packet + CFU_DATA_AT, data, length);
+        block((uint8_t)((sequence == 0 ? CFU_FLAG_FIRST_BLOCK : 0) | (next == end ? CFU_FLAG_LAST_BLOCK : 0)), sequence, body[0], data, length, CFU_SUCCESS);
         memcpy(image + body[0], data, length);
-        cfu_replies r = cfu_device_content(device, sizeof device, staging, sizeof staging, packet, sizeof packet, replies, sizeof replies);
-        CHECK(r.number == CFU_SERVED && r.count == 1 && replied(reply));
         body = next;
     }
     CHECK(memcmp(staging + REGION * place, image, sizeof image) == 0);
+}
+
+/* An image in blocks of 52, 10 and 2 bytes, over a bus that delivers each of them twice: only the copy of the middle one is no fault. */
+static void doubled(unsigned place, const uint8_t *image)
+{
+    uint8_t record[CFU_DEVICE_SIZE];
+    block(CFU_FLAG_FIRST_BLOCK, 0, 0, image, 52, CFU_SUCCESS);
+    block(CFU_FLAG_FIRST_BLOCK, 0, 0, image, 52, CFU_ERROR_INVALID);
+    block(0, 1, 52, image + 52, 10, CFU_SUCCESS);
+    memcpy(record, device, sizeof record);
+    block(0, 1, 52, image + 52, 10, CFU_SUCCESS);
+    block(0, 1, 52, image + 51, 10, CFU_ERROR_INVALID);
+    CHECK(memcmp(record, device, sizeof record) == 0);
+    block(CFU_FLAG_LAST_BLOCK, 2, 62, image + 62, 2, CFU_SUCCESS);
+    block(CFU_FLAG_LAST_BLOCK, 2, 62, image + 62, 2, CFU_ERROR_NO_OFFER);
+    CHECK(memcmp(staging + REGION * place, image, REGION) == 0);
 }
 
 /* A component of the device runs 1.MINOR.0, and 1.PENDING.0 is staged, or nothing. */
@@ -90,10 +108,21 @@ static void has(uint32_t place, uint16_t minor, uint16_t pending)
     CHECK(c.pending == (pending != 0) && c.staged.major == (pending != 0) && c.staged.minor == pending && c.staged.variant == 0);
 }
 
-int main(int count, char **words)
+/* The bench device of document 01. */
+static void set_up(void)
 {
     const cfu_listed first = {1, {1, 2, 0}, 0, REGION}, second = {2, {1, 1, 0}, REGION, REGION};
-    uint8_t list[CFU_LIST_SIZE] = {0}, version[CFU_LONG_SIZE];
+    uint8_t list[CFU_LIST_SIZE] = {0};
+    memset(staging, 0x77, sizeof staging);
+    CHECK(cfu_list_put(list, sizeof list, 0, first) == CFU_SERVED);
+    CHECK(cfu_list_put(list, sizeof list, 1, second) == CFU_SERVED);
+    CHECK(cfu_device_set_up(device, sizeof device, 0x0042, list, sizeof list, 2, staging, sizeof staging) == CFU_SERVED);
+    has(0, 2, 0), has(1, 1, 0);
+}
+
+int main(int count, char **words)
+{
+    uint8_t version[CFU_LONG_SIZE], image[REGION];
     FILE *file = count == 2 ? fopen(words[1], "rb") : NULL;
     if (file == NULL) {
         printf("usage: device BUNDLE\n");
@@ -102,11 +131,7 @@ int main(int count, char **words)
     size_t length = fread(bundle, 1, sizeof bundle, file);
     fclose(file);
     CHECK(length == E12_SIZE);
-    memset(staging, 0x77, sizeof staging);
-    CHECK(cfu_list_put(list, sizeof list, 0, first) == CFU_SERVED);
-    CHECK(cfu_list_put(list, sizeof list, 1, second) == CFU_SERVED);
-    CHECK(cfu_device_set_up(device, sizeof device, 0x0042, list, sizeof list, 2, staging, sizeof staging) == CFU_SERVED);
-    has(0, 2, 0), has(1, 1, 0);
+    set_up();
 
     informed(CFU_INFO_START_ENTIRE_TRANSACTION);
     informed(CFU_INFO_START_OFFER_LIST);
@@ -125,6 +150,13 @@ int main(int count, char **words)
     has(0, 3, 0), has(1, 2, 0);
     CHECK(cfu_device_version_reply(device, sizeof device, version, sizeof version) == CFU_SERVED);
     CHECK(memcmp(version, (const uint8_t[]){2, 0, 0, 2, 0, 3, 0, 1, 0, 1, 0x42, 0, 0, 2, 0, 1, 0, 2, 0x42, 0}, 20) == 0);
+
+    /* A4, with the image that E13 left in component 2's region */
+    memcpy(image, staging + REGION, sizeof image);
+    set_up();
+    offer(1, 0, CFU_OFFER_ACCEPT);
+    doubled(1, image);
+    has(0, 2, 0), has(1, 1, 2);
     printf("%u passed, %u failed\n", passed, failed);
     return failed == 0 && passed > 0 ? 0 : 1;
 }

@@ -150,8 +150,8 @@ pub fn check(shown: &Shown) -> Result<usize, String> {
     if packets.len() != 1 + passes * (n + 2) + sent {
         return wrong("a staged body was not sent exactly once");
     }
-    // The device: idle, owing nothing, the set staged under the offered versions, all else as it was.
-    let mut device = DeviceRecord { session: Session::Idle, owed: None, ..**before };
+    // The device: idle, owing nothing, holding no packet, the set staged under the offered versions, all else as it was.
+    let mut device = DeviceRecord { session: Session::Idle, owed: None, previous: BLANK, ..**before };
     let mut staging = shown.staging_before.to_vec();
     for (place, entry) in entries.iter().enumerate().filter(|(place, _)| staged >> place & 1 == 1) {
         let slot = before.listed().iter().position(|component| component.id == entry.offer[offer_at::ID]);

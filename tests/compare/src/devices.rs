@@ -113,6 +113,7 @@ fn open_session(r: &mut Random, record: &mut DeviceRecord) {
         Session::Offered { slot, token }
     } else {
         let next = r.pick(&[0, 1, 2, 0xFFFE, 0xFFFF, r.clone().next() as u16]);
+        record.previous = taken_before(r, &record.components[slot as usize], next);
         Session::Receiving { slot, token, next }
     };
     if r.percent(50) {
@@ -120,8 +121,31 @@ fn open_session(r: &mut Random, record: &mut DeviceRecord) {
     }
 }
 
+/// A previous packet: its sequence is just before the next one, as row D1 wants it. Mostly it is one that a session takes; all else in it may be anything.
+fn taken_before(r: &mut Random, component: &Component, next: u16) -> [u8; LONG_SIZE] {
+    let length = r.between(1, DATA_SIZE).min(component.length as usize);
+    let address = r.below(component.length as usize - length + 1) as u32;
+    let flags = r.pick(&[0, 0, 0, 0, 0, FLAG_FIRST_BLOCK, FLAG_FIRST_BLOCK, FLAG_LAST_BLOCK]);
+    let mut packet = content_packet(flags, next.wrapping_sub(1), address, &r.bytes(length));
+    if r.percent(40) {
+        let unused = r.bytes(DATA_SIZE - length);
+        put(&mut packet, content_at::DATA + length, &unused);
+    }
+    match r.below(12) {
+        0 => put(&mut packet, content_at::ADDRESS, &r.pick(&[component.length, u32::MAX]).to_le_bytes()),
+        1 => packet[content_at::LENGTH] = r.pick(&[0, DATA_SIZE as u8 + 1, 255]),
+        2 => packet[content_at::FLAGS] = r.byte(),
+        3 => {
+            packet.copy_from_slice(&r.bytes(LONG_SIZE));
+            put(&mut packet, content_at::SEQUENCE, &next.wrapping_sub(1).to_le_bytes());
+        }
+        _ => {}
+    }
+    packet
+}
+
 /// What is passed over in the records that packets meet.
-pub const PASSED: [&str; 4] = [PASSED_IDLE, PASSED_OFFERED, PASSED_OWED, PASSED_STAGED];
+pub const PASSED: [&str; 6] = [PASSED_IDLE, PASSED_OFFERED, PASSED_PREVIOUS_IDLE, PASSED_PREVIOUS_OFFERED, PASSED_OWED, PASSED_STAGED];
 
 /// Bytes of a record, sometimes with any values where they are passed over.
 pub fn any_record(r: &mut Random, bytes: &[u8], passed: Vec<Passed>) -> Vec<u8> {
@@ -147,7 +171,7 @@ pub fn count_passed(tally: &mut Tally, given: &[u8], passed: &[Passed]) {
 }
 
 /// What a record is made to break: the clauses of row D1, and the forms of bytes that are no record.
-pub const BROKEN: [&str; 20] = [
+pub const BROKEN: [&str; 21] = [
     "D1: staging over the limit",
     "D1: count 0",
     "D1: count over the limit",
@@ -160,6 +184,7 @@ pub const BROKEN: [&str; 20] = [
     "D1: regions overlap",
     "D1: opens on an unlisted component",
     "D1: opens on a pending component",
+    "D1: the previous packet is not just before the next",
     "D1: owes while idle",
     "D1: staged of a lower release",
     "D1: staged of another variant",
@@ -210,6 +235,17 @@ pub fn broken_device(r: &mut Random, aim: &'static str) -> Vec<u8> {
         "D1: opens on a pending component" => {
             record.components[slot].staged = Some(record.components[slot].running);
             record.session = session;
+        }
+        "D1: the previous packet is not just before the next" => {
+            record.components[slot].staged = None;
+            let next = r.pick(&[0, 1, 0xFFFF, r.clone().next() as u16]);
+            record.session = Session::Receiving { slot: slot as u8, token: 3, next };
+            let other = next.wrapping_add(r.pick(&[1, 2, 256, 0x8000, 0xFF00, 0xFFFF]));
+            record.previous = taken_before(r, &record.components[slot], other);
+            // No packet at all is before sequence 1 alone.
+            if next != 1 && r.percent(20) {
+                record.previous = BLANK;
+            }
         }
         "D1: owes while idle" => {
             record.session = Session::Idle;
@@ -403,6 +439,7 @@ fn script(r: &mut Random, record: &DeviceRecord, staging: &[u8], aim: &str) -> V
             1 | 2 => vec![vec![VERSIONS]],
             3 => vec![vec![r.pick(&[OFFER_SHORT, CONTENT_SHORT, VERSIONS_SHORT])]],
             4..=9 => session(r, &now),
+            12..=21 => again(r, &now),
             10 | 11 => {
                 let length = r.pick(&[0, 1, 8, SHORT_SIZE - 1, SHORT_SIZE, SHORT_SIZE + 1, LONG_SIZE - 1, LONG_SIZE, LONG_SIZE + 1, 120]);
                 let channel = r.pick(&[OFFER, CONTENT]);
@@ -538,7 +575,28 @@ fn content(r: &mut Random, record: &DeviceRecord) -> Vec<u8> {
     packet
 }
 
-/// The packets of a whole image for a component that is not pending, good or with one fault.
+/// The packet that is held: whole, some times in a row, or with one thing changed.
+fn again(r: &mut Random, record: &DeviceRecord) -> Vec<Vec<u8>> {
+    let mut packet = record.previous.to_vec();
+    let length = (packet[content_at::LENGTH] as usize).min(DATA_SIZE);
+    let bit = 1 << r.below(8);
+    match r.below(16) {
+        0..=5 => return vec![[vec![CONTENT], packet].concat(); r.pick(&[1, 1, 2, 3])],
+        6 | 7 if length > 0 => packet[content_at::DATA + r.below(length)] ^= bit,
+        8 | 9 if length < DATA_SIZE => packet[content_at::DATA + r.between(length, DATA_SIZE - 1)] ^= bit,
+        10 | 11 => packet[content_at::FLAGS] ^= r.pick(&[FLAG_FIRST_BLOCK, FLAG_LAST_BLOCK, FLAG_FIRST_BLOCK | FLAG_LAST_BLOCK, 1, 0x20]),
+        12 => packet[content_at::LENGTH] = r.pick(&[0, packet[content_at::LENGTH].wrapping_add(1), packet[content_at::LENGTH].wrapping_sub(1), 53]),
+        13 => packet[content_at::ADDRESS + r.below(4)] ^= bit,
+        14 => match record.session {
+            Session::Receiving { next, .. } if r.percent(50) => put(&mut packet, content_at::SEQUENCE, &next.to_le_bytes()),
+            _ => packet[content_at::SEQUENCE + r.below(2)] ^= bit,
+        },
+        _ => packet.resize(r.pick(&[LONG_SIZE - 1, LONG_SIZE + 1]), 0),
+    }
+    vec![[vec![CONTENT], packet].concat()]
+}
+
+/// The packets of a whole image for a component that is not pending, good or with one fault. Some of its blocks come several times.
 fn session(r: &mut Random, record: &DeviceRecord) -> Vec<Vec<u8>> {
     let free: Vec<Component> = record.listed().iter().filter(|component| component.staged.is_none()).copied().collect();
     if free.is_empty() {
@@ -582,7 +640,9 @@ fn session(r: &mut Random, record: &DeviceRecord) -> Vec<Vec<u8>> {
         let length = r.between(1, DATA_SIZE).max(image.len() / 30).min(DATA_SIZE).min(image.len() - at);
         let first = if at == 0 { FLAG_FIRST_BLOCK } else { 0 };
         let last = if at + length == image.len() { FLAG_LAST_BLOCK } else { 0 };
-        items.push(item(CONTENT, &content_packet(first | last, sequence, at as u32, &image[at..at + length])));
+        let block = item(CONTENT, &content_packet(first | last, sequence, at as u32, &image[at..at + length]));
+        let copies = if r.percent(15) { r.pick(&[1, 1, 2, 3]) } else { 0 };
+        items.extend(vec![block; 1 + copies]);
         sequence = sequence.wrapping_add(1);
         at += length;
     }
@@ -607,9 +667,14 @@ pub fn run_script(case: &Case, tally: &mut Tally) -> Outcome {
             out: Lent::new(&[0; LONG_SIZE]),
         })
         .collect();
+    // How many copies of the packet that is held came in a row.
+    let mut copies = 0;
     for (place, item) in case.list_at("packets").iter().enumerate() {
         let Some((what, packet)) = item.split_first() else { continue };
         let report = Lent::new(packet);
+        let before = DeviceRecord::read(sides[0].device.bytes());
+        let repeat = before.filter(|_| *what == CONTENT).and_then(|before| repeat_of(&before, packet));
+        let staging_before = repeat.map(|_| sides[0].staging.bytes().to_vec());
         let size = match *what {
             OFFER | CONTENT => REPLIES_SIZE,
             OFFER_SHORT | CONTENT_SHORT => REPLIES_SIZE - 1,
@@ -640,6 +705,29 @@ pub fn run_script(case: &Case, tally: &mut Tally) -> Outcome {
             return Err(format!("packet {place}: the report was written to"));
         }
         count_call(tally, *what, answers[0], first.out.bytes());
+        let after = DeviceRecord::read(first.device.bytes());
+        if let (Some(before), Some(after), SERVED) = (before, after, answers[0].0) {
+            count_previous(tally, *what, packet, &before, &after);
+            let reply = &first.out.bytes()[..SHORT_SIZE];
+            if let (Some((_, status)), Some(staging_before)) = (repeat, staging_before) {
+                // A4: its own sequence and this status, and nothing changes.
+                let said = reply[..2] == packet[content_at::SEQUENCE..][..2] && reply[content_reply_at::STATUS] == status;
+                if !said || answers[0].1 != 1 || before != after || staging_before != first.staging.bytes() {
+                    return Err(format!("packet {place}: a block that comes again is not answered with {status:X} alone: {}", side_text(first, answers[0])));
+                }
+            }
+            copies = count_repeat(tally, *what, &before, &after, repeat, copies);
+            let came_before = place > 0 && case.list_at("packets")[place - 1] == *item;
+            if *what == CONTENT && came_before && before.session == Session::Idle && packet[content_at::FLAGS] & FLAG_LAST_BLOCK != 0 {
+                tally.one(AGAIN_LAST);
+            }
+        }
+        if let (Some(before), D3, CONTENT) = (before, answers[0].0, *what) {
+            let most = packet.len().min(LONG_SIZE);
+            if matches!(before.session, Session::Receiving { .. }) && most + 1 >= LONG_SIZE && packet[..most] == before.previous[..most] {
+                tally.one(AGAIN_LENGTH);
+            }
+        }
         if place == 0 && case.aim.starts_with(&tally::row(answers[0].0)[5..]) {
             tally.one(case.aim);
         }
@@ -653,7 +741,145 @@ pub fn run_script(case: &Case, tally: &mut Tally) -> Outcome {
     parts::components_left(&sides.iter().map(|side| &side.device).collect::<Vec<_>>(), tally)
 }
 
-/// What the first call of a script does with bytes that are passed over and are not zero.
+const AGAIN: &str = "block again: all 60 bytes the same";
+const AGAIN_THIRD: &str = "block again: the same for the third time and more";
+const AGAIN_OWED: &str = "block again: the same, while a ready-reply is owed";
+const AGAIN_PAST: &str = "block again: the same, whose address is past the region";
+const AGAIN_NEXT: &str = "block again: the next one is taken after it";
+const AGAIN_FIRST: &str = "block again: the first";
+const AGAIN_LAST: &str = "block again: the last, when its session is over";
+const AGAIN_HELD_LAST: &str = "block again: one with the last flag, while receiving";
+const AGAIN_CHECK_2: &str = "block again: one that check 2 refuses";
+const AGAIN_LENGTH: &str = "block again: in a report of another length";
+const AGAIN_DATA: &str = "block again: with another byte of its data";
+const AGAIN_UNUSED: &str = "block again: with another byte behind its data";
+const AGAIN_FLAGS: &str = "block again: with other flags";
+const AGAIN_LESS: &str = "block again: with another length of its data";
+const AGAIN_ADDRESS: &str = "block again: with another address";
+const AGAIN_MORE: &str = "block again: with several other bytes";
+const AGAIN_RENUMBERED: &str = "block again: with the next sequence";
+
+/// What a block that comes again has to have met, and what becomes of the previous packet.
+pub const REPEATS: [&str; 22] = [
+    AGAIN,
+    AGAIN_THIRD,
+    AGAIN_OWED,
+    AGAIN_PAST,
+    AGAIN_NEXT,
+    AGAIN_FIRST,
+    AGAIN_LAST,
+    AGAIN_HELD_LAST,
+    AGAIN_CHECK_2,
+    AGAIN_LENGTH,
+    AGAIN_DATA,
+    AGAIN_UNUSED,
+    AGAIN_FLAGS,
+    AGAIN_LESS,
+    AGAIN_ADDRESS,
+    AGAIN_MORE,
+    AGAIN_RENUMBERED,
+    BLANKED_CODE_0,
+    BLANKED_ACCEPT,
+    BLANKED_RESET,
+    BLANKED_END,
+    PREVIOUS_STAYS,
+];
+
+const BLANKED_CODE_0: &str = "previous packet: blanked by code 0";
+const BLANKED_ACCEPT: &str = "previous packet: blanked by an ACCEPT";
+const BLANKED_RESET: &str = "previous packet: blanked by a reset";
+const BLANKED_END: &str = "previous packet: blanked by a last block";
+const PREVIOUS_STAYS: &str = "previous packet: left by another packet";
+
+/// A content packet, while receiving, with the sequence of the packet that is held: what it is, and the status that it gets (document 02, A4). Nothing changes.
+fn repeat_of(record: &DeviceRecord, packet: &[u8]) -> Option<(&'static str, u8)> {
+    let Session::Receiving { next, .. } = record.session else { return None };
+    let held = &record.previous;
+    if packet.len() != LONG_SIZE || next != two(&held[content_at::SEQUENCE..]).wrapping_add(1) {
+        return None;
+    }
+    let differing: Vec<usize> = (0..LONG_SIZE).filter(|place| packet[*place] != held[*place]).collect();
+    if packet[content_at::SEQUENCE..content_at::ADDRESS] != held[content_at::SEQUENCE..content_at::ADDRESS] {
+        return None;
+    }
+    let (flags, length) = (held[content_at::FLAGS], held[content_at::LENGTH] as usize);
+    let name = match differing[..] {
+        [] if !(1..=DATA_SIZE).contains(&length) || flags & !(FLAG_FIRST_BLOCK | FLAG_LAST_BLOCK) != 0 => AGAIN_CHECK_2,
+        [] if flags & FLAG_FIRST_BLOCK != 0 => AGAIN_FIRST,
+        [] if flags & FLAG_LAST_BLOCK != 0 => AGAIN_HELD_LAST,
+        [] => return Some((AGAIN, SUCCESS)),
+        [content_at::FLAGS] => AGAIN_FLAGS,
+        [content_at::LENGTH] => AGAIN_LESS,
+        [place] if place < content_at::DATA => AGAIN_ADDRESS,
+        [place] if place < content_at::DATA + length => AGAIN_DATA,
+        [_] => AGAIN_UNUSED,
+        _ => AGAIN_MORE,
+    };
+    Some((name, ERROR_INVALID))
+}
+
+/// Counts a repeat; how many copies came in a row with it.
+fn count_repeat(
+    tally: &mut Tally,
+    what: u8,
+    before: &DeviceRecord,
+    after: &DeviceRecord,
+    repeat: Option<(&'static str, u8)>,
+    copies: usize,
+) -> usize {
+    let next_of = |record: &DeviceRecord| match record.session {
+        Session::Receiving { next, .. } => Some(next),
+        _ => None,
+    };
+    match repeat {
+        Some((name, status)) => {
+            tally.one(name);
+            if status != SUCCESS {
+                return copies;
+            }
+            if copies >= 2 {
+                tally.one(AGAIN_THIRD);
+            }
+            if before.owed.is_some() {
+                tally.one(AGAIN_OWED);
+            }
+            let slot = before.session.slot().unwrap_or(0) as usize;
+            let (address, length) = (four(&before.previous[content_at::ADDRESS..]), before.previous[content_at::LENGTH]);
+            if address as u64 + length as u64 > before.components[slot].length as u64 {
+                tally.one(AGAIN_PAST);
+            }
+            copies + 1
+        }
+        None => {
+            let is_taken = what == CONTENT && next_of(before).is_some() && next_of(after) != next_of(before);
+            if is_taken && copies > 0 {
+                tally.one(AGAIN_NEXT);
+            }
+            let apart = |place: &usize| after.previous[*place] != before.previous[*place];
+            if is_taken && after.previous != BLANK && (0..LONG_SIZE).filter(apart).all(|place| (content_at::SEQUENCE..content_at::ADDRESS).contains(&place)) {
+                tally.one(AGAIN_RENUMBERED);
+            }
+            0
+        }
+    }
+}
+
+/// Counts what becomes of a previous packet that is not blank.
+fn count_previous(tally: &mut Tally, what: u8, packet: &[u8], before: &DeviceRecord, after: &DeviceRecord) {
+    if before.previous == BLANK {
+        return;
+    }
+    match (what, after.previous == BLANK) {
+        (OFFER, true) if packet[signal_at::KIND] == INFORMATION => tally.one(BLANKED_CODE_0),
+        (OFFER, true) => tally.one(BLANKED_ACCEPT),
+        (RESET, true) => tally.one(BLANKED_RESET),
+        (CONTENT, true) => tally.one(BLANKED_END),
+        (OFFER, false) => tally.one(PREVIOUS_STAYS),
+        _ => {}
+    }
+}
+
+/// What the first call of a script does with bytes that are passed over and are not zero. The previous packet is counted apart.
 pub const LEFT: [&str; 5] = [
     "passed over and left by an offer",
     "passed over and written by an offer",
@@ -663,7 +889,7 @@ pub const LEFT: [&str; 5] = [
 ];
 
 fn count_left(tally: &mut Tally, what: u8, given: &[u8], left: &[u8], passed: &[Passed]) {
-    for (_, place) in passed {
+    for (_, place) in passed.iter().filter(|(_, place)| place.start != device_at::PREVIOUS) {
         let (before, after) = (&given[place.clone()], &left[place.clone()]);
         if before.iter().all(|byte| *byte == 0) {
             continue;

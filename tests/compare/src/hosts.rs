@@ -16,7 +16,7 @@ use crate::tally::{self, Tally};
 use crate::{library, made, ALL};
 
 /// What a record is made to break: the clauses of row N1, and the forms of bytes that are no record.
-pub const BROKEN: [&str; 13] = [
+pub const BROKEN: [&str; 14] = [
     "N1: offering past the entries",
     "N1: waiting past the entries",
     "N1: sending past the entries",
@@ -29,14 +29,20 @@ pub const BROKEN: [&str; 13] = [
     "N1: no end",
     "N1: SKIP flag neither 0 nor 1",
     "N1: image flag neither 0 nor 1",
+    "N1: flag of a reply passed over neither 0 nor 1",
     "N1: random bytes",
 ];
 
 /// What is passed over in the records that steps meet.
-pub const PASSED: [&str; 3] = [PASSED_STAGE, PASSED_END, PASSED_STATUS];
+pub const PASSED: [&str; 4] = [PASSED_STAGE, PASSED_END, PASSED_FLAG, PASSED_STATUS];
 
 fn any_host(r: &mut Random, host: &HostRecord) -> Vec<u8> {
-    any_record(r, &host.bytes(), host.passed_over())
+    let (flag, any): (Vec<Passed>, Vec<Passed>) = host.passed_over().into_iter().partition(|(name, _)| *name == PASSED_FLAG);
+    let mut out = any_record(r, &host.bytes(), any);
+    if !flag.is_empty() && r.percent(20) {
+        out[host_at::PASSED] = 1;
+    }
+    out
 }
 
 /// A record that fits a bundle with bodies of so many records.
@@ -48,7 +54,7 @@ fn fitting(r: &mut Random, records: &[usize]) -> HostRecord {
         1 => Stage::Listing,
         2 => Stage::Offering { entry: entry as u32, busy: r.below(9) as u32 },
         3 => Stage::Waiting { entry: entry as u32, busy: r.below(9) as u32 },
-        4 | 5 => Stage::Sending { entry: entry as u32, block: r.below(records[entry]) as u32 },
+        4 | 5 => Stage::Sending { entry: entry as u32, block: r.below(records[entry]) as u32, passed: r.percent(50) },
         6 => Stage::Closing,
         _ => {
             let end = r.below(5) as u32;
@@ -74,10 +80,10 @@ fn broken(r: &mut Random, records: &[usize], aim: &'static str) -> Vec<u8> {
     match aim {
         "N1: offering past the entries" => host.stage = Stage::Offering { entry: past, busy: 0 },
         "N1: waiting past the entries" => host.stage = Stage::Waiting { entry: past, busy: 1 },
-        "N1: sending past the entries" => host.stage = Stage::Sending { entry: past, block: 0 },
+        "N1: sending past the entries" => host.stage = Stage::Sending { entry: past, block: 0, passed: r.percent(50) },
         "N1: block past the body" => {
             let block = records[entry] as u32 + r.pick(&[0, 1, 65_536, 1 << 30]);
-            host.stage = Stage::Sending { entry: entry as u32, block };
+            host.stage = Stage::Sending { entry: entry as u32, block, passed: r.percent(50) };
         }
         "N1: over 8 BUSY" => {
             let busy = r.pick(&[9, 10, 255, 256, u32::MAX]);
@@ -98,6 +104,7 @@ fn broken(r: &mut Random, records: &[usize], aim: &'static str) -> Vec<u8> {
         }
         "N1: SKIP flag neither 0 nor 1" => bytes[host_at::SKIPPED] = r.pick(&[2, 3, 255]),
         "N1: image flag neither 0 nor 1" => bytes[host_at::LANDED] = r.pick(&[2, 3, 255]),
+        "N1: flag of a reply passed over neither 0 nor 1" => bytes[host_at::PASSED] = r.pick(&[2, 3, 255]),
         "N1: random bytes" => bytes = r.bytes(HOST_SIZE),
         _ => {}
     }
@@ -108,8 +115,15 @@ fn broken(r: &mut Random, records: &[usize], aim: &'static str) -> Vec<u8> {
 pub fn reply_for(r: &mut Random, token: u8, stage: SecondStage, busy: bool) -> Vec<u8> {
     let mut reply = vec![0; SHORT_SIZE];
     match stage {
-        SecondStage::Sending { record, .. } => {
-            put(&mut reply, content_reply_at::SEQUENCE, &(record as u16).to_le_bytes());
+        SecondStage::Sending { record, passed, .. } => {
+            // The reply to the block before comes again; seldom the one before that.
+            let back = match r.below(100) {
+                0 => 2,
+                1 => 1,
+                2..=19 if record > 0 && (!passed || r.percent(30)) => 1,
+                _ => 0,
+            };
+            put(&mut reply, content_reply_at::SEQUENCE, &(record as u16).wrapping_sub(back).to_le_bytes());
             if r.percent(4) {
                 let errors = [ERROR_CRC, ERROR_VERIFY, ERROR_VERSION, ERROR_INVALID_ADDR, ERROR_NO_OFFER, ERROR_INVALID, 0xFF, 1];
                 reply[content_reply_at::STATUS] = r.pick(&errors);
@@ -223,6 +237,7 @@ pub fn run_host(case: &Case, tally: &mut Tally) -> Outcome {
     }
     for (place, reply) in case.list_at("replies").iter().enumerate() {
         let reply = Lent::new(reply);
+        let before = HostRecord::read(sides[0].host.bytes());
         let mut answers = Vec::new();
         for side in &mut sides {
             side.packet.lend().fill(0x5A);
@@ -261,6 +276,11 @@ pub fn run_host(case: &Case, tally: &mut Tally) -> Outcome {
         }
         let (told, report) = answers[0];
         tally.one("host steps");
+        let after = HostRecord::read(first.host.bytes());
+        if let (Some(before), Some(after), SERVED) = (before, after, told.number) {
+            repeated(tally, &before, reply.bytes(), &after, told, first.packet.bytes(), case.bytes_at("bundle"))
+                .map_err(|what| format!("reply {place}: {what}: {}", side_text(first, told)))?;
+        }
         tally.one(tally::row(told.number));
         tally.one(tally::ending(report.ending));
         if place == 0 && case.aim.starts_with(&tally::row(told.number)[5..]) {
@@ -273,6 +293,66 @@ pub fn run_host(case: &Case, tally: &mut Tally) -> Outcome {
     }
     if bundle.bytes() != case.bytes_at("bundle") {
         return Err("the bundle was written to".to_string());
+    }
+    Ok(())
+}
+
+const OVER: &str = "reply again: passed over";
+const OVER_SECOND: &str = "reply again: passed over while the second block is awaited";
+const OVER_LAST: &str = "reply again: passed over while the last block is awaited";
+const OVER_OTHER: &str = "reply again: passed over with other bytes that are not read";
+const OVER_THEN: &str = "reply again: the awaited one after it";
+const OVER_THEN_STATUS: &str = "reply again: the awaited one after it has a status";
+const TWICE: &str = "reply again: for the second time";
+const WITH_STATUS: &str = "reply again: with a status other than 0";
+const OLDER: &str = "reply again: the one before the last";
+const BEFORE_FIRST: &str = "reply again: sequence 65,535 while the first block is awaited";
+const OTHER_LENGTH: &str = "reply again: not 16 bytes";
+
+/// What a reply that comes again has to have met.
+pub const REPEATS: [&str; 11] = [OVER, OVER_SECOND, OVER_LAST, OVER_OTHER, OVER_THEN, OVER_THEN_STATUS, TWICE, WITH_STATUS, OLDER, BEFORE_FIRST, OTHER_LENGTH];
+
+/// A served step on a reply, while a block is awaited, that may be the one to a block before (document 02, A4): what it has to do, and its count.
+fn repeated(tally: &mut Tally, before: &HostRecord, reply: &[u8], after: &HostRecord, told: Step, packet: &[u8], bundle: &[u8]) -> Outcome {
+    let Stage::Sending { entry, block, passed } = before.stage else { return Ok(()) };
+    if reply.len() < content_reply_at::STATUS + 1 {
+        return Ok(());
+    }
+    let (sequence, status) = (two(&reply[content_reply_at::SEQUENCE..]), reply[content_reply_at::STATUS]);
+    // The difference to the awaited sequence.
+    let back = (block as u16).wrapping_sub(sequence);
+    let foreign = HostRecord { stage: Stage::Ended { end: 2, status: 0 }, ..*before };
+    let (name, wanted) = match (back, passed) {
+        (1, _) if reply.len() != SHORT_SIZE => (OTHER_LENGTH, foreign),
+        (_, _) if reply.len() != SHORT_SIZE => return Ok(()),
+        (0, true) if status == SUCCESS => {
+            tally.one(OVER_THEN);
+            return Ok(());
+        }
+        (0, true) => (OVER_THEN_STATUS, HostRecord { stage: Stage::Ended { end: 1, status }, ..*before }),
+        (1, _) if block == 0 => (BEFORE_FIRST, foreign),
+        (1, _) if status != SUCCESS => (WITH_STATUS, foreign),
+        (1, true) => (TWICE, foreign),
+        (1, false) => (OVER, HostRecord { stage: Stage::Sending { entry, block, passed: true }, ..*before }),
+        (2, _) if block >= 2 => (OLDER, foreign),
+        _ => return Ok(()),
+    };
+    tally.one(name);
+    if *after != wanted || told.length != 0 || packet.iter().any(|byte| *byte != 0) {
+        return Err(format!("{name}: not what document 02, A4 says"));
+    }
+    if name == OVER {
+        let records = second::bundle::check(bundle).map_or(0, |read| read.entries[entry as usize].records.len());
+        if block == 1 {
+            tally.one(OVER_SECOND);
+        }
+        if block as usize + 1 == records {
+            tally.one(OVER_LAST);
+        }
+        let is_read = |place: &usize| *place < 2 || *place == content_reply_at::STATUS;
+        if (0..SHORT_SIZE).any(|place| !is_read(&place) && reply[place] != 0) {
+            tally.one(OVER_OTHER);
+        }
     }
     Ok(())
 }

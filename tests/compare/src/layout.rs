@@ -7,12 +7,12 @@ use std::ops::Range;
 
 // ---------------------------------------------------------------- the header's numbers
 
-pub const INTERFACE_MAJOR: u32 = 1;
+pub const INTERFACE_MAJOR: u32 = 2;
 pub const INTERFACE_MINOR: u32 = 0;
 
-pub const DEVICE_SIZE: usize = 140;
+pub const DEVICE_SIZE: usize = 200;
 pub const LIST_SIZE: usize = 91;
-pub const HOST_SIZE: usize = 24;
+pub const HOST_SIZE: usize = 25;
 pub const CONTENTS_SIZE: usize = 103;
 pub const REPLIES_SIZE: usize = 32;
 pub const SHORT_SIZE: usize = 16;
@@ -23,7 +23,8 @@ pub const COMPONENTS_SIZE: usize = 49;
 
 pub const DEVICE_SESSION_AT: usize = 7;
 pub const DEVICE_OWED_AT: usize = 12;
-pub const DEVICE_COMPONENTS_AT: usize = 14;
+pub const DEVICE_PREVIOUS_AT: usize = 14;
+pub const DEVICE_COMPONENTS_AT: usize = 74;
 pub const COMPONENT_SIZE: usize = 18;
 pub const COMPONENT_RUNNING_AT: usize = 1;
 pub const COMPONENT_REGION_AT: usize = 5;
@@ -44,6 +45,7 @@ pub const HOST_SECOND_AT: usize = 6;
 pub const HOST_MASK_AT: usize = 10;
 pub const HOST_SKIPPED_AT: usize = 22;
 pub const HOST_LANDED_AT: usize = 23;
+pub const HOST_PASSED_AT: usize = 24;
 
 pub const STAGING_LIMIT: usize = 65536;
 pub const BUNDLE_LIMIT: usize = 65536;
@@ -325,6 +327,8 @@ pub mod device_at {
     pub const NEXT: usize = STAGE + 3;
     pub const OWED: usize = super::DEVICE_OWED_AT;
     pub const OWED_TOKEN: usize = OWED + 1;
+    /// While receiving, the packet of the block that was taken last.
+    pub const PREVIOUS: usize = super::DEVICE_PREVIOUS_AT;
     pub const COMPONENTS: usize = super::DEVICE_COMPONENTS_AT;
 }
 
@@ -338,11 +342,15 @@ pub mod component_at {
     pub const STAGED_VERSION: usize = STAGED + 1;
 }
 
-/// The stage with what it has, and what is owed.
+/// The stage with what it has, what is owed, and the previous packet.
 pub const SESSION_SIZE: usize = device_at::COMPONENTS - device_at::STAGE;
 
 const _: () = assert!(COMPONENT_LIMIT * LISTED_SIZE == LIST_SIZE);
 const _: () = assert!(component_start(COMPONENT_LIMIT) == DEVICE_SIZE);
+const _: () = assert!(device_at::OWED_TOKEN + 1 == device_at::PREVIOUS && device_at::PREVIOUS + LONG_SIZE == device_at::COMPONENTS);
+
+/// The previous packet outside of receiving.
+pub const BLANK: [u8; LONG_SIZE] = [0; LONG_SIZE];
 
 /// Where a component stands in the record, counted from 0.
 pub const fn component_start(slot: usize) -> usize {
@@ -386,14 +394,21 @@ impl Session {
 }
 
 /// A device's record.
-#[derive(Clone, Copy, Debug, Default, PartialEq, Eq)]
+#[derive(Clone, Copy, Debug, PartialEq, Eq)]
 pub struct DeviceRecord {
     pub platform: u16,
     pub staging: u32,
     pub count: u8,
     pub session: Session,
     pub owed: Option<u8>,
+    pub previous: [u8; LONG_SIZE],
     pub components: [Component; COMPONENT_LIMIT],
+}
+
+impl Default for DeviceRecord {
+    fn default() -> DeviceRecord {
+        DeviceRecord { platform: 0, staging: 0, count: 0, session: Session::Idle, owed: None, previous: BLANK, components: Default::default() }
+    }
 }
 
 impl DeviceRecord {
@@ -417,7 +432,10 @@ impl DeviceRecord {
             Session::Receiving { slot, token, next } => (2, slot, token, next),
         };
         let [low, high] = u16::to_le_bytes(next);
-        [stage, slot, token, low, high, self.owed.is_some() as u8, self.owed.unwrap_or(0)]
+        let mut out = [0; SESSION_SIZE];
+        put(&mut out, 0, &[stage, slot, token, low, high, self.owed.is_some() as u8, self.owed.unwrap_or(0)]);
+        put(&mut out, device_at::PREVIOUS - device_at::STAGE, &self.previous);
+        out
     }
 
     /// What a served packet of the offer channel leaves of the bytes before, where this is the record that it leads to: its session is written anew.
@@ -432,7 +450,8 @@ impl DeviceRecord {
         put(bytes, component_start(slot), &self.components[slot].bytes());
     }
 
-    /// The record in these bytes: none in bytes of another length, or with a stage, owed or staged that no record has. What these rule out is passed over.
+    /// The record in these bytes: none in bytes of another length, or with a stage, owed or staged that no record has. What these rule out is passed over,
+    /// but for the previous packet, which is kept in whatever stage.
     pub fn read(bytes: &[u8]) -> Option<DeviceRecord> {
         if bytes.len() != DEVICE_SIZE {
             return None;
@@ -449,6 +468,8 @@ impl DeviceRecord {
             1 => Some(bytes[device_at::OWED_TOKEN]),
             _ => return None,
         };
+        let mut previous = BLANK;
+        previous.copy_from_slice(&bytes[device_at::PREVIOUS..device_at::COMPONENTS]);
         let mut components = [Component::default(); COMPONENT_LIMIT];
         for (slot, component) in components.iter_mut().enumerate() {
             *component = Component::read(&bytes[component_start(slot)..])?;
@@ -459,6 +480,7 @@ impl DeviceRecord {
             count: bytes[device_at::COUNT],
             session,
             owed,
+            previous,
             components,
         })
     }
@@ -471,8 +493,13 @@ impl DeviceRecord {
             Session::Offered { .. } => out.push((PASSED_OFFERED, device_at::NEXT..device_at::OWED)),
             Session::Receiving { .. } => {}
         }
+        match self.session {
+            Session::Idle => out.push((PASSED_PREVIOUS_IDLE, device_at::PREVIOUS..device_at::COMPONENTS)),
+            Session::Offered { .. } => out.push((PASSED_PREVIOUS_OFFERED, device_at::PREVIOUS..device_at::COMPONENTS)),
+            Session::Receiving { .. } => {}
+        }
         if self.owed.is_none() {
-            out.push((PASSED_OWED, device_at::OWED_TOKEN..device_at::COMPONENTS));
+            out.push((PASSED_OWED, device_at::OWED_TOKEN..device_at::PREVIOUS));
         }
         for (slot, component) in self.components.iter().enumerate() {
             if component.staged.is_none() {
@@ -500,6 +527,8 @@ pub type Passed = (&'static str, Range<usize>);
 /// What is passed over in a device's record.
 pub const PASSED_IDLE: &str = "passed over: slot, token and sequence while idle";
 pub const PASSED_OFFERED: &str = "passed over: the sequence while offered";
+pub const PASSED_PREVIOUS_IDLE: &str = "passed over: the previous packet while idle";
+pub const PASSED_PREVIOUS_OFFERED: &str = "passed over: the previous packet while offered";
 pub const PASSED_OWED: &str = "passed over: a token where nothing is owed";
 pub const PASSED_STAGED: &str = "passed over: a staged version where nothing is staged";
 
@@ -588,9 +617,11 @@ pub mod host_at {
     pub const PASSES: usize = PACKETS + 4;
     pub const SKIPPED: usize = super::HOST_SKIPPED_AT;
     pub const LANDED: usize = super::HOST_LANDED_AT;
+    /// A reply was passed over since the block in hand was sent.
+    pub const PASSED: usize = super::HOST_PASSED_AT;
 }
 
-const _: () = assert!(host_at::PASSES + 4 == host_at::SKIPPED && host_at::LANDED + 1 == HOST_SIZE);
+const _: () = assert!(host_at::PASSES + 4 == host_at::SKIPPED && host_at::LANDED + 1 == host_at::PASSED && host_at::PASSED + 1 == HOST_SIZE);
 
 /// What a host awaits, or how it ended: 0 done, 1 to 4 for H1 to H4.
 #[derive(Clone, Copy, Debug, Default, PartialEq, Eq)]
@@ -607,9 +638,11 @@ pub enum Stage {
         entry: u32,
         busy: u32,
     },
+    /// `passed`: a second reply to the block before was passed over.
     Sending {
         entry: u32,
         block: u32,
+        passed: bool,
     },
     Closing,
     Ended {
@@ -648,7 +681,7 @@ impl HostRecord {
             Stage::Listing => (2, 0, 0),
             Stage::Offering { entry, busy } => (3, entry, busy),
             Stage::Waiting { entry, busy } => (4, entry, busy),
-            Stage::Sending { entry, block } => (5, entry, block),
+            Stage::Sending { entry, block, .. } => (5, entry, block),
             Stage::Closing => (6, 0, 0),
             Stage::Ended { end, status } => (7, end, status as u32),
         };
@@ -662,13 +695,14 @@ impl HostRecord {
         put(&mut out, host_at::PASSES, &self.passes.to_le_bytes());
         out[host_at::SKIPPED] = self.skipped as u8;
         out[host_at::LANDED] = self.landed as u8;
+        out[host_at::PASSED] = matches!(self.stage, Stage::Sending { passed: true, .. }) as u8;
         out
     }
 
-    /// The record in these bytes: none in bytes of another length, or with a stage, an end or one of the two flags that no record has. What the stage has
+    /// The record in these bytes: none in bytes of another length, or with a stage, an end or one of the three flags that no record has. What the stage has
     /// nothing for is passed over.
     pub fn read(bytes: &[u8]) -> Option<HostRecord> {
-        if bytes.len() != HOST_SIZE || bytes[host_at::SKIPPED] > 1 || bytes[host_at::LANDED] > 1 {
+        if bytes.len() != HOST_SIZE || [host_at::SKIPPED, host_at::LANDED, host_at::PASSED].iter().any(|place| bytes[*place] > 1) {
             return None;
         }
         let (first, second) = (four(&bytes[host_at::FIRST..]), four(&bytes[host_at::SECOND..]));
@@ -678,7 +712,7 @@ impl HostRecord {
             2 => Stage::Listing,
             3 => Stage::Offering { entry: first, busy: second },
             4 => Stage::Waiting { entry: first, busy: second },
-            5 => Stage::Sending { entry: first, block: second },
+            5 => Stage::Sending { entry: first, block: second, passed: bytes[host_at::PASSED] == 1 },
             6 => Stage::Closing,
             // Only H1 has a status, of one byte, and there are ends 0 to 4.
             7 if first == 1 => Stage::Ended { end: 1, status: second as u8 },
@@ -696,14 +730,18 @@ impl HostRecord {
         })
     }
 
-    /// The bytes that are passed over in this record.
+    /// The bytes that are passed over in this record. The flag of a reply that was passed over is among them where the host does not send: it is 0 or 1.
     pub fn passed_over(&self) -> Vec<Passed> {
-        match self.stage {
+        let mut out = match self.stage {
             Stage::Offering { .. } | Stage::Waiting { .. } | Stage::Sending { .. } => Vec::new(),
             Stage::Ended { end: 1, .. } => vec![(PASSED_STATUS, host_at::SECOND + 1..host_at::MASK)],
             Stage::Ended { .. } => vec![(PASSED_END, host_at::SECOND..host_at::MASK)],
             Stage::Fresh | Stage::Opening | Stage::Listing | Stage::Closing => vec![(PASSED_STAGE, host_at::FIRST..host_at::MASK)],
+        };
+        if !matches!(self.stage, Stage::Sending { .. }) {
+            out.push((PASSED_FLAG, host_at::PASSED..HOST_SIZE));
         }
+        out
     }
 
     /// How far it is, as cfu_report.ending and cfu_report.status give it.
@@ -719,6 +757,7 @@ impl HostRecord {
 /// What is passed over in a host's record.
 pub const PASSED_STAGE: &str = "passed over: the numbers of a stage that has none";
 pub const PASSED_END: &str = "passed over: a status where the end has none";
+pub const PASSED_FLAG: &str = "passed over: the flag of a reply passed over where the host does not send";
 pub const PASSED_STATUS: &str = "passed over: all but the low byte of a status";
 
 /// A report's number: a record that counts 2^31 packets or more is N1 over every bundle, and its fields are reported all the same.

@@ -18,7 +18,7 @@ use cfu_updater::host::inner::inner_step;
 use cfu_updater::host::step::{cursor_for, step};
 use cfu_updater::host_packet::answer::{Sent, StepRefusal};
 use cfu_updater::host_record::fits::{in_hand, Body as HandBody};
-use cfu_updater::host_record::record::{End, Host, HostStage, Place, Turn};
+use cfu_updater::host_record::record::{Awaited, End, Host, HostStage, Place, Turn};
 use cfu_updater::host_record::report::Progress;
 use cfu_updater::image::region::{Region, StagingOffset};
 use cfu_updater::wire::address::RegionAddress;
@@ -67,6 +67,7 @@ pub fn device_of(record: &DeviceRecord) -> Device {
                 Session::Receiving { slot, token, next } => DeviceStage::Receiving(Receiving { slot, token, next }),
             },
             owed: record.owed.map_or(Owed::Nothing, Owed::Token),
+            previous: record.previous,
         },
     }
 }
@@ -96,6 +97,7 @@ pub fn record_of(device: &Device) -> DeviceRecord {
             Owed::Nothing => None,
             Owed::Token(token) => Some(token),
         },
+        previous: device.session.previous,
         components: device.components.each_ref().map(component),
     }
 }
@@ -169,7 +171,7 @@ pub fn host_of(record: &HostRecord) -> Host {
             Stage::Listing => HostStage::Listing,
             Stage::Offering { entry, busy } => HostStage::Offering(Turn { entry, busy }),
             Stage::Waiting { entry, busy } => HostStage::Waiting(Turn { entry, busy }),
-            Stage::Sending { entry, block } => HostStage::Sending(Place { entry, block }),
+            Stage::Sending { entry, block, passed } => HostStage::Sending(Awaited { place: Place { entry, block }, passed }),
             Stage::Closing => HostStage::Closing,
             Stage::Ended { end: 0, .. } => HostStage::Ended(End::Done),
             Stage::Ended { end: 1, status } => HostStage::Ended(End::Status(status)),
@@ -195,7 +197,7 @@ pub fn host_record(host: &Host) -> HostRecord {
             HostStage::Listing => Stage::Listing,
             HostStage::Offering(Turn { entry, busy }) => Stage::Offering { entry, busy },
             HostStage::Waiting(Turn { entry, busy }) => Stage::Waiting { entry, busy },
-            HostStage::Sending(Place { entry, block }) => Stage::Sending { entry, block },
+            HostStage::Sending(Awaited { place: Place { entry, block }, passed }) => Stage::Sending { entry, block, passed },
             HostStage::Closing => Stage::Closing,
             HostStage::Ended(End::Done) => Stage::Ended { end: 0, status: 0 },
             HostStage::Ended(End::Status(status)) => Stage::Ended { end: 1, status },
@@ -409,11 +411,11 @@ impl Calls for Made {
         let hand = body_in(&kept, in_hand(known.stage));
         // The kept cursor is the record's own, or it is found by a walk over the body in hand.
         let cursor = match known.stage {
-            HostStage::Sending(p) if (p.entry, p.block) == (kept.entry, kept.block) => kept.cursor as usize,
+            HostStage::Sending(Awaited { place: p, .. }) if (p.entry, p.block) == (kept.entry, kept.block) => kept.cursor as usize,
             stage => cursor_for(bundle, hand, stage),
         };
         let answer = inner_step(packet, verdict_of(kept.row), kept.place, kept.count, hand, cursor, known, bundle, reply);
-        if let (StepRefusal::Served, HostStage::Sending(p)) = (answer.refusal, answer.host.stage) {
+        if let (StepRefusal::Served, HostStage::Sending(Awaited { place: p, .. })) = (answer.refusal, answer.host.stage) {
             contents.copy_from_slice(&Contents { entry: p.entry, block: p.block, cursor: answer.cursor as u64, ..kept }.bytes());
         }
         stepped(answer.refusal, answer.sent, &answer.host, host)

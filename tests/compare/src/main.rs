@@ -169,8 +169,15 @@ fn one_kind(place: usize, options: &Options, tally: &mut Tally) -> Result<(), St
 
 /// What was not met although it has to be.
 fn unmet(tally: &Tally) -> Vec<&'static str> {
-    let all = REQUIRED.iter().chain(&devices::BROKEN).chain(&devices::PASSED).chain(&devices::LEFT).chain(&devices::SETUP).chain(&devices::LENGTHS);
-    let all = all.chain(&hosts::BROKEN).chain(&hosts::PASSED).chain(&runs::RUNS).chain(&writers::WRITTEN);
+    let all = REQUIRED
+        .iter()
+        .chain(&devices::BROKEN)
+        .chain(&devices::PASSED)
+        .chain(&devices::LEFT)
+        .chain(&devices::REPEATS)
+        .chain(&devices::SETUP)
+        .chain(&devices::LENGTHS);
+    let all = all.chain(&hosts::BROKEN).chain(&hosts::PASSED).chain(&hosts::REPEATS).chain(&runs::RUNS).chain(&writers::WRITTEN);
     all.copied().chain(lengths::required()).chain(parts::required()).filter(|name| tally.of(name) == 0).collect()
 }
 

@@ -44,6 +44,7 @@ pub fn device_of(record: &DeviceRecord) -> Device {
             Session::Receiving { slot, token, next } => DeviceStage::Receiving(Receiving { slot, token, next }),
         },
         owed: record.owed,
+        previous: record.previous,
     }
 }
 
@@ -66,6 +67,7 @@ pub fn record_of(device: &Device) -> DeviceRecord {
             DeviceStage::Receiving(Receiving { slot, token, next }) => Session::Receiving { slot, token, next },
         },
         owed: device.owed,
+        previous: device.previous,
         components: device.components.each_ref().map(component),
     }
 }
@@ -145,7 +147,7 @@ pub fn host_of(record: &HostRecord) -> Host {
             Stage::Listing => HostStage::Listing,
             Stage::Offering { entry, busy } => HostStage::Offering { entry: byte(entry), busy: byte(busy) },
             Stage::Waiting { entry, busy } => HostStage::Waiting { entry: byte(entry), busy: byte(busy) },
-            Stage::Sending { entry, block } => HostStage::Sending { entry: byte(entry), record: block },
+            Stage::Sending { entry, block, passed } => HostStage::Sending { entry: byte(entry), record: block, passed },
             Stage::Closing => HostStage::Closing,
             Stage::Ended { end: 0, .. } => HostStage::Ended(End::Done),
             Stage::Ended { end: 1, status } => HostStage::Ended(End::H1(status)),
@@ -171,7 +173,7 @@ pub fn host_record(host: &Host) -> HostRecord {
             HostStage::Listing => Stage::Listing,
             HostStage::Offering { entry, busy } => Stage::Offering { entry: entry as u32, busy: busy as u32 },
             HostStage::Waiting { entry, busy } => Stage::Waiting { entry: entry as u32, busy: busy as u32 },
-            HostStage::Sending { entry, record } => Stage::Sending { entry: entry as u32, block: record },
+            HostStage::Sending { entry, record, passed } => Stage::Sending { entry: entry as u32, block: record, passed },
             HostStage::Closing => Stage::Closing,
             HostStage::Ended(End::Done) => Stage::Ended { end: 0, status: 0 },
             HostStage::Ended(End::H1(status)) => Stage::Ended { end: 1, status },
@@ -397,7 +399,7 @@ impl Calls for Other {
             return Step { number: C3, entry: 0, length: 0 };
         }
         let answer = read_host(host).step(bundle, reply);
-        if let (None, HostStage::Sending { entry, record }, Ok(read)) = (&answer.refused, answer.host.stage, check(bundle)) {
+        if let (None, HostStage::Sending { entry, record, .. }, Ok(read)) = (&answer.refused, answer.host.stage, check(bundle)) {
             let cursor = place_after(&read, entry as usize, record as usize);
             contents.copy_from_slice(&Contents { entry: entry as u32, block: record as u32, cursor, ..kept.unwrap() }.bytes());
         }

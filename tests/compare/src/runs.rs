@@ -1,8 +1,12 @@
 //! Whole runs: a fresh host and a device of each implementation, over random devices and bundles, some of these from the writer; demand 3 wherever its
 //! premise holds, as it has to for a written bundle where the regions are as long as the images; and hostile devices, against which every host has to end
-//! within its bound.
+//! within its bound. In some runs packets arrive twice in a row: blocks that are neither first nor last, of which demand 3 speaks (document 02, A4), or any.
+
+use std::collections::VecDeque;
 
 use cfu_updater::update::{run as made_run, RunRefusal};
+use second::device::Answer;
+use second::host::Packet;
 
 use crate::bundles::{self, bundle, entries_in, Entry};
 use crate::calls::Calls;
@@ -203,6 +207,8 @@ pub fn make_run(r: &mut Random) -> Case {
     Case::aimed("")
         .number("token", r.byte() as u64)
         .number("hostile", hostile)
+        .number("twice", if r.percent(60) { r.next() | 1 } else { 0 })
+        .number("any twice", r.percent(30) as u64)
         .number("order", r.next())
         .bytes("device", record)
         .bytes("staging", r.bytes(device.staging as usize))
@@ -218,8 +224,13 @@ pub fn make_run(r: &mut Random) -> Case {
 struct Left {
     /// The number of the check or of a step that refused.
     number: u32,
+    /// What the host sent, each with the first that the device sent to it, and to a second arrival of it.
     packets: Vec<Vec<u8>>,
     replies: Vec<Vec<u8>>,
+    again: Vec<Option<Vec<u8>>>,
+    /// The steps of the host, and those that passed over a reply.
+    steps: usize,
+    passed: usize,
     host: Vec<u8>,
     device: Vec<u8>,
     staging: Vec<u8>,
@@ -228,10 +239,14 @@ struct Left {
 
 impl Left {
     fn text(&self) -> String {
-        let lines: Vec<String> = self.packets.iter().zip(&self.replies).map(|(packet, reply)| format!("{} : {}", hex(packet), hex(reply))).collect();
+        let again = |place: usize| self.again[place].as_ref().map_or(String::new(), |reply| format!(" : {}", hex(reply)));
+        let line = |place: usize| format!("{} : {}{}", hex(&self.packets[place]), hex(&self.replies[place]), again(place));
+        let lines: Vec<String> = (0..self.packets.len()).map(line).collect();
         format!(
-            "number {:X}, {:X?}, host {}, device {}, staging {}\n      {}",
+            "number {:X}, {} steps, {} passed over, {:X?}, host {}, device {}, staging {}\n      {}",
             self.number,
+            self.steps,
+            self.passed,
             self.report,
             hex(&self.host),
             hex(&self.device),
@@ -255,14 +270,51 @@ struct Start<'a> {
     bundle: &'a [u8],
     /// 0 for the device's own replies, otherwise the seed of hostile ones.
     hostile: u64,
+    twice: Twice,
+}
+
+/// Which packets arrive twice in a row.
+#[derive(Clone, Copy)]
+struct Twice {
+    /// 0 for none.
+    seed: u64,
+    /// Any packets, and not only blocks that are neither first nor last.
+    any: bool,
+}
+
+impl Twice {
+    const NONE: Twice = Twice { seed: 0, any: false };
+
+    /// The packet that was sent as this number, counted from 0, does.
+    fn has(self, number: usize, packet: &[u8]) -> bool {
+        let share = [100, 50, 20, 5][self.seed as usize >> 8 & 3];
+        self.seed != 0 && (self.any || is_middle(packet)) && Random::of_case(self.seed, 98, number as u64).percent(share)
+    }
+}
+
+/// A block that is neither first nor last.
+fn is_middle(packet: &[u8]) -> bool {
+    packet.len() == LONG_SIZE && packet[content_at::FLAGS] & (FLAG_FIRST_BLOCK | FLAG_LAST_BLOCK) == 0
 }
 
 /// The packets that a host sends at most, whatever it receives: in each of n passes code 1, code 2, r blocks, and for each offer nine offers and eight
 /// notifies; and code 0.
 fn most_packets(bundle: &[u8]) -> usize {
+    let (offers, records) = counts(bundle);
+    1 + offers * (17 * offers + 2 + records)
+}
+
+/// The steps that a host takes at most: one for each packet, the one that ends, and in each pass one that passes over a reply for each block but the first of a
+/// body.
+fn most_steps(bundle: &[u8]) -> usize {
+    let (offers, records) = counts(bundle);
+    most_packets(bundle) + 1 + offers * (records - offers)
+}
+
+/// The offers of a bundle, and the records of all bodies.
+fn counts(bundle: &[u8]) -> (usize, usize) {
     let entries = entries_in(bundle);
-    let records: usize = entries.iter().map(|entry| entry.records.len()).sum();
-    1 + entries.len() * (17 * entries.len() + 2 + records)
+    (entries.len(), entries.iter().map(|entry| entry.records.len()).sum())
 }
 
 /// A reply to a packet from a device that keeps no rule.
@@ -310,6 +362,9 @@ fn whole_run(calls: &dyn Calls, start: &Start, by: By) -> Result<Left, String> {
         number: SERVED,
         packets: Vec::new(),
         replies: Vec::new(),
+        again: Vec::new(),
+        steps: 0,
+        passed: 0,
         host: Vec::new(),
         device: Vec::new(),
         staging: Vec::new(),
@@ -318,16 +373,26 @@ fn whole_run(calls: &dyn Calls, start: &Start, by: By) -> Result<Left, String> {
     calls.fresh(host.lend(), start.token);
     let told = calls.check(bundle.bytes(), contents.lend());
     left.number = told.number;
-    let most = if told.number == SERVED { most_packets(start.bundle) } else { 0 };
-    // The first step awaits no reply, so any will do.
-    let mut reply = vec![0x77; start.token as usize % 20];
+    let (most, most_steps) = if told.number == SERVED { (most_packets(start.bundle), most_steps(start.bundle)) } else { (0, 0) };
+    // The replies on their way to the host. The first step awaits none, so any will do.
+    let mut on_way = VecDeque::from([vec![0x77; start.token as usize % 20]]);
     while left.number == SERVED {
+        // Where none is on its way, the host is handed no bytes.
+        let reply = on_way.pop_front().unwrap_or_default();
+        if left.steps == most_steps {
+            return Err(format!("{}: the host does not end within {most_steps} steps", calls.name()));
+        }
+        left.steps += 1;
         let step = match by {
             By::Bundle => calls.step(host.lend(), bundle.bytes(), &reply, packet.lend()),
             By::Contents => calls.step_checked(host.lend(), contents.lend(), bundle.bytes(), &reply, packet.lend()),
         };
         guarded(calls, &[&host, &contents, &bundle, &packet])?;
         left.number = step.number;
+        if step.number == SERVED && step.length == 0 && calls.report(host.bytes()).ending == RUNNING {
+            left.passed += 1;
+            continue;
+        }
         if step.number != SERVED || step.length == 0 {
             break;
         }
@@ -335,20 +400,29 @@ fn whole_run(calls: &dyn Calls, start: &Start, by: By) -> Result<Left, String> {
         if left.packets.len() == most {
             return Err(format!("{}: the host does not end within {most} packets", calls.name()));
         }
-        reply = if start.hostile != 0 {
-            hostile_reply(start.hostile, left.packets.len(), &sent)
-        } else {
-            let told = if sent.len() == SHORT_SIZE {
-                calls.offer(device.lend(), staging.bytes(), &sent, replies.lend())
+        let mut arrives = || {
+            let answer = if start.hostile != 0 {
+                hostile_reply(start.hostile, left.packets.len(), &sent)
             } else {
-                calls.content(device.lend(), staging.lend(), &sent, replies.lend())
+                let told = if sent.len() == SHORT_SIZE {
+                    calls.offer(device.lend(), staging.bytes(), &sent, replies.lend())
+                } else {
+                    calls.content(device.lend(), staging.lend(), &sent, replies.lend())
+                };
+                guarded(calls, &[&device, &staging, &replies])?;
+                // The READY that was owed is not for this host.
+                replies.bytes()[..SHORT_SIZE * (told.count as usize).min(1)].to_vec()
             };
-            guarded(calls, &[&device, &staging, &replies])?;
-            // A READY that was owed would follow as another reply; after code 0 none is.
-            replies.bytes()[..SHORT_SIZE * told.count as usize].to_vec()
+            if !answer.is_empty() {
+                on_way.push_back(answer.clone());
+            }
+            Ok::<Vec<u8>, String>(answer)
         };
+        let answer = arrives()?;
+        let again = if start.twice.has(left.packets.len(), &sent) { Some(arrives()?) } else { None };
         left.packets.push(sent);
-        left.replies.push(reply.clone());
+        left.replies.push(answer);
+        left.again.push(again);
     }
     if bundle.bytes() != start.bundle {
         return Err(format!("{}: the bundle was written to", calls.name()));
@@ -384,6 +458,7 @@ pub fn run_run(case: &Case, tally: &mut Tally) -> Outcome {
         staging: case.bytes_at("staging"),
         bundle: &bundle,
         hostile: case.number_at("hostile"),
+        twice: Twice { seed: case.number_at("twice"), any: case.number_at("any twice") != 0 },
     };
     let mut lefts = Vec::new();
     for calls in ALL {
@@ -402,22 +477,70 @@ pub fn run_run(case: &Case, tally: &mut Tally) -> Outcome {
     if left.number == SERVED && left.report.ending == RUNNING {
         return Err("the run stopped before the host ended".to_string());
     }
+    let copies = left.again.iter().flatten().count();
     if start.hostile != 0 {
         tally.one("whole runs against a hostile device");
+        if left.passed > 0 {
+            tally.one("whole runs against a hostile device: replies passed over");
+        }
         return Ok(());
+    }
+    match (start.twice.any, left.report.ending) {
+        _ if copies == 0 => {}
+        (false, _) => tally.one("twice: whole runs with blocks that arrive twice"),
+        (true, DONE) => tally.one("twice: whole runs with any packets, done"),
+        (true, _) => tally.one("twice: whole runs with any packets, not done"),
     }
     whole_functions(&start, left)?;
     run_demand(case, &start, &given, left, tally)
 }
 
-/// The made crate's and the second implementation's own runs leave the same.
+/// The made crate's and the second implementation's own runs leave the same. In the made crate's each packet arrives once.
 fn whole_functions(start: &Start, left: &Left) -> Outcome {
     let Some(device) = DeviceRecord::read(start.device) else { return Ok(()) };
+    if start.twice.seed == 0 {
+        made_function(start, left, &device)?;
+    }
+    if left.number != SERVED {
+        return Ok(());
+    }
     let mut staging = start.staging.to_vec();
-    let ran = made_run(start.bundle, start.token, made::device_of(&device), &mut staging);
+    let twice = |number: usize, packet: &Packet| start.twice.has(number, sent_bytes(packet));
+    let ran = second::run::run_where(start.token, start.bundle, other::device_of(&device), &mut staging, twice);
+    let host = other::host_record(&ran.host).bytes();
+    let same_trace = ran.trace.len() == left.packets.len()
+        && ran.trace.iter().enumerate().all(|(place, exchange)| {
+            left.packets[place] == sent_bytes(&exchange.packet)
+                && left.replies[place] == first_of(&exchange.answer)
+                && left.again[place] == exchange.again.as_ref().map(first_of)
+        });
+    if !is_left(start, left, &device, &other::record_of(&ran.device)) || staging != left.staging || host[..] != left.host[..] || !same_trace {
+        return Err(format!("the second implementation's run differs: {ran:?}\n    the steps: {}", left.text()));
+    }
+    Ok(())
+}
+
+fn sent_bytes(packet: &Packet) -> &[u8] {
+    match packet {
+        Packet::ForOffer(bytes) => bytes,
+        Packet::ForContent(bytes) => bytes,
+    }
+}
+
+/// The first that is sent.
+fn first_of(answer: &Answer) -> Vec<u8> {
+    match answer {
+        Answer::Refused(..) | Answer::NoReply => Vec::new(),
+        Answer::Reply(reply) | Answer::ReplyThenReady(reply, _) => reply.to_vec(),
+    }
+}
+
+fn made_function(start: &Start, left: &Left, device: &DeviceRecord) -> Outcome {
+    let mut staging = start.staging.to_vec();
+    let ran = made_run(start.bundle, start.token, made::device_of(device), &mut staging);
     match ran.refusal {
         RunRefusal::Served => {
-            let same = is_left(start, left, &device, &made::record_of(&ran.device))
+            let same = is_left(start, left, device, &made::record_of(&ran.device))
                 && staging == left.staging
                 && ran.report.packets == left.report.packets
                 && ran.report.passes == left.report.passes
@@ -429,7 +552,7 @@ fn whole_functions(start: &Start, left: &Left) -> Outcome {
         }
         // Refused runs change nothing.
         _ => {
-            if made::record_of(&ran.device) != device || staging != start.staging {
+            if made::record_of(&ran.device) != *device || staging != start.staging {
                 return Err(format!("the made crate's refused run changed something: {ran:?}"));
             }
             let number = match ran.refusal {
@@ -440,14 +563,7 @@ fn whole_functions(start: &Start, left: &Left) -> Outcome {
             if left.number != SERVED && number != left.number {
                 return Err(format!("the made crate's run is refused by {number:X}, the check by {:X}", left.number));
             }
-            return Ok(());
         }
-    }
-    let mut staging = start.staging.to_vec();
-    let ran = second::run::run(start.token, start.bundle, other::device_of(&device), &mut staging);
-    let host = other::host_record(&ran.host).bytes();
-    if !is_left(start, left, &device, &other::record_of(&ran.device)) || staging != left.staging || host[..] != left.host[..] {
-        return Err(format!("the second implementation's run differs: {ran:?}\n    the steps: {}", left.text()));
     }
     Ok(())
 }
@@ -462,7 +578,7 @@ fn run_demand(case: &Case, start: &Start, given: &Given, left: &Left, tally: &mu
     let Some(device) = DeviceRecord::read(start.device) else { return Ok(()) };
     let mut packet = [0; LONG_SIZE];
     let allowed = Library.version_reply(start.device, &mut packet) == SERVED && start.staging.len() == device.staging as usize;
-    if left.number != SERVED || !allowed {
+    if left.number != SERVED || !allowed || (start.twice.seed != 0 && start.twice.any) {
         return Ok(());
     }
     let entries = entries_in(start.bundle);
@@ -473,6 +589,7 @@ fn run_demand(case: &Case, start: &Start, given: &Given, left: &Left, tally: &mu
     }
     tally.one("demand 3: runs where its premise holds");
     let set = demand_of(start, left, &device, &entries)?;
+    copies_change_nothing(start, left, tally)?;
     tally.add("demand 3: images staged", set.count_ones() as u64);
     if is_fitting(&device, given) {
         staged_as_given(&device, given, set, &left.staging, tally)?;
@@ -496,6 +613,34 @@ fn run_demand(case: &Case, start: &Start, given: &Given, left: &Left, tally: &mu
             return Err(format!("demand 3: order {order:?} gives another end\n    {}\n    {}", left.text(), again.text()));
         }
         tally.one("demand 3: runs in another order");
+    }
+    Ok(())
+}
+
+/// Where blocks arrive twice, each copy is answered as the block was, the host passes over each of these replies, and all else is as where each arrives once.
+fn copies_change_nothing(start: &Start, left: &Left, tally: &mut Tally) -> Outcome {
+    let copies = left.again.iter().flatten().count();
+    let same_reply = left.replies.iter().zip(&left.again).all(|(reply, again)| again.as_ref().is_none_or(|again| again == reply));
+    if !same_reply || left.passed != copies || left.steps != left.packets.len() + copies + 1 {
+        return Err(format!("demand 3: a copy is not answered as its block, or its reply is not passed over\n    {}", left.text()));
+    }
+    if copies == 0 {
+        return Ok(());
+    }
+    let once = whole_run(&Library, &Start { twice: Twice::NONE, ..*start }, By::Contents)?;
+    let same = once.packets == left.packets
+        && once.replies == left.replies
+        && once.host == left.host
+        && once.device == left.device
+        && once.staging == left.staging
+        && once.report == left.report;
+    if !same {
+        return Err(format!("demand 3: blocks that arrive twice give another end\n    {}\n    {}", left.text(), once.text()));
+    }
+    tally.one("demand 3: runs with blocks that arrive twice");
+    tally.add("demand 3: blocks that arrive twice", copies as u64);
+    if left.packets.iter().zip(&left.again).all(|(packet, again)| !is_middle(packet) || again.is_some()) {
+        tally.one("demand 3: runs in which every block but first and last arrives twice");
     }
     Ok(())
 }
@@ -562,7 +707,7 @@ fn orders(r: &mut Random, count: usize) -> Vec<Vec<usize>> {
 }
 
 /// What the gate's run has to have met in whole runs.
-pub const RUNS: [&str; 9] = [
+pub const RUNS: [&str; 16] = [
     "whole runs of a written bundle",
     "written bundle: images staged",
     "written bundle: images staged with a left-out run",
@@ -572,4 +717,11 @@ pub const RUNS: [&str; 9] = [
     "demand 3: runs of more than two passes",
     "demand 3: runs that begin in an open session",
     "demand 3: runs in another order",
+    "whole runs against a hostile device: replies passed over",
+    "twice: whole runs with blocks that arrive twice",
+    "twice: whole runs with any packets, done",
+    "twice: whole runs with any packets, not done",
+    "demand 3: runs with blocks that arrive twice",
+    "demand 3: blocks that arrive twice",
+    "demand 3: runs in which every block but first and last arrives twice",
 ];

@@ -535,7 +535,8 @@ class Kinds:
         same(body, dict(ending=NUMBERS["DONE"], records=expected), self.sent(cfu.bundle([(self.ours.offer(chance.carried()), body)])))
 
     def sent(self, bundle):
-        """How the host ends with a device that accepts everything, and the content packets that it sends."""
+        """How the host ends with a device that accepts everything, and the content packets that it sends. Some replies to blocks that are neither first nor last
+        come twice in a row: the host passes over the second (A4)."""
         ours, token = self.ours, self.chance.number(0xFF)
         contents, host, packet = ((U8 * NUMBERS[size])() for size in ("CONTENTS_SIZE", "HOST_SIZE", "LONG_SIZE"))
         check = ours.cfu_bundle_check(bundle, contents)
@@ -543,17 +544,22 @@ class Kinds:
             raise Refused(f"cfu_bundle_check returns {check.number:#x}, entry {check.entry}")
         ours.cfu_host_fresh(host, token)
         accept = ours.built("cfu_build_offer_reply", SHORT_SIZE, token, 0, cfu.ACCEPT)
-        reply, found = b"", []
+        replies, found = collections.deque([b""]), []
         while True:
-            step = ours.cfu_host_step_checked(host, contents, bundle, reply, packet)
+            step = ours.cfu_host_step_checked(host, contents, bundle, replies.popleft() if replies else b"", packet)
             if step.number != NUMBERS["SERVED"]:
                 raise Refused(f"cfu_host_step_checked returns {step.number:#x}")
             if step.length == 0:
-                return dict(ending=ours.cfu_host_report(host).ending, records=found)
-            reply = accept
+                ending = ours.cfu_host_report(host).ending
+                if ending == NUMBERS["RUNNING"]:
+                    continue
+                return dict(ending=ending, records=found)
             if step.length == LONG_SIZE:
                 found.append(ours.read_content(packet))
-                reply = ours.built("cfu_build_content_reply", SHORT_SIZE, found[-1]["sequence"], cfu.SUCCESS)
+                times = 1 if found[-1]["flags"] else self.chance.number(2, 1)
+                replies.extend([ours.built("cfu_build_content_reply", SHORT_SIZE, found[-1]["sequence"], cfu.SUCCESS)] * times)
+            else:
+                replies.append(accept)
 
     def all(self):
         """Kind, fwupd's name for it, built by us and read by fwupd, built by fwupd and read by us."""

@@ -1,5 +1,5 @@
-//! Numbers from outside whose sum passes 32 bits, and E13: document 01, "The bundle", "The device", "The host", rows B7, S4 and N1. Written from that
-//! document. `cargo test` runs these cases with the usize of the machine; tests/rust/wide.sh runs them with a usize of 32 bits.
+//! Numbers from outside whose sum passes 32 bits, and E13: document 01, "The bundle", "The device", "The host", rows B7, S4 and N1; document 02, A4. Written
+//! from these documents. `cargo test` runs these cases with the usize of the machine; tests/rust/wide.sh runs them with a usize of 32 bits.
 use cfu_updater::bundle::check;
 use cfu_updater::device_component::record::{Fixed, Listed};
 use cfu_updater::device_component::setup::SetupVerdict;
@@ -9,7 +9,7 @@ use cfu_updater::host::inner::inner_step;
 use cfu_updater::host::step::step;
 use cfu_updater::host_bytes::{are_contents, contents_bytes, is_kept, keep, read_body, read_cursor};
 use cfu_updater::host_record::fits::{body_at, in_hand, is_last};
-use cfu_updater::host_record::record::{End, Host, HostStage, Place};
+use cfu_updater::host_record::record::{Awaited, End, Host, HostStage, Place};
 use cfu_updater::host_record::report::Progress;
 use cfu_updater::image::region::{Region, StagingOffset};
 use cfu_updater::bundle_layout::{BundleVerdict, Checked};
@@ -75,10 +75,11 @@ fn listed(one: Region, two: Region) -> [Listed; COMPONENT_LIMIT] {
     list
 }
 
-/// A host of token 5 that awaits the reply to this block.
+/// A host of token 5 that awaits the reply to this block, and has passed over none.
 fn sending(entry: u32, block: u32) -> Host {
     let mut h = Host::fresh(5);
-    h.stage = HostStage::Sending(Place { entry, block });
+    let place = Place { entry, block };
+    h.stage = HostStage::Sending(Awaited { place, passed: false });
     h
 }
 
@@ -181,6 +182,26 @@ fn blocks_past_32_bits() {
     }
 }
 
+/// A4: block 0 has none before it, so that sequence 65,535 is foreign there; the reply to block 0 is passed over once where block 1 is awaited.
+fn replies_before_block_0() {
+    let b = one_first();
+    let mut reply = [0; SHORT_SIZE];
+    put(&mut reply, content_reply_at::SEQUENCE, &0xFFFFu16.to_le_bytes());
+    let a = step(sending(0, 0), &b, &reply);
+    assert_eq!((a.refusal, a.sent, a.host.stage), (StepRefusal::Served, Sent::Nothing, HostStage::Ended(End::Foreign)));
+    let h = sending(0, 1);
+    let a = step(h, &b, &[0; SHORT_SIZE]);
+    let place = Place { entry: 0, block: 1 };
+    let passed = Host {
+        stage: HostStage::Sending(Awaited { place, passed: true }),
+        ..h
+    };
+    assert_eq!((a.refusal, a.sent, a.host), (StepRefusal::Served, Sent::Nothing, passed));
+    assert_eq!(passed.report().progress, Progress::Running);
+    let a = step(passed, &b, &[0; SHORT_SIZE]);
+    assert_eq!((a.refusal, a.sent, a.host.stage), (StepRefusal::Served, Sent::Nothing, HostStage::Ended(End::Foreign)));
+}
+
 /// N1 for an offer whose place in the table passes 32 bits.
 fn offers_past_32_bits() {
     let b = one_first();
@@ -228,11 +249,12 @@ fn numbers_in_bytes() {
     assert_eq!((word32_at(&[1, 2, 3, 4], 2), word32_at(&[1, 2, 3, 4], 0xFFFF)), (0x0403, 0));
 }
 
-pub const CASES: [(&str, fn()); 7] = [
+pub const CASES: [(&str, fn()); 8] = [
     ("E13 in both orders", e13_in_both_orders),
     ("regions past 32 bits", regions_past_32_bits),
     ("bodies past 32 bits", bodies_past_32_bits),
     ("blocks past 32 bits", blocks_past_32_bits),
+    ("replies before block 0", replies_before_block_0),
     ("offers past 32 bits", offers_past_32_bits),
     ("ends past 32 bits", ends_past_32_bits),
     ("numbers in bytes", numbers_in_bytes),

@@ -16,7 +16,7 @@ use compare::library::Library;
 use compare::random::Random;
 use compare::{made, other};
 use second::device::Answer;
-use second::host::{Host as SecondHost, Packet};
+use second::host::{Host as SecondHost, Packet, Stage as SecondStage};
 
 /// How often each is measured; the least counts.
 const REPETITIONS: usize = 40;
@@ -304,7 +304,11 @@ fn library_session(bundle: &[u8], device: &mut [u8; DEVICE_SIZE], staging: &mut 
     loop {
         let step = Library.step_checked(&mut host, &mut contents, bundle, &replies[..SHORT_SIZE * due], &mut packet);
         due = match step.length as usize {
-            0 => return Library.report(&host),
+            0 => match Library.report(&host) {
+                // A reply was passed over, and no other is on its way.
+                Report { ending: RUNNING, .. } => 0,
+                report => return report,
+            },
             SHORT_SIZE => Library.offer(device, staging, &packet[..SHORT_SIZE], &mut replies).count,
             _ => Library.content(device, staging, &packet, &mut replies).count,
         } as usize;
@@ -317,16 +321,23 @@ fn second_session(bundle: &[u8], device: second::device::Device, staging: &mut [
     let mut device = device;
     let Ok(read) = second::bundle::check(bundle) else { return (host, device) };
     let mut reply = [0; SHORT_SIZE];
+    let mut due = SHORT_SIZE;
     loop {
-        let stepped = host.step_over(&read, &reply);
+        let stepped = host.step_over(&read, &reply[..due]);
         host = stepped.host;
         let (next, answer) = match stepped.packet {
             Some(Packet::ForOffer(packet)) => device.offer(staging, &packet),
             Some(Packet::ForContent(packet)) => device.content(staging, &packet),
-            None => return (host, device),
+            None if matches!(host.stage, SecondStage::Ended(_)) => return (host, device),
+            // A reply was passed over, and no other is on its way.
+            None => {
+                due = 0;
+                continue;
+            }
         };
         device = next;
         reply = reply_of(answer);
+        due = SHORT_SIZE;
     }
 }
 
@@ -364,6 +375,15 @@ fn session_row(what: &str, record: &DeviceRecord, bytes: &[u8]) -> Row {
     )
 }
 
+/// The sequence that a receiving session awaits.
+const NEXT: u16 = 7;
+
+/// The device after a block that was neither first nor last.
+fn receiving(record: &DeviceRecord, slot: u8) -> DeviceRecord {
+    let previous = content_packet(0, NEXT - 1, 0, &[0x3C; DATA_SIZE]);
+    DeviceRecord { session: Session::Receiving { slot, token: TOKEN, next: NEXT }, previous, ..*record }
+}
+
 fn packet_rows() -> Vec<Row> {
     let mut rows = Vec::new();
     for (count, staging) in [(1, 4096), (COMPONENT_LIMIT, STAGING_LIMIT)] {
@@ -371,16 +391,16 @@ fn packet_rows() -> Vec<Row> {
         let bytes = vec![0; staging];
         let what = format!("{count} component{}, {staging} bytes of staging", if count == 1 { "" } else { "s" });
         rows.push(packet_row(format!("offer, {what}"), &record, &bytes, &offer_for(&record)));
-        let slot = count as u8 - 1;
-        let receiving = DeviceRecord { session: Session::Receiving { slot, token: TOKEN, next: 7 }, ..record };
-        let packet = content_packet(0, 7, 100, &[0x3C; DATA_SIZE]);
+        let receiving = receiving(&record, count as u8 - 1);
+        let packet = content_packet(0, NEXT, 100, &[0x3C; DATA_SIZE]);
         rows.push(packet_row(format!("content packet, {what}"), &receiving, &bytes, &packet));
+        rows.push(packet_row(format!("content packet that comes again, {what}"), &receiving, &bytes, &receiving.previous));
     }
     for length in [64, 4096, STAGING_LIMIT] {
         let record = device(1, length);
-        let receiving = DeviceRecord { session: Session::Receiving { slot: 0, token: TOKEN, next: 7 }, ..record };
+        let receiving = receiving(&record, 0);
         let image = image(length, length, 1);
-        let packet = content_packet(FLAG_LAST_BLOCK, 7, length as u32 - 20, &image[length - 20..]);
+        let packet = content_packet(FLAG_LAST_BLOCK, NEXT, length as u32 - 20, &image[length - 20..]);
         rows.push(packet_row(format!("last block, image of {length} bytes"), &receiving, &image, &packet));
     }
     rows

@@ -667,8 +667,9 @@ pub fn run_script(case: &Case, tally: &mut Tally) -> Outcome {
             out: Lent::new(&[0; LONG_SIZE]),
         })
         .collect();
-    // How many copies of the packet that is held came in a row.
+    // How many copies of the packet that is held came in a row; and the content packet that ended a session just before.
     let mut copies = 0;
+    let mut ended: &[u8] = &[];
     for (place, item) in case.list_at("packets").iter().enumerate() {
         let Some((what, packet)) = item.split_first() else { continue };
         let report = Lent::new(packet);
@@ -717,10 +718,14 @@ pub fn run_script(case: &Case, tally: &mut Tally) -> Outcome {
                 }
             }
             copies = count_repeat(tally, *what, &before, &after, repeat, copies);
-            let came_before = place > 0 && case.list_at("packets")[place - 1] == *item;
-            if *what == CONTENT && came_before && before.session == Session::Idle && packet[content_at::FLAGS] & FLAG_LAST_BLOCK != 0 {
+            if *what == CONTENT && packet == ended {
                 tally.one(AGAIN_LAST);
+                if reply[content_reply_at::STATUS] != ERROR_NO_OFFER || before != after {
+                    return Err(format!("packet {place}: the last block comes again and is not answered with 0x0A alone"));
+                }
             }
+            let ends = *what == CONTENT && before.session != Session::Idle && after.session == Session::Idle;
+            ended = if ends { packet } else { &[] };
         }
         if let (Some(before), D3, CONTENT) = (before, answers[0].0, *what) {
             let most = packet.len().min(LONG_SIZE);

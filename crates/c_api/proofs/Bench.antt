@@ -30,7 +30,7 @@ use Rattle.host_record.specs.Record.{reportOf}
 use Rattle.host_decide.specs.Decide.{act, hears, hearsBlock, decideIn, decisionOf}
 use Rattle.host_packet.specs.Made.{laidOf, writtenOf}
 use Rattle.host.specs.Step.{breaksN1, packetOf, stepOn, stepOf}
-use Rattle.host.specs.Inner.{innerOf}
+use Rattle.host.specs.Inner.{innerOf, placeAfter}
 use Rattle.host_bytes.specs.Layout.{hostBytes, hostIn, flagsFit, readHost, bodiesBytes, contentsBytes, bodiesIn, contentsIn, bodyRead}
 use Rattle.c_device.specs.Device.{setUpCall, versionsCall, resetCall}
 use Rattle.c_device_packet.specs.Packet.{offerCall, contentCall, contentCallStaging}
@@ -47,7 +47,7 @@ use Rattle.c_api.proofs.Layouts.{layouts-hold}
 use Rattle.c_api.proofs.Packets.{packets-hold}
 
 pub calls-hold : CallsHold
-unfolding flatten same firstOf any pairs offerBytes fieldsIn buildOf kindIn readOf flat replyBytes within blank put eraseOf writeOf firstFrom find badIds badRegions setupVerdict breaksD1 refusalOf rejections needUnmet offerVerdict onOffer offerEntry contentVerdict takeBlock onBlock contentEntry setUpOf versionEntry componentsBytes deviceBytes componentsIn deviceIn stagedFit isRecord readDevice withSessionBytes withComponentBytes listIn bundleRow checkOf innerOf hostBytes hostIn readHost bodiesBytes contentsBytes contentsIn setUpCall versionsCall offerCall contentCall checkCall headIn parse nextOf tallyOf entriesFrom entriesIn bodyIn firstEntry rowB5 repeated rowB6 gap rowB7 rowB8 table ones reportOf act hears hearsBlock decideIn decisionOf laidOf writtenOf breaksN1 packetOf stepOn stepOf contentStaging resetEntry resetCall contentCallStaging freshCall reportCall stepCall stepCheckedCall stepCheckedContents buildOfferCall readOfferCall writeCall flagsFit withListedBytes bodiesIn bodyRead listCall componentCall entryCall
+unfolding flatten same firstOf any pairs offerBytes fieldsIn buildOf kindIn readOf flat replyBytes within blank put eraseOf writeOf firstFrom find badIds badRegions setupVerdict breaksD1 refusalOf rejections needUnmet offerVerdict onOffer offerEntry contentVerdict takeBlock onBlock contentEntry setUpOf versionEntry componentsBytes deviceBytes componentsIn deviceIn stagedFit isRecord readDevice withSessionBytes withComponentBytes listIn bundleRow checkOf innerOf hostBytes hostIn readHost bodiesBytes contentsBytes contentsIn setUpCall versionsCall offerCall contentCall checkCall headIn parse nextOf tallyOf entriesFrom entriesIn bodyIn firstEntry rowB5 repeated rowB6 gap rowB7 rowB8 table ones reportOf act hears hearsBlock decideIn decisionOf laidOf writtenOf breaksN1 packetOf stepOn stepOf contentStaging resetEntry resetCall contentCallStaging freshCall reportCall stepCall stepCheckedCall stepCheckedContents buildOfferCall readOfferCall writeCall flagsFit withListedBytes bodiesIn bodyRead listCall componentCall entryCall placeAfter
 calls-hold = record {
   records = λ session. refl;
   idle-session = refl;
@@ -77,8 +77,10 @@ calls-hold = record {
   begins-checked = refl;
   passes-reply = refl;
   passes-checked = refl;
+  passes-keeps = refl;
   passes-once = refl;
   still-runs = refl;
+  reports-done = refl;
   reports = refl;
   reports-failed = refl;
   steps = refl;

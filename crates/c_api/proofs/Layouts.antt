@@ -15,6 +15,7 @@ layouts-hold = record {
   records = refl;
   awaits = refl;
   hosts = refl;
+  flags = refl;
   fresh = refl;
   keeps = refl;
   silent = refl;

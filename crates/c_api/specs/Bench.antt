@@ -4,7 +4,7 @@ use Prim.Native.Nat.{ℕ, _*_, _-_}
 use mathlib.Core.Path.{_≡_}
 use mathlib.Core.Bool.{true, false}
 use mathlib.Core.List.{List, [], _∷_, _++_, flatten}
-use lib.ListN.{set, replicate}
+use lib.ListN.{set, take, replicate}
 use Rattle.wire.specs.Codes.{COMPONENT-LIMIT, SHORT-SIZE, LONG-SIZE}
 use Rattle.wire_offer.specs.Offer.{blankOffer}
 use Rattle.bundle_layout.specs.Rows.{served, B}
@@ -236,6 +236,10 @@ pair =
 abbrev pub pairContents : List ℕ
 pairContents = 0 ∷ 0 ∷ 1 ∷ 32 ∷ 0 ∷ 0 ∷ 0 ∷ 12 ∷ 0 ∷ 0 ∷ 0 ∷ 2 ∷ 0 ∷ 0 ∷ 0 ∷ replicate ((OFFER-LIMIT - 1) * BODY-SIZE) 0 ++ noHand
 
+-- the same once the second block is in hand: its entry and number, and the cursor behind it
+abbrev pub pairHand : List ℕ
+pairHand = take (CONTENTS-SIZE - 16) pairContents ++ 0 ∷ 0 ∷ 0 ∷ 0 ∷ 1 ∷ 0 ∷ 0 ∷ 0 ∷ 44 ∷ replicate 7 0
+
 -- a host that awaits the reply to its second block, after 5 packets in 1 pass, and has passed over a reply (1) or none (0)
 abbrev pub secondAwaited : (passed : ℕ) → List ℕ
 secondAwaited passed = 0xA5 ∷ 5 ∷ 0 ∷ 0 ∷ 0 ∷ 0 ∷ 1 ∷ replicate 7 0 ++ 5 ∷ 0 ∷ 0 ∷ 0 ∷ 1 ∷ 0 ∷ 0 ∷ 0 ∷ 0 ∷ 0 ∷ passed ∷ []
@@ -289,6 +293,7 @@ pub record CallsHold : Type 0 where
   pub begins-checked : stepCheckedCall freshOne smallContents small [] (replicate LONG-SIZE 9) ≡ begun
   pub passes-reply : stepCall (secondAwaited 0) pair (replicate SHORT-SIZE 0) (replicate LONG-SIZE 9) ≡ passedReply
   pub passes-checked : stepCheckedCall (secondAwaited 0) pairContents pair (replicate SHORT-SIZE 0) (replicate LONG-SIZE 9) ≡ passedReply
+  pub passes-keeps : stepCheckedContents (secondAwaited 0) pairContents pair (replicate SHORT-SIZE 0) (replicate LONG-SIZE 9) ≡ pairHand
   pub passes-once : stepCall (secondAwaited 1) pair (replicate SHORT-SIZE 0) (replicate LONG-SIZE 9)
       ≡ record {
         step = record { number = SERVED; entry = 0; length = 0 };
@@ -296,6 +301,8 @@ pub record CallsHold : Type 0 where
         packet = replicate LONG-SIZE 0;
       }
   pub still-runs : reportCall (secondAwaited 1) ≡ record { number = SERVED; completed = 0; mask = 0; packets = 5; passes = 1; ending = 0; status = 0 }
+  pub reports-done : reportCall (0xA5 ∷ 7 ∷ replicate 12 0 ++ 5 ∷ 0 ∷ 0 ∷ 0 ∷ 1 ∷ replicate 6 0)
+      ≡ record { number = SERVED; completed = 0; mask = 0; packets = 5; passes = 1; ending = 1; status = 0 }
   pub reports : reportCall (hostBytes sendingHost)
       ≡ record { number = SERVED; completed = 2; mask = 3; packets = 300; passes = 2; ending = 0; status = 0 }
   pub reports-failed : reportCall (hostBytes failedHost)

@@ -1,5 +1,5 @@
--- The layouts of include/cfu.h in literal bytes, with every byte of every number and of the previous packet another, so that no other layout that reads back can
--- take their place.
+-- The layouts of include/cfu.h in literal bytes. Every byte of every number and of the previous packet differs from every other, and the flags of two records
+-- differ in each pair of places, so that no other layout that reads back can take their place.
 use Prim.Native.Nat.{ℕ, _*_, _-_}
 use mathlib.Core.Path.{_≡_}
 use mathlib.Core.Bool.{true, false}
@@ -104,6 +104,18 @@ host = record {
   landed = false;
 }
 
+-- the same with the flags of the pass exchanged
+abbrev pub otherFlags : Host
+otherFlags = record {
+  token = host .token;
+  stage = host .stage;
+  mask = host .mask;
+  packets = host .packets;
+  passes = host .passes;
+  skipped = false;
+  landed = true;
+}
+
 -- the contents of a bundle of one body, and the block that the cursor is kept for
 abbrev pub body : Entry
 body = record { offer = blankOffer; offset = 0x04030201; length = 0x08070605; records = 0x0C0B0A09 }
@@ -151,6 +163,8 @@ pub record LayoutsHold : Type 0 where
       ∷ []
   pub hosts : hostBytes host
       ≡ 1 ∷ 5 ∷ 2 ∷ 3 ∷ 4 ∷ 5 ∷ 6 ∷ 7 ∷ 8 ∷ 9 ∷ 10 ∷ 11 ∷ 12 ∷ 13 ∷ 14 ∷ 15 ∷ 16 ∷ 17 ∷ 18 ∷ 19 ∷ 20 ∷ 21 ∷ 1 ∷ 0 ∷ 1 ∷ []
+  pub flags : hostBytes otherFlags
+      ≡ 1 ∷ 5 ∷ 2 ∷ 3 ∷ 4 ∷ 5 ∷ 6 ∷ 7 ∷ 8 ∷ 9 ∷ 10 ∷ 11 ∷ 12 ∷ 13 ∷ 14 ∷ 15 ∷ 16 ∷ 17 ∷ 18 ∷ 19 ∷ 20 ∷ 21 ∷ 0 ∷ 1 ∷ 1 ∷ []
   pub fresh : hostBytes (freshHost 0) ≡ replicate HOST-SIZE 0
   -- the contents of a checked bundle: row, entry, count, bodies, the block in hand, the cursor
   pub keeps : contentsBytes contents hand 0x1C1B1A1918171615

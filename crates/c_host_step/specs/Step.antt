@@ -65,7 +65,7 @@ stepCheckedCall host contents bundle reply packet =
     (sized packet LONG-SIZE (refusedStep WRONG-OUTPUT host packet)
     (stepBy host (innerOver host contents bundle reply .step))))
 
--- the contents after it: with the block that is sent, if one is, and the cursor behind it
+-- the contents after it: with the block whose reply is awaited, if one is, and the cursor behind it
 unfoldable pub stepCheckedContents : (host contents bundle reply packet : List ℕ) → List ℕ
 stepCheckedContents host contents bundle reply packet =
     sized host HOST-SIZE contents

@@ -42,7 +42,7 @@ use Rattle.device.specs.Refusals.{served, D, breaksD1, refusalOf, Outcom
 use Rattle.device.specs.Offer.{offerEntry}
 use Rattle.device.specs.Content.{sessionComponent, contentVerdict, contentEntry, contentStaging}
 use Rattle.device.specs.Entries.{newDevice, setUpBy, setUpOf, versionEntry, Reset, resetEntry, serveEntry}
-use Rattle.device.specs.Copies.{onlyReplies, AnswerChangesNothing, ResentBlock, OtherBytesInvalid, FlaggedInvalid, PreviousJudged, HoldsNone, HeldOnlyReceiving}
+use Rattle.device.specs.Copies.{onlyReplies, AnswerChangesNothing, CopyAnswered, ResentBlock, OtherBytesInvalid, FlaggedInvalid, PreviousJudged, HoldsNone, HeldOnlyReceiving}
 use Rattle.device.proofs.setup.Laws.{refused-set-up, made-set-up}
 use Rattle.device.proofs.Answers.{content-served}
 use Rattle.device.proofs.Passes.{serves}
@@ -99,6 +99,12 @@ invalid region r c z =
     (either (λ (v : ContentVerdict). v ≡ Answer ERROR-INVALID) (badShape c) _ _ refl
     (either (λ (v : ContentVerdict). v ≡ Answer ERROR-INVALID) (badFirst (Receiving r) c) _ _ refl refl))
 
+-- receiving, a copy of a shape that check 2 lets pass, without the first flag, and not the next sequence: 0
+again : (region : Region) (r : Receives) (c : ContentHead) → badShape c ≡ false → isFirst c ≡ false → eqb (c .sequence) (r .next) ≡ false
+    → receiving.contentVerdict region (Receiving r) true c ≡ Answer SUCCESS
+unfolding receiving.contentVerdict firstOf
+again region r c b f z = rw (b, f, z)
+
 -- while receiving, what has the previous packet's sequence and is no copy of it
 repeat-invalid : (d : Device) (staging report : List ℕ) → contentEntry d staging report .row ≡ served → isReceiving (d .session .stage) ≡ true
     → headIn report .sequence ≡ headIn (d .session .previous) .sequence → isCopy (d .session .previous) report ≡ false → contentVerdict d report ≡ Answer ERROR-INVALID
@@ -112,6 +118,19 @@ repeat-invalid d staging report e r q c =
     go (Receiving x) z r w =
         invalid (sessionComponent d .fixed .region) x (headIn report)
         (after-differs (headIn report .sequence) (x .next) (ap following q ∙ eqb-true _ _ (not-false _ w)))
+
+pub copy-answered : CopyAnswered
+copy-answered d staging report e r q b f g =
+    let c : isCopy (d .session .previous) report ≡ true = rw (sym q) (copies report f g) in
+    rw c (go (d .session .stage) refl r (serves 60 d (length staging) (length report) (content-served d staging report e) .record-passes .previous))
+  where
+    go : (stage : Stage) → d .session .stage ≡ stage → isReceiving stage ≡ true → wrongPrevious stage (d .session .previous) ≡ false
+        → receiving.contentVerdict (sessionComponent d .fixed .region) stage true (headIn report) ≡ Answer SUCCESS
+    go Idle z r w = absurd (true≢false (sym r))
+    go (Offered o) z r w = absurd (true≢false (sym r))
+    go (Receiving x) z r w =
+        again (sessionComponent d .fixed .region) x (headIn report) b f
+        (after-differs (headIn report .sequence) (x .next) (ap (λ (p : List ℕ). following (headIn p .sequence)) q ∙ eqb-true _ _ (not-false _ w)))
 
 pub other-bytes-invalid : OtherBytesInvalid
 other-bytes-invalid d staging report e r q n = repeat-invalid d staging report e r q (go (same (d .session .previous) report) refl)

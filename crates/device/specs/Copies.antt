@@ -1,20 +1,22 @@
 -- A block sent again (document 02, A4): what a copy of the previous packet is answered with, that it changes nothing, what a repeat with other bytes is answered
--- with, what D1 asks of the previous packet, and that a session which is not receiving holds none.
+-- with, what D1 asks of the previous packet, and that from set-up on a session which is not receiving holds none.
 use Prim.Native.Nat.{ℕ}
 use mathlib.Core.Path.{_≡_}
 use mathlib.Core.Bool.{true, false, _||_}
 use mathlib.Core.List.{List, [], _∷_}
+use lib.ListN.{replicate}
 use Rattle.wire.specs.Bytes.{Bytes}
-use Rattle.wire.specs.Codes.{ERROR-INVALID}
+use Rattle.wire.specs.Codes.{SUCCESS, ERROR-INVALID}
 use Rattle.wire_content.specs.Head.{headIn}
 use Rattle.wire_content.specs.Reply.{replyBytes}
+use Rattle.wire_version.specs.Reply.{REPLY-SIZE}
 use Rattle.device_component.specs.declared.record.Listed.{Listed}
 use Rattle.device_session.specs.Stage.{isReceiving, following}
 use Rattle.device_session.specs.Effect.{blankPacket, oneReply}
 use Rattle.device_session.specs.declared.stage.Receiving.{Receiving}
 use Rattle.device_session.specs.declared.stage.Stage.the-variants as stage
 use Rattle.device_session.specs.declared.owed.Owed.the-variants.{Nothing}
-use Rattle.device_receiving.specs.Content.{isFirst, isLast}
+use Rattle.device_receiving.specs.Content.{isFirst, isLast, badShape}
 use Rattle.device_receiving.specs.declared.checks.ContentVerdict.the-variants.{Answer, Take}
 use Rattle.device.specs.declared.record.Device.{Device}
 use Rattle.device.specs.declared.answer.Channel.{Channel}
@@ -36,6 +38,12 @@ onlyReplies d report status = record {
 abbrev pub AnswerChangesNothing : Type 0
 AnswerChangesNothing = (d : Device) (staging report : List ℕ) (status : ℕ) → contentEntry d staging report .row ≡ served → contentVerdict d report ≡ Answer status
     → (contentEntry d staging report ≡ onlyReplies d report status) × (contentStaging d staging report ≡ staging)
+
+-- while receiving, the previous packet once more is answered with status 0, where checks 2 and 3 let it pass and it is neither first nor last
+abbrev pub CopyAnswered : Type 0
+CopyAnswered = (d : Device) (staging report : List ℕ) → contentEntry d staging report .row ≡ served → isReceiving (d .session .stage) ≡ true
+    → report ≡ d .session .previous → badShape (headIn report) ≡ false → isFirst (headIn report) ≡ false → isLast (headIn report) ≡ false
+    → contentVerdict d report ≡ Answer SUCCESS
 
 -- a block that is taken, neither first nor last, and is sent again at once: the same reply, and nothing changes; so it is however often it is sent
 abbrev pub ResentBlock : Type 0
@@ -61,11 +69,11 @@ pub record PreviousJudged : Type 0 where
   pub packets : (d : Device) (channel : Channel) (staging report : List ℕ) (r : Receiving) → d .session .stage ≡ stage.Receiving r
       → (following (headIn (d .session .previous) .sequence) ≡ r .next → ⊥) → serveEntry d channel staging report ≡ refusedBy (D 1) d
   pub versions : (d : Device) (r : Receiving) → d .session .stage ≡ stage.Receiving r
-      → (following (headIn (d .session .previous) .sequence) ≡ r .next → ⊥) → versionEntry d .row ≡ D 1
+      → (following (headIn (d .session .previous) .sequence) ≡ r .next → ⊥) → versionEntry d ≡ record { row = D 1; packet = replicate REPLY-SIZE 0 }
   pub reset : (d : Device) (r : Receiving) → d .session .stage ≡ stage.Receiving r
       → (following (headIn (d .session .previous) .sequence) ≡ r .next → ⊥) → resetEntry d ≡ record { row = D 1; device = d }
 
--- a session that is not receiving holds no packet, so that sessions with the same stage and the same owed reply are the same
+-- a session that is not receiving holds no packet, so that two of these with the same stage and the same owed reply are the same
 abbrev pub HoldsNone : Device → Type 0
 HoldsNone d = isReceiving (d .session .stage) ≡ false → d .session .previous ≡ blankPacket
 

@@ -30,6 +30,8 @@ a4-differs = record {
   unused = (refl, refl, refl);
   first01 = (refl, refl, refl);
   first = (refl, refl, refl);
+  last01 = (refl, refl, refl);
+  last = (refl, refl, refl);
   previous01 = (refl, refl, refl);
   previous = (refl, refl);
 }

@@ -1,4 +1,4 @@
--- A call of an entry that is given a device's record, and what it comes to. Set-up, which makes the record, compares no version and is left out.
+-- A call of an entry that is given a device's record, and what it comes to. Set-up, which makes the record, compares no version and no sequence and is left out.
 use Prim.Native.Nat.{ℕ}
 use mathlib.Core.List.{List}
 use Rattle.device.specs.declared.record.Device.{Device}

@@ -4,7 +4,7 @@ use Prim.Native.Nat.{ℕ, _-_}
 use mathlib.Core.Path.{_≡_}
 use mathlib.Core.List.{List, [], _∷_, _++_}
 use lib.ListN.{replicate}
-use Rattle.wire.specs.Codes.{COMPONENT-LIMIT, OFFER-ACCEPT, OFFER-REJECT, REJECT-WRONG-VARIANT, SUCCESS, ERROR-VERSION, ERROR-INVALID}
+use Rattle.wire.specs.Codes.{COMPONENT-LIMIT, OFFER-ACCEPT, OFFER-REJECT, REJECT-WRONG-VARIANT, SUCCESS, ERROR-VERSION, ERROR-NO-OFFER, ERROR-INVALID}
 use Rattle.wire.specs.Version.{versionOf}
 use Rattle.wire.specs.declared.version.Version.{Version}
 use Rattle.device_component.specs.Record.{plain, withStaged, blankComponent}
@@ -84,6 +84,10 @@ otherUnused = oneByte 0x00 4 0 (0x77 ∷ replicate 50 0x00 ++ (0x01 ∷ []))
 abbrev pub firstBlock : List ℕ
 firstBlock = oneByte 0x80 4 0 (0x77 ∷ replicate 51 0x00)
 
+-- a last block with sequence 4
+abbrev pub lastBlock : List ℕ
+lastBlock = oneByte 0x40 4 0 (0x77 ∷ replicate 51 0x00)
+
 -- neither first nor last, with sequence 65,535
 abbrev pub beforeWrap : List ℕ
 beforeWrap = oneByte 0x00 0xFF 0xFF (0x77 ∷ replicate 51 0x00)
@@ -107,7 +111,7 @@ Only rules session p low high status =
     × (leaving rules session p ≡ replicate 8 0)
 
 -- a block that is delivered once more: document 01's rules answer 0x0B, those in force 0, also where the next sequence is 0 after 65,535. Where a byte differs, be
--- it one that counts or not, and for a first block, both answer 0x0B. A record whose previous packet is not just before the next one is served by document 01's
+-- it one that counts or not, and for a first block, both answer 0x0B; a last block, whose session is over, both answer 0x0A. A record whose previous packet is not just before the next one is served by document 01's
 -- rules and refused by D1 in force
 pub record A4Differs : Type 0 where
   pub copy01 : Only document01 (receives 5 middle) middle 4 0 ERROR-INVALID
@@ -120,5 +124,7 @@ pub record A4Differs : Type 0 where
   pub unused : Only inForce (receives 5 middle) otherUnused 4 0 ERROR-INVALID
   pub first01 : Only document01 (receives 5 firstBlock) firstBlock 4 0 ERROR-INVALID
   pub first : Only inForce (receives 5 firstBlock) firstBlock 4 0 ERROR-INVALID
+  pub last01 : Only document01 idle lastBlock 4 0 ERROR-NO-OFFER
+  pub last : Only inForce idle lastBlock 4 0 ERROR-NO-OFFER
   pub previous01 : Only document01 (receives 6 middle) middle 4 0 ERROR-INVALID
   pub previous : (delivering inForce (receives 6 middle) middle .row ≡ D 1) × (resetBy inForce (deviceOf production (receives 6 middle)) .row ≡ D 1)

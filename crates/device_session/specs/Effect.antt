@@ -23,7 +23,7 @@ pub record FitsSession (s : Session) : Type 0 where
   pub size : length (s .previous) ≡ LONG-SIZE
   pub bytes : Bytes (s .previous)
 
--- no packet, as 60 zero bytes: what a session holds while it is not receiving
+-- no packet, as 60 zero bytes: what a session is given as it ends and as it is opened
 abbrev pub blankPacket : List ℕ
 blankPacket = replicate LONG-SIZE 0
 

@@ -115,7 +115,7 @@ hostBytes h =
     ++ (bytesOf 4 (h .mask)
     ++ (bytesOf 4 (h .packets) ++ (bytesOf 4 (h .passes) ++ flagByte (h .skipped) ∷ flagByte (h .landed) ∷ flagByte (passedIn (h .stage)) ∷ [])))
 
--- the fields that stand in bytes, unjudged; what the stage has no use for is not read
+-- the fields that stand in bytes, unjudged (`areFlags` judges the flags, in every stage); what the stage has no use for is no part of them
 abbrev pub endIn : (number status : ℕ) → End
 endIn n status =
     cond (eqb n 1) (end.Status (status % 256))

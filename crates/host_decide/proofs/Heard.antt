@@ -32,7 +32,7 @@ unfolding hears
 hears-ours row n t h reason status = rw (eq-eqb (h .token) (h .token) refl)
 
 -- two blocks in a row differ in their sequence
-next-differs : (k : ℕ) → 1 ≤ k → sequenceOf k ≡ sequenceOf (k - 1) → ⊥
+pub next-differs : (k : ℕ) → 1 ≤ k → sequenceOf k ≡ sequenceOf (k - 1) → ⊥
 next-differs k l e = omega arith
 
 -- the reply to a block never repeats the one before it

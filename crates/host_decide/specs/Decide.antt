@@ -136,8 +136,8 @@ hears row n t h reply =
     cond (foreignOffer h reply) (ends h Foreign)
     (act (cell row (offerReply.replyIn reply .status)) n t (offerReply.replyIn reply .status) h)
 
--- a reply to a block is the one just taken, once more: the first such while the next block's is awaited, with the sequence of the block before and status 0
--- (document 02, A4)
+-- a reply to a block reads as the one just taken, once more: the first such while the next block's is awaited, with the sequence of the block before and status
+-- 0 (document 02, A4)
 abbrev pub repeatsTaken : Awaited → ContentReply → Bool
 repeatsTaken a r =
     (leb 1 (a .place .block) && not (a .passed)) && (eqb (r .sequence) (sequenceOf (a .place .block - 1)) && eqb (r .status) SUCCESS)

@@ -136,7 +136,8 @@ turnsTwice twice n = run quartered twice n (start 7 seven (replicate 112 0) [])
 abbrev pub comesTwice : Schedule → System
 comesTwice twice = lastOf quartered twice 7 seven (replicate 112 0) []
 
--- it has the same list, counts, device and bytes, in 8 packets and 1 pass, whichever blocks arrive twice; each copy takes a turn of the host more
+-- with as many copies: the same kinds of packets and statuses, 8 packets and 1 pass, the same pending component and the same bytes; each copy takes a turn of the
+-- host more
 pub record RunsWith (twice : Schedule) (copies : ℕ) : Type 0 where
   pub says : map said (comesTwice twice .trace)
       ≡ code 0 ∷ code 1 ∷ offered 1 OFFER-ACCEPT 0 ∷ block SUCCESS ∷ block SUCCESS ∷ block SUCCESS ∷ block SUCCESS ∷ code 2 ∷ []

@@ -22,7 +22,8 @@ use Rattle.bundle_layout.specs.Rows as bundle
 use Rattle.device.specs.declared.record.Device.{Device}
 use Rattle.host_record.specs.Record.{freshHost, sentAt, passedAt, sequenceOf, hasBit, hasEnded}
 use Rattle.host_record.specs.declared.record.Place.{Place}
-use Rattle.host_record.specs.declared.record.HostStage.the-variants.{Sending}
+use Rattle.host_record.specs.declared.record.HostStage.the-variants.{Sending, Ended}
+use Rattle.host_record.specs.declared.record.End.the-variants.{Foreign}
 use Rattle.host_decide.specs.Decide.{at}
 use Rattle.host_packet.specs.Answer.{Step, served}
 use Rattle.host.specs.Step.{entryAt, stepOf}
@@ -129,6 +130,18 @@ pub record PassedOver (h h′ : Host) (reply taken : List ℕ) : Type 0 where
   pub size : length reply ≡ SHORT-SIZE
   pub reads : contentReply.replyIn reply ≡ record { sequence = sequenceOf (place .block - 1); status = SUCCESS }
   pub same : contentReply.replyIn taken ≡ contentReply.replyIn reply
+
+-- a step on a reply with the sequence of the block before and status 0, while the reply to this one, which is not the first of its body, is awaited
+pub record Passes (b : List ℕ) (h : Host) (place : Place) (reply : List ℕ) : Type 0 where
+  -- the first such reply is passed over, and nothing else of the record changes
+  pub first : h .stage ≡ Sending (sentAt place) → (stepOf b h reply .sent ≡ []) × (stepOf b h reply .host ≡ at h (Sending (passedAt place)))
+  -- the second is H2
+  pub second : h .stage ≡ Sending (passedAt place) → (stepOf b h reply .sent ≡ []) × (stepOf b h reply .host ≡ at h (Ended Foreign))
+
+-- so it is of every record and bundle that no row refuses
+abbrev pub HostPasses : Type 0
+HostPasses = (b : List ℕ) (h : Host) (place : Place) (reply : List ℕ) → stepOf b h reply .row ≡ served → 1 ≤ place .block → length reply ≡ SHORT-SIZE
+    → contentReply.replyIn reply ≡ record { sequence = sequenceOf (place .block - 1); status = SUCCESS } → Passes b h place reply
 
 -- a step that sends nothing, of a record that has not ended, ends it or passes over the reply that it was handed
 abbrev pub HostSilent : Type 0

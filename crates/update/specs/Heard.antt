@@ -9,8 +9,8 @@ use Rattle.host_record.specs.Record.{hasEnded}
 use Rattle.host_packet.specs.Answer.{Step}
 use Rattle.update.specs.Trace.{Exchange}
 
--- the step passes over the reply that it was handed: it sends nothing, and the host has not ended; so would a refused step, but over an accepted bundle N1 is
--- never met (`HostEnds`)
+-- the step passes over the reply that it was handed: it sends nothing, and the host has not ended; a refused step would look the same, but over an accepted
+-- bundle N1 is never met (`HostEnds`)
 abbrev pub passesOver : Step → Bool
 passesOver x = eqb (length (x .sent)) 0 && not (hasEnded (x .host .stage))
 

@@ -116,7 +116,8 @@ abbrev pub recordsIn : List ℕ → ℕ
 recordsIn b = recordsFrom b (entriesIn b)
 
 -- within so many steps every host ends, whatever it is handed: code 0 and the step that ends; in each of n passes code 1, code 2, for each of n offers nine
--- offers and eight notifies, and for each of r blocks its reply and, but for the first block of a body, one that is passed over before it (document 02, A4)
+-- offers and eight notifies, and for each of r blocks the step that sends it and, but for the first block of each of n bodies, one that passes over a reply
+-- while it is awaited (document 02, A4)
 abbrev pub stepBound : (n r : ℕ) → ℕ
 stepBound n r = 2 + n * (16 * n + 2 + 2 * r)
 

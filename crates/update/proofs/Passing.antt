@@ -65,8 +65,10 @@ module _ (h : Host) (place : Place) (reply : List ℕ) (l : 1 ≤ place .block) 
   stops : (n : ℕ) (last : Bool) → hearsBlock n last (passedAt place) h reply ≡ ends h Foreign
   stops n last =
       let x : hearsReply n last (passedAt place) h taken ≡ ends h Foreign
-      = rw (le-leb 1 (place .block) l,
-      ne-eqb (sequenceOf (place .block - 1)) (sequenceOf (place .block)) (λ z. next-differs (place .block) l (sym z))) in
+      = rw (
+        le-leb 1 (place .block) l,
+        ne-eqb (sequenceOf (place .block - 1)) (sequenceOf (place .block)) (λ z. next-differs (place .block) l (sym z)),
+      ) in
       hears n last (passedAt place) ∙ x
 
 pub host-passes : HostPasses

@@ -27,7 +27,7 @@ use Rattle.c_host.specs.Check.{bundleNumber}
 -- a component of the list by its numbers
 abbrev pub listedOf : CListed → Listed
 listedOf c = record {
-  fixed = record { id = c .id; region = record { base = record { 0 = c .base }; len = c .length } };
+  fixed = record { id = c .id; region = record { base = record { 0 = c .base }; len = c .length }; floor = versionIn (c .floor) };
   running = versionIn (c .running);
 }
 
@@ -56,13 +56,14 @@ componentTold c = record {
   running = partsOf (c .running);
   base = c .fixed .region .base .0;
   length = c .fixed .region .len;
+  floor = partsOf (c .fixed .floor);
   pending = pendingOf (c .staged);
   staged = stagedOf (c .staged);
 }
 
 -- a refused call tells of no component
 abbrev pub noComponent : (number : ℕ) → CComponent
-noComponent number = record { number = number; id = 0; running = noVersion; base = 0; length = 0; pending = 0; staged = noVersion }
+noComponent number = record { number = number; id = 0; running = noVersion; base = 0; length = 0; floor = noVersion; pending = 0; staged = noVersion }
 
 -- a component of a device: C1, D1, C4, or what is told of it
 unfoldable pub componentCall : (device : List ℕ) → (place : ℕ) → CComponent

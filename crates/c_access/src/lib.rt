@@ -44,8 +44,13 @@ fn listed(c: CListed) -> Listed
         len: c.length,
     };
     let running = c.running;
+    let floor = c.floor;
     Listed {
-        fixed: Fixed { id: c.id, region },
+        fixed: Fixed {
+            id: c.id,
+            region,
+            floor: version_in(floor),
+        },
         running: version_in(running),
     }
 }
@@ -80,6 +85,7 @@ fn no_component(number: u32) -> CComponent
         running: none,
         base: 0,
         length: 0,
+        floor: none,
         pending: 0,
         staged: none,
     }
@@ -112,6 +118,7 @@ fn told(c: Component) -> CComponent
 {
     let fixed = c.fixed;
     let region = fixed.region;
+    let floor = fixed.floor;
     let running = c.running;
     let staged = c.staged;
     CComponent {
@@ -120,6 +127,7 @@ fn told(c: Component) -> CComponent
         running: parts(running),
         base: region.base.number(),
         length: region.len,
+        floor: parts(floor),
         pending: pending(staged),
         staged: staged_parts(staged),
     }

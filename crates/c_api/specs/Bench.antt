@@ -44,12 +44,12 @@ use Rattle.c_read.specs.Read.{readOfferCall}
 use Rattle.c_api.specs.Layouts.{LayoutsHold}
 use Rattle.c_api.specs.Packets.{PacketsHold}
 
--- what set-up is told of the two components: id, running version, region base, region length; five slots are not in use
+-- what set-up is told of the two components: id, running version, region base, region length, floor; five slots are not in use
 abbrev pub one : List ℕ
-one = 1 ∷ 0x00 ∷ 0x02 ∷ 0x00 ∷ 0x01 ∷ 0 ∷ 0 ∷ 0 ∷ 0 ∷ 64 ∷ 0 ∷ 0 ∷ 0 ∷ []
+one = 1 ∷ 0x00 ∷ 0x02 ∷ 0x00 ∷ 0x01 ∷ 0 ∷ 0 ∷ 0 ∷ 0 ∷ 64 ∷ 0 ∷ 0 ∷ 0 ∷ 0 ∷ 0 ∷ 0 ∷ 0 ∷ []
 
 abbrev pub two : List ℕ
-two = 2 ∷ 0x00 ∷ 0x01 ∷ 0x00 ∷ 0x01 ∷ 64 ∷ 0 ∷ 0 ∷ 0 ∷ 64 ∷ 0 ∷ 0 ∷ 0 ∷ []
+two = 2 ∷ 0x00 ∷ 0x01 ∷ 0x00 ∷ 0x01 ∷ 64 ∷ 0 ∷ 0 ∷ 0 ∷ 64 ∷ 0 ∷ 0 ∷ 0 ∷ 0 ∷ 0 ∷ 0 ∷ 0 ∷ []
 
 abbrev pub list : List ℕ
 list = filledTo LIST-SIZE (one ++ two)
@@ -59,10 +59,20 @@ abbrev pub minorOne : (n : ℕ) → CVersion
 minorOne n = record { major = 1; minor = n; variant = 0 }
 
 abbrev pub listedOne : CListed
-listedOne = record { id = 1; running = minorOne 2; base = 0; length = 64 }
+listedOne = record { id = 1; running = minorOne 2; base = 0; length = 64; floor = noVersion }
 
 abbrev pub listedTwo : CListed
-listedTwo = record { id = 2; running = minorOne 1; base = 64; length = 64 }
+listedTwo = record { id = 2; running = minorOne 1; base = 64; length = 64; floor = noVersion }
+
+-- the first with a floor of 1.5.variant, by its numbers and as bytes, alone in a list; and the record that set-up makes of it, with floor 1.5.0 (document 02, A5)
+abbrev pub listedRaised : CListed
+listedRaised = record { id = 1; running = minorOne 2; base = 0; length = 64; floor = minorOne 5 }
+
+abbrev pub raised : (variant : ℕ) → List ℕ
+raised variant = 1 ∷ 0x00 ∷ 0x02 ∷ 0x00 ∷ 0x01 ∷ 0 ∷ 0 ∷ 0 ∷ 0 ∷ 64 ∷ 0 ∷ 0 ∷ 0 ∷ variant ∷ 0x05 ∷ 0x00 ∷ 0x01 ∷ []
+
+abbrev pub raisedRecord : List ℕ
+raisedRecord = 0x42 ∷ 0x00 ∷ 128 ∷ 0 ∷ 0 ∷ 0 ∷ 1 ∷ replicate 67 0 ++ filledTo (COMPONENT-LIMIT * COMPONENT-SIZE) (raised 0)
 
 -- the components of a record, with nothing staged
 abbrev pub components : List ℕ
@@ -317,11 +327,16 @@ pub record CallsHold : Type 0 where
       ≡ record { number = SERVED; kind = 1; offer = otherFields; signal = record { code = 0; token = 0 } }
   pub lists-one : listCall (replicate LIST-SIZE 0) 0 listedOne ≡ leaves SERVED (filledTo LIST-SIZE one)
   pub lists-two : listCall (filledTo LIST-SIZE one) 1 listedTwo ≡ leaves SERVED list
+  pub lists-raised : listCall (replicate LIST-SIZE 0) 0 listedRaised ≡ leaves SERVED (filledTo LIST-SIZE (raised 0))
+  pub sets-up-raised : setUpCall (replicate DEVICE-SIZE 0) 0x0042 (filledTo LIST-SIZE (raised 0)) 1 128 ≡ leaves SERVED raisedRecord
+  pub sets-up-none : setUpCall (replicate DEVICE-SIZE 9) 0x0042 (filledTo LIST-SIZE (raised 1)) 1 128 ≡ leaves 0x5305 (replicate DEVICE-SIZE 9)
+  pub tells-raised : componentCall raisedRecord 0
+      ≡ record { number = SERVED; id = 1; running = minorOne 2; base = 0; length = 64; floor = minorOne 5; pending = 0; staged = noVersion }
   pub lists-no-more : listCall list COMPONENT-LIMIT listedTwo ≡ leaves 0x4304 list
   pub tells-two : componentCall (deviceBytes (benchIn idle)) 1
-      ≡ record { number = SERVED; id = 2; running = minorOne 1; base = 64; length = 64; pending = 0; staged = noVersion }
+      ≡ record { number = SERVED; id = 2; running = minorOne 1; base = 64; length = 64; floor = noVersion; pending = 0; staged = noVersion }
   pub tells-staged : componentCall (head ++ (replicate 67 0 ++ stagedComponents)) 0
-      ≡ record { number = SERVED; id = 1; running = minorOne 2; base = 0; length = 64; pending = 1; staged = minorOne 3 }
+      ≡ record { number = SERVED; id = 1; running = minorOne 2; base = 0; length = 64; floor = noVersion; pending = 1; staged = minorOne 3 }
   pub tells-no-more : componentCall (deviceBytes (benchIn idle)) 2 ≡ noComponent 0x4304
   pub tells-of-none : componentCall (replicate DEVICE-SIZE 0) 0 ≡ noComponent 0x4401
   pub enters : entryCall (contentsBytes contents noPlace 0) 0 ≡ record { number = SERVED; entry = 0; offset = 56; length = 74; records = 2 }

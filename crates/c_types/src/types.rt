@@ -122,9 +122,10 @@ pub struct CListed {
     pub running: CVersion,
     pub base: u32,
     pub length: u32,
+    pub floor: CVersion,
 }
 
-// A component of a device: what runs, its region, whether a version is staged, 0 or 1, and that version, zero where none is.
+// A component of a device: what runs, its region, its floor, whether a version is staged, 0 or 1, and that version, zero where none is.
 #[repr(C)]
 pub struct CComponent {
     pub number: u32,
@@ -132,6 +133,7 @@ pub struct CComponent {
     pub running: CVersion,
     pub base: u32,
     pub length: u32,
+    pub floor: CVersion,
     pub pending: u8,
     pub staged: CVersion,
 }

@@ -15,7 +15,7 @@ use Rattle.device_component.specs.Setup as setup
 use Rattle.device_component.specs.Setup.{setupVerdict}
 use Rattle.device_component.specs.declared.record.Component.{Component}
 use Rattle.device_component.specs.declared.setup.SetupVerdict.{SetupVerdict}
-use Rattle.device_component.specs.declared.setup.SetupVerdict.the-variants.{Fine, S1, S2, S3, S4}
+use Rattle.device_component.specs.declared.setup.SetupVerdict.the-variants.{Fine, S1, S2, S3, S4, S5}
 use Rattle.device.specs.declared.record.Device.{Device}
 use Rattle.device.specs.declared.answer.Channel.{Channel}
 use Rattle.device.specs.Record.{component}
@@ -55,6 +55,7 @@ set-up-passes platform list count n l = go (setupVerdict n count (map listed lis
   go S2 e h = let z : _≡_ {A = ℕ} 0 1 = cc in absurd (omega arith)
   go S3 e h = let z : _≡_ {A = ℕ} 0 1 = cc in absurd (omega arith)
   go S4 e h = let z : _≡_ {A = ℕ} 0 1 = cc in absurd (omega arith)
+  go S5 e h = let z : _≡_ {A = ℕ} 0 1 = cc in absurd (omega arith)
 
 -- each of the six moves keeps D1
 move-passes : {d d′ : Device} {channel : Channel} {staging report : List ℕ} → Passes d → Move d channel staging report d′ → breaksD1 d′ ≡ false

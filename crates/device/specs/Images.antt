@@ -1,4 +1,4 @@
--- What becomes pending (document 01, "The device", image judgement; document 02, A1; document 00: one module took another module's image).
+-- What becomes pending (document 01, "The device", image judgement; document 02, A1 and A5; document 00: one module took another module's image).
 use Prim.Native.Nat.{ℕ}
 use mathlib.Core.Path.{_≡_}
 use mathlib.Core.Bool.{true}
@@ -16,7 +16,7 @@ use Rattle.device.specs.Record.{component}
 use Rattle.device.specs.Entries.{serveEntry, serveStaging}
 
 -- whatever packet comes, a component that is pending with a version afterwards was so before, or its region now holds an image with a right CRC that bears the
--- component's own id and this version, which has the running variant and no lower release
+-- component's own id and this version, which has the running variant, no lower release, and none below the floor's
 abbrev pub StagesOwnImage : Type 0
 StagesOwnImage = (d : Device) (channel : Channel) (staging report : List ℕ) (k : ℕ) (v : Version)
     → component (serveEntry d channel staging report .device) k .staged ≡ Pending v

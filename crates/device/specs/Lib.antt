@@ -3,8 +3,10 @@ pub mod Refusals
 pub mod Offer
 pub mod Content
 pub mod Entries
+pub mod Calls
 pub mod Promises
 pub mod Copies
 pub mod Images
+pub mod Floors
 pub mod Sessions
 pub mod Bench

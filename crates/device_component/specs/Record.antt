@@ -1,4 +1,4 @@
--- The component's record: its values, what pending means, and the only ways it is made and changed (document 01, "The device").
+-- The component's record: its values, what pending means, and the only ways it is made and changed (document 01, "The device"; document 02, A5: its floor).
 use Prim.Native.Nat.{ℕ, _<_}
 use mathlib.Core.Bool.{Bool, true, false}
 use Rattle.wire.specs.Version.{FitsVersion}
@@ -18,6 +18,7 @@ FitsStaged (Pending v) = FitsVersion v
 pub record FitsFixed (f : Fixed) : Type 0 where
   pub id : f .id < 256
   pub region : FitsRegion (f .region)
+  pub floor : FitsVersion (f .floor)
 
 pub record FitsComponent (c : Component) : Type 0 where
   pub fixed : FitsFixed (c .fixed)
@@ -46,13 +47,16 @@ withStaged c v = record { fixed = c .fixed; running = c .running; staged = Pendi
 abbrev pub afterReset : Component → Component
 afterReset c = record { fixed = c .fixed; running = effective (c .running) (c .staged); staged = Nothing }
 
--- a component by its numbers, with nothing staged
-abbrev pub plain : (id running base len : ℕ) → Component
-plain id running base len = record {
-  fixed = record { id = id; region = record { base = record { 0 = base }; len = len } };
+-- a component by its numbers, with nothing staged: with this floor, and with none, which is floor 0
+abbrev pub floored : (floor id running base len : ℕ) → Component
+floored floor id running base len = record {
+  fixed = record { id = id; region = record { base = record { 0 = base }; len = len }; floor = record { 0 = floor } };
   running = record { 0 = running };
   staged = Nothing;
 }
+
+abbrev pub plain : (id running base len : ℕ) → Component
+plain id running base len = floored 0 id running base len
 
 -- stands where the list has no component; no answer depends on it
 abbrev pub blankComponent : Component

@@ -1,4 +1,4 @@
--- Rows S1 to S4 (document 01, "Numbered refusals"), tried one after another over the whole list.
+-- Rows S1 to S5 (document 01, "Numbered refusals"; S5: document 02, A5), tried one after another over the whole list.
 use Prim.Native.Nat.{ℕ, _+_}
 use mathlib.Core.Bool.{Bool, not, cond, _||_, _&&_}
 use mathlib.Core.List.{List, [], _∷_}
@@ -6,10 +6,12 @@ use lib.Dec.{ltb, leb, eqb}
 use lib.ListN.{take}
 use Rattle.wire.specs.Codes.{COMPONENT-LIMIT, ID-LIMIT}
 use Rattle.wire.specs.Checks.{firstOf, any, pairs}
+use Rattle.wire.specs.Version.{variantOf}
+use Rattle.wire.specs.declared.version.Version.{Version}
 use Rattle.image.specs.declared.region.Region.{Region}
 use Rattle.device_component.specs.declared.record.Component.{Component}
 use Rattle.device_component.specs.declared.setup.SetupVerdict.{SetupVerdict}
-use Rattle.device_component.specs.declared.setup.SetupVerdict.the-variants.{Fine, S1, S2, S3, S4}
+use Rattle.device_component.specs.declared.setup.SetupVerdict.the-variants.{Fine, S1, S2, S3, S4, S5}
 
 -- the rows of document 01 that set-up gives out
 pub data Row : Type 0 where
@@ -23,6 +25,7 @@ numberOf S1 = 1
 numberOf S2 = 2
 numberOf S3 = 3
 numberOf S4 = 4
+numberOf S5 = 5
 
 -- a row refuses set-up
 abbrev pub isRefused : SetupVerdict → Bool
@@ -71,6 +74,13 @@ overlap r r′ = ltb (r .base .0) (r′ .base .0 + r′ .len) && ltb (r′ .base
 unfoldable pub badRegions : ℕ → List Component → Bool
 badRegions n cs = any (λ c. badRegion n (c .fixed .region)) cs || pairs (λ c c′. overlap (c .fixed .region) (c′ .fixed .region)) cs
 
+-- S5: a floor with a variant other than 0
+abbrev pub badFloor : Version → Bool
+badFloor floor = not (eqb (variantOf floor) 0)
+
+abbrev pub badFloors : List Component → Bool
+badFloors cs = any (λ c. badFloor (c .fixed .floor)) cs
+
 -- the rows, for a staging buffer of n bytes and the first `count` of the list
 unfoldable pub setupVerdict : (n count : ℕ) → List Component → SetupVerdict
 setupVerdict n count components =
@@ -79,5 +89,6 @@ setupVerdict n count components =
     ∷ (badCount count, S2)
     ∷ (badIds (take count components), S3)
     ∷ (badRegions n (take count components), S4)
+    ∷ (badFloors (take count components), S5)
     ∷ [])
     Fine

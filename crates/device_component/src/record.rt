@@ -1,4 +1,4 @@
-// The record of a component (document 01, "The device").
+// The record of a component (document 01, "The device"; document 02, A5: its floor).
 use image::region::Region;
 use image::region::StagingOffset;
 use wire::version::Version;
@@ -15,6 +15,8 @@ pub enum Staged {
 pub struct Fixed {
     pub id: u8,
     pub region: Region,
+    // The lowest allowed version; it may stand above the running one.
+    pub floor: Version,
 }
 
 pub struct Component {
@@ -103,6 +105,7 @@ pub fn blank_component() -> Component
                 base: StagingOffset::new(0),
                 len: 0,
             },
+            floor: running,
         },
         running,
         staged: Staged::Nothing,

@@ -1,4 +1,4 @@
-// The rules on a component: those on its versions, and those over the list. The tests of S3, S4 and `find` are values, so that one loop serves them; D1 has
+// The rules on a component: those on its versions, and those over the list. The tests of S3 to S5 and `find` are values, so that one loop serves them; D1 has
 // loops of its own.
 use crate::record::Component;
 use crate::record::Staged;
@@ -10,9 +10,9 @@ ghost use mathlib.Core.Path.{_≡_};
 ghost use mathlib.Core.Bool.{not};
 ghost use lib.Dec.{eqb};
 ghost use Rattle.wire.specs.Version.{variantOf};
-ghost use Rattle.device_component.specs.Versions.{wrongVariant, isOld, mayFollow, imageVersionFits, stagedVersionFits, keepsStaged};
+ghost use Rattle.device_component.specs.Versions.{wrongVariant, isOld, belowFloor, tooLow, mayFollow, imageVersionFits, stagedVersionFits, keepsStaged};
 ghost use Rattle.device_component.specs.Rules.{flawed as isFlawed, clash as clashes, ruleHolds, ruleOf};
-ghost use Rattle.device_component.specs.Setup.{badId, badRegion, overlap};
+ghost use Rattle.device_component.specs.Setup.{badId, badRegion, overlap, badFloor};
 
 // Two versions are of different variants.
 fn differ_in_variant(v: Version, w: Version) -> bool
@@ -29,20 +29,35 @@ impl Component {
         differ_in_variant(v, self.running)
     }
 
-    // Offer check 7: a release that is not greater than the running one.
-    pub fn is_old(self, v: Version) -> bool
+    // A release that is not greater than the running one.
+    fn is_old(self, v: Version) -> bool
         ensures { λ r. ⌜ r ≡ isOld self v ⌝ }
     {
         let running = self.running;
         v.release() <= running.release()
     }
 
-    // Of the running variant, and of a release that is not lower.
+    // A release below the floor's (document 02, A5).
+    fn is_below_floor(self, v: Version) -> bool
+        ensures { λ r. ⌜ r ≡ belowFloor self v ⌝ }
+    {
+        let floor = self.fixed.floor;
+        v.release() < floor.release()
+    }
+
+    // Offer check 7: one of the two.
+    pub fn is_too_low(self, v: Version) -> bool
+        ensures { λ r. ⌜ r ≡ tooLow self v ⌝ }
+    {
+        self.is_old(v) | self.is_below_floor(v)
+    }
+
+    // Of the running variant, and of a release that is neither lower nor below the floor's.
     fn may_follow(self, v: Version) -> bool
         ensures { λ r. ⌜ r ≡ mayFollow self v ⌝ }
     {
         let running = self.running;
-        !self.is_wrong_variant(v) & (running.release() <= v.release())
+        (!self.is_wrong_variant(v) & (running.release() <= v.release())) & !self.is_below_floor(v)
     }
 
     // Image judgement.
@@ -81,6 +96,8 @@ pub enum Rule {
     BadRegion(usize),
     // S4: its region overlaps this one.
     Overlaps(Region),
+    // S5: its floor has a variant other than 0.
+    BadFloor,
 }
 
 // A test of two components.
@@ -109,12 +126,19 @@ fn overlaps(r: Region, other: Region) -> bool
     (base < next + (other.len as u64)) & (next < base + (r.len as u64))
 }
 
-// D1, of one component: S3, S4 for a buffer of so many bytes, or its staged version does not fit the running one.
+fn bad_floor(floor: Version) -> bool
+    ensures { λ r. ⌜ r ≡ badFloor floor ⌝ }
+{
+    floor.variant() != 0
+}
+
+// D1, of one component: S3, S4 for a buffer of so many bytes, S5, or its staged version does not fit the running one and the floor.
 pub fn flawed(n: usize, c: Component) -> bool
     ensures { λ r. ⌜ r ≡ isFlawed n c ⌝ }
 {
     let region = c.fixed.region;
-    bad_id(c.fixed.id) | (bad_region(n, region) | !c.keeps_staged())
+    let floor = c.fixed.floor;
+    bad_id(c.fixed.id) | (bad_region(n, region) | (bad_floor(floor) | !c.keeps_staged()))
 }
 
 // D1, of two: the same id, or regions that overlap.
@@ -130,11 +154,13 @@ pub fn applies(rule: Rule, c: Component) -> bool
     ensures { λ r. ⌜ r ≡ ruleHolds rule c ⌝ }
 {
     let region = c.fixed.region;
+    let floor = c.fixed.floor;
     match rule {
         Rule::BadId => bad_id(c.fixed.id),
         Rule::SameId(id) => id == c.fixed.id,
         Rule::BadRegion(n) => bad_region(n, region),
         Rule::Overlaps(r) => overlaps(r, region),
+        Rule::BadFloor => bad_floor(floor),
     }
 }
 

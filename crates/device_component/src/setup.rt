@@ -1,4 +1,4 @@
-// The verdict of set-up on a list of components and a staging length (document 01, "Numbered refusals").
+// The verdict of set-up on a list of components and a staging length (document 01, "Numbered refusals"; S5: document 02, A5).
 use crate::list::some;
 use crate::list::some_two;
 use crate::record::Component;
@@ -7,7 +7,7 @@ use crate::rule::Rule;
 use wire::codes::COMPONENT_LIMIT;
 ghost use mathlib.Core.Path.{_≡_};
 ghost use lib.ListN.{take};
-ghost use Rattle.device_component.specs.Setup.{numberOf, isRefused, stagingTooLong, badCount, badIds, badRegions, setupVerdict};
+ghost use Rattle.device_component.specs.Setup.{numberOf, isRefused, stagingTooLong, badCount, badIds, badRegions, badFloors, setupVerdict};
 
 // The largest staging buffer.
 pub const STAGING_LIMIT: u32 = 65536;
@@ -21,6 +21,7 @@ pub enum SetupVerdict {
     S2,
     S3,
     S4,
+    S5,
 }
 
 impl SetupVerdict {
@@ -34,10 +35,11 @@ impl SetupVerdict {
             SetupVerdict::S2 => 2,
             SetupVerdict::S3 => 3,
             SetupVerdict::S4 => 4,
+            SetupVerdict::S5 => 5,
         }
     }
 
-    // S1 to S4 refuse it.
+    // S1 to S5 refuse it.
     pub fn is_refused(self) -> bool
         ensures { λ r. ⌜ r ≡ isRefused self ⌝ }
     {
@@ -69,7 +71,13 @@ fn bad_regions(n: usize, components: [Component; COMPONENT_LIMIT], count: u8) ->
     some(Rule::BadRegion(n), components, 0, count) | some_two(Pair::Overlap, components, count)
 }
 
-// S1 to S4, row after row, each over the whole list.
+fn bad_floors(components: [Component; COMPONENT_LIMIT], count: u8) -> bool
+    ensures { λ r. ⌜ r ≡ badFloors (take count components) ⌝ }
+{
+    some(Rule::BadFloor, components, 0, count)
+}
+
+// S1 to S5, row after row, each over the whole list.
 pub fn setup_verdict(n: usize, count: u8, components: [Component; COMPONENT_LIMIT]) -> SetupVerdict
     ensures { λ r. ⌜ r ≡ setupVerdict n count components ⌝ }
 {
@@ -84,6 +92,9 @@ pub fn setup_verdict(n: usize, count: u8, components: [Component; COMPONENT_LIMI
     }
     if bad_regions(n, components, count) {
         return SetupVerdict::S4;
+    }
+    if bad_floors(components, count) {
+        return SetupVerdict::S5;
     }
     SetupVerdict::Fine
 }

@@ -1,5 +1,5 @@
-// A component of the device as bytes: id, running version, region, what is staged; and one of the list that set-up takes. What is read stands in bytes
-// that start at the component; past their end a byte is 0.
+// A component of the device as bytes: one of the list that set-up takes, which is id, running version, region and floor, and behind it what is staged. What is
+// read stands in bytes that start at the component; past their end a byte is 0.
 ghost use mathlib.Core.Path.{_≡_};
 ghost use mathlib.Core.Bool.{cond};
 ghost use lib.Dec.{eqb};
@@ -23,21 +23,24 @@ const REGION_SIZE: usize = WORD_SIZE + WORD_SIZE;
 
 const STAGED_SIZE: usize = 1 + VERSION_SIZE;
 
-// Where the parts of a component stand behind its id: the running version, the region and its length, what is staged and its version; and the length of all.
+// Where the parts of a component stand behind its id: the running version, the region and its length, the floor.
 pub const RUNNING_AT: usize = 1;
 
 pub const REGION_AT: usize = RUNNING_AT + VERSION_SIZE;
 
 pub const REGION_LEN_AT: usize = REGION_AT + WORD_SIZE;
 
-pub const STAGED_AT: usize = REGION_AT + REGION_SIZE;
+pub const FLOOR_AT: usize = REGION_AT + REGION_SIZE;
+
+// The length of a component of the list, of which nothing is staged.
+pub const LISTED_SIZE: usize = FLOOR_AT + VERSION_SIZE;
+
+// Where what is staged and its version stand, and the length of all.
+pub const STAGED_AT: usize = LISTED_SIZE;
 
 pub const STAGED_VERSION_AT: usize = STAGED_AT + 1;
 
 pub const COMPONENT_SIZE: usize = STAGED_AT + STAGED_SIZE;
-
-// The length of a component of the list, of which nothing is staged.
-pub const LISTED_SIZE: usize = REGION_AT + REGION_SIZE;
 
 fn staged_bytes(s: Staged) -> [u8; STAGED_SIZE]
     ensures { λ r. ⌜ r ≡ stagedBytes s ⌝ }
@@ -51,37 +54,6 @@ fn staged_bytes(s: Staged) -> [u8; STAGED_SIZE]
     }
 }
 
-pub fn component_bytes(c: Component) -> [u8; COMPONENT_SIZE]
-    ensures { λ r. ⌜ r ≡ componentBytes c ⌝ }
-{
-    let running = c.running;
-    let v = running.bytes();
-    let b = words::bytes32(c.fixed.region.base.number());
-    let l = words::bytes32(c.fixed.region.len);
-    let staged = c.staged;
-    let s = staged_bytes(staged);
-    [
-        c.fixed.id,
-        v[0],
-        v[1],
-        v[2],
-        v[3],
-        b[0],
-        b[1],
-        b[2],
-        b[3],
-        l[0],
-        l[1],
-        l[2],
-        l[3],
-        s[0],
-        s[1],
-        s[2],
-        s[3],
-        s[4],
-    ]
-}
-
 // A component of the list that set-up takes.
 pub fn listed_bytes(l: Listed) -> [u8; LISTED_SIZE]
     ensures { λ r. ⌜ r ≡ listedBytes l ⌝ }
@@ -90,6 +62,8 @@ pub fn listed_bytes(l: Listed) -> [u8; LISTED_SIZE]
     let v = running.bytes();
     let b = words::bytes32(l.fixed.region.base.number());
     let n = words::bytes32(l.fixed.region.len);
+    let floor = l.fixed.floor;
+    let f = floor.bytes();
     [
         l.fixed.id,
         v[0],
@@ -104,7 +78,26 @@ pub fn listed_bytes(l: Listed) -> [u8; LISTED_SIZE]
         n[1],
         n[2],
         n[3],
+        f[0],
+        f[1],
+        f[2],
+        f[3],
     ]
+}
+
+// A component: what the list has of it, and what is staged.
+pub fn component_bytes(c: Component) -> [u8; COMPONENT_SIZE]
+    ensures { λ r. ⌜ r ≡ componentBytes c ⌝ }
+{
+    let fixed = c.fixed;
+    let running = c.running;
+    let l = listed_bytes(Listed { fixed, running });
+    let staged = c.staged;
+    let s = staged_bytes(staged);
+    let mut b = [0u8; COMPONENT_SIZE];
+    words::copy(&mut b[0..LISTED_SIZE], &l);
+    words::copy(&mut b[STAGED_AT..COMPONENT_SIZE], &s);
+    b
 }
 
 // What is fixed of a component.
@@ -118,6 +111,7 @@ fn fixed_in(q: &[u8]) -> Fixed
     Fixed {
         id: words::byte_at(q, 0),
         region,
+        floor: Version::read_at(q, FLOOR_AT as u16),
     }
 }
 
@@ -131,21 +125,6 @@ fn staged_in(staged: u8, v: Version) -> Staged
     }
 }
 
-// The component, unjudged.
-pub fn component_in(q: &[u8]) -> Component
-    ensures { λ r. ⌜ r ≡ componentIn (now (q .entry)) ⌝ }
-{
-    let fixed = fixed_in(q);
-    let running = Version::read_at(q, RUNNING_AT as u16);
-    let version = Version::read_at(q, STAGED_VERSION_AT as u16);
-    let staged = staged_in(words::byte_at(q, STAGED_AT), version);
-    Component {
-        fixed,
-        running,
-        staged,
-    }
-}
-
 // A component of the list that set-up takes.
 pub fn listed_in(q: &[u8]) -> Listed
     ensures { λ r. ⌜ r ≡ listedIn (now (q .entry)) ⌝ }
@@ -153,6 +132,22 @@ pub fn listed_in(q: &[u8]) -> Listed
     Listed {
         fixed: fixed_in(q),
         running: Version::read_at(q, RUNNING_AT as u16),
+    }
+}
+
+// The component, unjudged.
+pub fn component_in(q: &[u8]) -> Component
+    ensures { λ r. ⌜ r ≡ componentIn (now (q .entry)) ⌝ }
+{
+    let l = listed_in(q);
+    let fixed = l.fixed;
+    let running = l.running;
+    let version = Version::read_at(q, STAGED_VERSION_AT as u16);
+    let staged = staged_in(words::byte_at(q, STAGED_AT), version);
+    Component {
+        fixed,
+        running,
+        staged,
     }
 }
 

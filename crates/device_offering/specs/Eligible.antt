@@ -1,4 +1,4 @@
--- What an eligible offer is (document 01, "The device"; document 02, A1): what holds of an offer that none of checks 2 to 7 rejects, each fact under a name.
+-- What an eligible offer is (document 01, "The device"; document 02, A1 and A5): what holds of an offer that none of checks 2 to 7 rejects, each fact under a name.
 use Prim.Native.Nat.{ℕ}
 use mathlib.Core.Path.{_≡_}
 use mathlib.Core.Logic.{_↔_}
@@ -24,7 +24,7 @@ pub record Eligible (platform : ℕ) (target : Standing) (o : OfferFields) : Typ
   pub segment : o .segment ≡ 0
   -- check 6: the component has nothing staged
   pub free : target .component .staged ≡ staged.Nothing
-  -- the check between 6 and 7, and check 7: its variant is the running one, and its release is greater
+  -- the check between 6 and 7, and check 7: its variant is the running one, and its release is greater than the running one's and not below the floor's
   pub version : offerVersionFits (target .component) (o .version) ≡ true
 
 -- an offer is eligible exactly where none of checks 2 to 7 rejects it

@@ -1,4 +1,4 @@
--- An offer: checks 1 to 9, its reply and the session afterwards (document 01, "The device"; document 02, A1), for a device of this platform whose components in use are
+-- An offer: checks 1 to 9, its reply and the session afterwards (document 01, "The device"; document 02, A1 and A5), for a device of this platform whose components in use are
 -- the first `count`.
 use Prim.Native.Nat.{ℕ}
 use mathlib.Core.Bool.{Bool, not, _||_, _&&_}
@@ -10,7 +10,7 @@ use Rattle.wire.specs.Version.{releaseOf}
 use Rattle.wire_offer.specs.Reply.{replyBytes}
 use Rattle.wire_offer.specs.declared.offer.OfferFields.{OfferFields}
 use Rattle.device_component.specs.Record.{isPending, effective}
-use Rattle.device_component.specs.Versions.{wrongVariant, isOld}
+use Rattle.device_component.specs.Versions.{wrongVariant, tooLow}
 use Rattle.device_component.specs.declared.record.Component.{Component}
 use Rattle.device_slots.specs.Slots.{slotOf, isAbsent}
 use Rattle.device_slots.specs.Standing.{standingOf}
@@ -38,7 +38,7 @@ rejectionsAt platform target o =
     ∷ (not (eqb (o .segment) 0), Reject REJECT-WRONG-SEGMENT)
     ∷ (isPending (target .component .staged), Reject REJECT-SWAP-PENDING)
     ∷ (wrongVariant (target .component) (o .version), Reject REJECT-WRONG-VARIANT)
-    ∷ (isOld (target .component) (o .version), Reject REJECT-OLD-FW)
+    ∷ (tooLow (target .component) (o .version), Reject REJECT-OLD-FW)
     ∷ []
 
 -- check 8: byte 8 is not 0, and the needed component is absent or its effective version is below

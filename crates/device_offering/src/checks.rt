@@ -33,8 +33,8 @@ fn unless_rejected(
     let version = o.version;
     let f = target.at;
     let component = target.component;
-    let old = component.is_old(version);
-    let seven = passed.unless(old, OfferVerdict::Reject(codes::REJECT_OLD_FW));
+    let low = component.is_too_low(version);
+    let seven = passed.unless(low, OfferVerdict::Reject(codes::REJECT_OLD_FW));
     let wrong = component.is_wrong_variant(version);
     let variant = seven.unless(wrong, OfferVerdict::Reject(codes::REJECT_WRONG_VARIANT));
     let six = variant.unless(

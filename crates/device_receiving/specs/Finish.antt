@@ -1,4 +1,4 @@
--- The end of a last block: image judgement, and the component afterwards (document 01, "The device"; document 02, A1).
+-- The end of a last block: image judgement, and the component afterwards (document 01, "The device"; document 02, A1 and A5).
 use Prim.Native.Nat.{ℕ}
 use mathlib.Core.Bool.{cond}
 use mathlib.Core.List.{List}

@@ -34,7 +34,7 @@ use Rattle.device.specs.Offer as offers
 use Rattle.device.specs.Content as contents
 use Rattle.device.specs.Content.{sessionComponent}
 use Rattle.device.specs.Entries.{versionEntry, resetEntry, serveEntry, serveStaging}
-use Rattle.device_rules.specs.Calls.{packet, versions, reset}
+use Rattle.device.specs.Calls.{packet, versions, reset}
 use Rattle.device_rules.specs.Rules.{inForce}
 use Rattle.device_rules.specs.Entries.{keepsStagedBy, breaksD1By, refusalBy, onKindBy, judgeBy, onBlockBy, onContentVerdictBy, verdictOnBy}
 use Rattle.device_rules.specs.Promises.{RulesInForceAnswer}

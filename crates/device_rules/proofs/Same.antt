@@ -73,7 +73,7 @@ module _ (r r′ : Rules) (d : Device) where
   abbrev pub OfferedSame : OfferFields → Type 0
   OfferedSame o = (k : ℕ) → find d (o .id) ≡ found.At k
       → (r .versions .wrongVariant (component d k) (o .version) ≡ r′ .versions .wrongVariant (component d k) (o .version))
-      × (r .versions .isOld (component d k) (o .version) ≡ r′ .versions .isOld (component d k) (o .version))
+      × (r .versions .tooLow (component d k) (o .version) ≡ r′ .versions .tooLow (component d k) (o .version))
 
   -- its verdict is then one; an absent component is rejected before its version is looked at
   verdict-same : (o : OfferFields) → OfferedSame o → offerVerdictBy r d o ≡ offerVerdictBy r′ d o

@@ -20,7 +20,7 @@ use Rattle.device.specs.declared.record.Device.{Device}
 use Rattle.device.specs.declared.answer.Channel.the-variants.{Offer, Content}
 use Rattle.device.specs.Refusals.{Outcome}
 use Rattle.device.specs.Content.{sessionComponent}
-use Rattle.device_rules.specs.Calls.{Call, packet, versions, reset, ofPacket}
+use Rattle.device.specs.Calls.{Call, packet, versions, reset, ofPacket}
 use Rattle.device_rules.specs.Rules as rules
 use Rattle.device_rules.specs.Rules.{VersionRules, Rules, expected}
 use Rattle.device_rules.specs.Entries.{breaksD1By, verdictOnBy, answerBy}

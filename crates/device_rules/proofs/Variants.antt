@@ -34,7 +34,7 @@ use Rattle.device.specs.Record.{component}
 use Rattle.device.specs.Refusals.{served, Outcome}
 use Rattle.device.specs.Content as contents
 use Rattle.device.specs.Content.{sessionComponent}
-use Rattle.device_rules.specs.Calls.{Call, packet, versions, reset, ofPacket}
+use Rattle.device.specs.Calls.{Call, packet, versions, reset, ofPacket}
 use Rattle.device_rules.specs.Rules.{versions01, inForce, anyVariant}
 use Rattle.device_rules.specs.Entries.{breaksD1By, refusalBy, answerBy}
 use Rattle.device_rules.specs.Promises.{OneVariant, BroughtOne, OneVariantAsBefore, SoundStagedOne}
@@ -53,7 +53,7 @@ module _ (c : Component) (v : Version) (one : OneVariant c v) where
   right-variant : rule.wrongVariant c v ≡ false
   right-variant = rw (eq-eqb _ _ one) refl
 
-  old-as : rule.isOld c v ≡ versions01 .isOld c v
+  old-as : rule.tooLow c v ≡ versions01 .tooLow c v
   old-as = order (v .0) (c .running .0) one
 
   follows-as : rule.mayFollow c v ≡ versions01 .imageFits c v

@@ -1,5 +1,5 @@
--- The device's entries over any rules on versions and sequences: each definition that asks such a rule, with the rules for a parameter; what asks none is taken
--- as it stands. With the rules in force the answers are the entries' own (`RulesInForceAnswer`); with other rules some answers differ (`A1Differs`, `A4Differs`).
+-- The device's entries over any rules on versions, sequences and set-up: each definition that asks such a rule, with the rules for a parameter; what asks none is taken
+-- as it stands. With the rules in force the answers are the entries' own (`RulesInForceAnswer`); with other rules some answers differ (`A1Differs`, `A4Differs`, `A5Differs`).
 use Prim.Native.Nat.{ℕ}
 use mathlib.Core.Bool.{Bool, true, not, cond, _||_}
 use mathlib.Core.List.{List, [], _∷_, _++_, map}
@@ -17,8 +17,10 @@ use Rattle.image.specs.Judge.{imageIn}
 use Rattle.image.specs.declared.region.Region.{Region}
 use Rattle.image.specs.declared.judge.Image.{Image}
 use Rattle.image.specs.declared.judge.Image.the-variants.{Damaged, Foreign, Bears}
-use Rattle.device_component.specs.Record.{isPending, withStaged}
+use Rattle.device_component.specs.Record.{isPending, listed, withStaged}
+use Rattle.device_component.specs.Setup.{isRefused, rowOf}
 use Rattle.device_component.specs.declared.record.Component.{Component}
+use Rattle.device_component.specs.declared.record.Listed.{Listed}
 use Rattle.device_component.specs.declared.record.Staged.{Staged}
 use Rattle.device_component.specs.declared.record.Staged.the-variants.{Nothing, Pending}
 use Rattle.device_slots.specs.Slots.{slotOf, isAbsent, resetComponents, runningOf}
@@ -26,7 +28,7 @@ use Rattle.device_slots.specs.Standing.{standingOf}
 use Rattle.device_slots.specs.declared.standing.Standing.{Standing}
 use Rattle.device_session.specs.Stage.{isOpen, atSlot, isAgain, isWrong}
 use Rattle.device_session.specs.Effect.{idle}
-use Rattle.device_session.specs.Sound.{breaksSetup, opensWrong, owesIdle}
+use Rattle.device_session.specs.Sound.{opensWrong, owesIdle}
 use Rattle.device_session.specs.declared.stage.Stage.{Stage}
 use Rattle.device_session.specs.declared.owed.Owed.the-variants as owed
 use Rattle.device_session.specs.declared.effect.Session.{Session}
@@ -49,11 +51,15 @@ use Rattle.device.specs.Refusals.{Row, served, D, Outcome, keptBy, unlessRefuse
 use Rattle.device.specs.Offer as offers
 use Rattle.device.specs.Offer.{needUnmet}
 use Rattle.device.specs.Content.{sessionComponent, received}
-use Rattle.device.specs.Entries.{Versions, Reset}
-use Rattle.device_rules.specs.Calls.{Call, packet, versions, reset, Answered, ofPacket, ofVersions, ofReset}
+use Rattle.device.specs.Entries.{SetUp, newDevice, setUpBy as setUpOn, Versions, Reset}
+use Rattle.device.specs.Calls.{Call, packet, versions, reset, Answered, ofPacket, ofVersions, ofReset}
 use Rattle.device_rules.specs.Rules.{Rules}
 
 module _ (rules : Rules) where
+  -- set-up, with a staging buffer of n bytes
+  abbrev pub setUpBy : (platform : ℕ) → List Listed → (count n : ℕ) → SetUp
+  setUpBy platform list count n = setUpOn (rowOf (rules .setup n count (map listed list))) (newDevice platform list count n)
+
   -- D1
   abbrev pub keepsStagedBy : Component → Staged → Bool
   keepsStagedBy c Nothing = true
@@ -61,7 +67,7 @@ module _ (rules : Rules) where
 
   abbrev pub breaksD1By : Device → Bool
   breaksD1By d =
-      breaksSetup (d .«staging_len») (d .count) (d .components)
+      isRefused (rules .setup (d .«staging_len») (d .count) (d .components))
       || (opensWrong (d .count) (d .components) (d .session)
       || (rules .sequences .wrongPrevious (d .session .stage) (d .session .previous)
       || (owesIdle (d .session) || any (λ c. not (keepsStagedBy c (c .staged))) (take (d .count) (d .components)))))
@@ -79,7 +85,7 @@ module _ (rules : Rules) where
       ∷ (not (eqb (o .segment) 0), Reject REJECT-WRONG-SEGMENT)
       ∷ (isPending (target .component .staged), Reject REJECT-SWAP-PENDING)
       ∷ (rules .versions .wrongVariant (target .component) (o .version), Reject REJECT-WRONG-VARIANT)
-      ∷ (rules .versions .isOld (target .component) (o .version), Reject REJECT-OLD-FW)
+      ∷ (rules .versions .tooLow (target .component) (o .version), Reject REJECT-OLD-FW)
       ∷ []
 
   abbrev pub offerVerdictBy : Device → OfferFields → OfferVerdict

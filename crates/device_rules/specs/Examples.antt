@@ -1,14 +1,16 @@
 -- The customer's cases, by document 01's rules and by those in force: a debug build of the number that runs as a production build, as an offer, an image and a
--- staged version (document 02, A1); and a block that a hub delivers twice (A4).
+-- staged version (document 02, A1); a block that a hub delivers twice (A4); and a floor that stands above the running version (A5).
 use Prim.Native.Nat.{ℕ, _-_}
 use mathlib.Core.Path.{_≡_}
 use mathlib.Core.List.{List, [], _∷_, _++_}
 use lib.ListN.{replicate}
-use Rattle.wire.specs.Codes.{COMPONENT-LIMIT, OFFER-ACCEPT, OFFER-REJECT, REJECT-WRONG-VARIANT, SUCCESS, ERROR-VERSION, ERROR-NO-OFFER, ERROR-INVALID}
+use Rattle.wire.specs.Codes.{COMPONENT-LIMIT, OFFER-ACCEPT, OFFER-REJECT, REJECT-OLD-FW, REJECT-WRONG-VARIANT, SUCCESS, ERROR-VERSION, ERROR-NO-OFFER, ERROR-INVALID}
 use Rattle.wire.specs.Version.{versionOf}
 use Rattle.wire.specs.declared.version.Version.{Version}
-use Rattle.device_component.specs.Record.{plain, withStaged, blankComponent}
+use Rattle.device_component.specs.Record.{floored, plain, withStaged, blankComponent}
+use Rattle.device_component.specs.Setup as setup
 use Rattle.device_component.specs.declared.record.Component.{Component}
+use Rattle.device_component.specs.declared.record.Listed.{Listed}
 use Rattle.device_session.specs.Effect.{blankPacket, idle, inStage}
 use Rattle.device_session.specs.declared.stage.Stage.the-variants.{Receiving}
 use Rattle.device_session.specs.declared.effect.Session.{Session}
@@ -16,9 +18,10 @@ use Rattle.device.specs.declared.record.Device.{Device}
 use Rattle.device.specs.declared.answer.Channel.the-variants.{Offer, Content}
 use Rattle.device.specs.Bench.{forOne, noNeed, answer}
 use Rattle.device.specs.Refusals.{Outcome, served, D}
-use Rattle.device.specs.Entries.{Reset}
-use Rattle.device_rules.specs.Rules.{Rules, inForce, document01}
-use Rattle.device_rules.specs.Entries.{serveBy, serveStagingBy, resetBy}
+use Rattle.device.specs.Record.{blankDevice}
+use Rattle.device.specs.Entries.{SetUp, Reset}
+use Rattle.device_rules.specs.Rules.{Rules, inForce, withoutA5, document01}
+use Rattle.device_rules.specs.Entries.{setUpBy, serveBy, serveStagingBy, resetBy}
 
 -- component 1 as the production build 1.2.0, with a region of 8 bytes; here variant 0 stands for a production build and 1 for a debug build, the papers fix none
 abbrev pub production : Component
@@ -128,3 +131,48 @@ pub record A4Differs : Type 0 where
   pub last : Only inForce idle lastBlock 4 0 ERROR-NO-OFFER
   pub previous01 : Only document01 (receives 6 middle) middle 4 0 ERROR-INVALID
   pub previous : (delivering inForce (receives 6 middle) middle .row ≡ D 1) × (resetBy inForce (deviceOf production (receives 6 middle)) .row ≡ D 1)
+
+-- component 1 runs 1.2.0, and its floor is 1.5.0
+abbrev pub raised : Component
+raised = floored 0x01000500 1 0x01000200 0 8
+
+-- what an offer for it comes to, at 1.minor.0
+abbrev pub offeringRaised : Rules → (minor : ℕ) → Outcome
+offeringRaised rules minor =
+    serveBy rules (deviceOf raised idle) Offer (replicate 8 0)
+    (0x00 ∷ 0x00 ∷ 0x01 ∷ 0xA5 ∷ 0x00 ∷ minor ∷ 0x00 ∷ 0x01 ∷ noNeed ++ 0x02 ∷ 0x00 ∷ 0x42 ∷ 0x00 ∷ [])
+
+-- what its whole image in one block comes to, at 1.minor.0 and with this CRC
+abbrev pub sendingRaised : Rules → (minor high low : ℕ) → Outcome
+sendingRaised rules minor high low =
+    serveBy rules (deviceOf raised (inStage idle forOne blankPacket)) Content (replicate 8 0)
+    (0xC0 ∷ 8 ∷ replicate 6 0x00 ++ (0x00 ∷ minor ∷ 0x00 ∷ 0x01 ∷ 0x01 ∷ 0x00 ∷ high ∷ low ∷ replicate 44 0x00))
+
+-- what a reset comes to where 1.3.0 is staged
+abbrev pub resettingRaised : Rules → Reset
+resettingRaised rules = resetBy rules (deviceOf (withStaged raised (versionOf 1 3 0)) idle)
+
+-- what set-up comes to, with this floor
+abbrev pub listedWith : (floor : ℕ) → List Listed
+listedWith floor =
+    record { fixed = floored floor 1 0x01000200 0 8 .fixed; running = versionOf 1 2 0 }
+    ∷ replicate (COMPONENT-LIMIT - 1) (record { fixed = blankComponent .fixed; running = blankComponent .running })
+
+abbrev pub settingUp : Rules → (floor : ℕ) → SetUp
+settingUp rules floor = setUpBy rules 0x0042 (listedWith floor) 1 8
+
+-- between the running version and the floor, at 1.3.0: without A5 it is accepted, staged and started; in force it is rejected with 0, its image is answered with 0x07
+-- and not staged, and the record with it is refused by D1. At the floor, at 1.5.0, it is accepted and staged. A floor of 1.5.1 is refused by S5, where without A5 it is
+-- served; a floor of 1.5.0 is served although it stands above the running version
+pub record A5Differs : Type 0 where
+  pub offeredBefore : (offeringRaised withoutA5 3 .sent ≡ answer 0 OFFER-ACCEPT) × (offeringRaised withoutA5 3 .device ≡ deviceOf raised (inStage idle forOne blankPacket))
+  pub offered : (offeringRaised inForce 3 .sent ≡ answer REJECT-OLD-FW OFFER-REJECT) × (offeringRaised inForce 3 .device ≡ deviceOf raised idle)
+  pub offeredFloor : (offeringRaised inForce 5 .sent ≡ answer 0 OFFER-ACCEPT) × (offeringRaised inForce 5 .device ≡ deviceOf raised (inStage idle forOne blankPacket))
+  pub imageBefore : (sendingRaised withoutA5 3 0xEA 0xD3 .sent ≡ status SUCCESS) × (sendingRaised withoutA5 3 0xEA 0xD3 .device ≡ deviceOf (withStaged raised (versionOf 1 3 0)) idle)
+  pub image : (sendingRaised inForce 3 0xEA 0xD3 .sent ≡ status ERROR-VERSION) × (sendingRaised inForce 3 0xEA 0xD3 .device ≡ deviceOf raised idle)
+  pub imageFloor : (sendingRaised inForce 5 0x27 0x56 .sent ≡ status SUCCESS) × (sendingRaised inForce 5 0x27 0x56 .device ≡ deviceOf (withStaged raised (versionOf 1 5 0)) idle)
+  pub stagedBefore : resettingRaised withoutA5 ≡ record { row = served; device = deviceOf (floored 0x01000500 1 0x01000300 0 8) idle }
+  pub staged : resettingRaised inForce ≡ record { row = D 1; device = deviceOf (withStaged raised (versionOf 1 3 0)) idle }
+  pub setUpBefore : settingUp withoutA5 0x01000501 .row ≡ setup.served
+  pub setUp : settingUp inForce 0x01000501 ≡ record { row = setup.S 5; device = blankDevice }
+  pub setUpFloor : settingUp inForce 0x01000500 ≡ record { row = setup.served; device = deviceOf raised idle }

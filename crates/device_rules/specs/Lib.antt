@@ -1,4 +1,3 @@
-pub mod Calls
 pub mod Rules
 pub mod Entries
 pub mod Promises

@@ -1,9 +1,10 @@
 -- What document 02 leaves as it is: where versions have the variant that their component runs, every call answers as by document 01's rules on versions (A1);
--- and every call on a record that D1's new clause lets pass, but a block sent again, answers as by document 01's rules on sequences (A4).
+-- every call on a record that D1's new clause lets pass, but a block sent again, answers as by document 01's rules on sequences (A4); and where every floor is 0,
+-- set-up and every call answer as without floors (A5).
 use Prim.Native.Nat.{ℕ, _<_}
 use mathlib.Core.Path.{_≡_}
 use mathlib.Core.Bool.{true, false}
-use mathlib.Core.List.{List}
+use mathlib.Core.List.{List, map}
 use Rattle.wire.specs.Codes.{SUCCESS, ERROR-INVALID}
 use Rattle.wire.specs.Version.{variantOf}
 use Rattle.wire.specs.declared.version.Version.{Version}
@@ -13,7 +14,10 @@ use Rattle.wire_content.specs.Head.{headIn}
 use Rattle.image.specs.Region.{regionBytes}
 use Rattle.image.specs.Judge.{imageIn}
 use Rattle.image.specs.declared.judge.Image.the-variants.{Bears}
+use Rattle.device_component.specs.Lists.{componentAt}
+use Rattle.device_component.specs.Record.{listed}
 use Rattle.device_component.specs.declared.record.Component.{Component}
+use Rattle.device_component.specs.declared.record.Listed.{Listed}
 use Rattle.device_component.specs.declared.record.Staged.the-variants.{Pending}
 use Rattle.device_component.specs.declared.list.Found.the-variants.{At}
 use Rattle.device_session.specs.Sound.{holdsWrong}
@@ -24,13 +28,15 @@ use Rattle.device.specs.declared.answer.Channel.the-variants.{Offer, Content}
 use Rattle.device.specs.Record.{find, component}
 use Rattle.device.specs.Refusals.{served, breaksD1}
 use Rattle.device.specs.Content.{contentVerdict, contentEntry, contentStaging}
-use Rattle.device_rules.specs.Calls.{Call, packet, versions, reset, answerOf}
-use Rattle.device_rules.specs.Rules.{inForce, beforeA4, anyVariant, document01}
-use Rattle.device_rules.specs.Entries.{verdictOnBy, answerBy}
+use Rattle.device.specs.Entries.{setUpOf}
+use Rattle.device.specs.Calls.{Call, packet, versions, reset, answerOf}
+use Rattle.device_rules.specs.Rules.{inForce, withoutA5, withoutA4, withoutA1, document01}
+use Rattle.device_rules.specs.Entries.{setUpBy, verdictOnBy, answerBy}
 
--- with the rules in force, a call answers what its entry answers
-abbrev pub RulesInForceAnswer : Type 0
-RulesInForceAnswer = (d : Device) (staging : List ℕ) (call : Call) → answerOf d staging call ≡ answerBy inForce d staging call
+-- with the rules in force, a call answers what its entry answers, set-up too
+pub record RulesInForceAnswer : Type 0 where
+  pub calls : (d : Device) (staging : List ℕ) (call : Call) → answerOf d staging call ≡ answerBy inForce d staging call
+  pub setUp : (platform : ℕ) (list : List Listed) (count n : ℕ) → setUpOf platform list count n ≡ setUpBy inForce platform list count n
 
 -- a version has the variant of the component's running one
 abbrev pub OneVariant : Component → Version → Type 0
@@ -54,7 +60,7 @@ BroughtOne d staging reset = Unit {0}
 -- record and the same bytes, of served and of refused calls
 abbrev pub OneVariantAsBefore : Type 0
 OneVariantAsBefore = (d : Device) (staging : List ℕ) (call : Call) → StagedOne d → BroughtOne d staging call
-    → answerOf d staging call ≡ answerBy anyVariant d staging call
+    → answerOf d staging call ≡ answerBy withoutA1 d staging call
 
 -- what a device that passes D1 has staged is so
 abbrev pub SoundStagedOne : Type 0
@@ -71,13 +77,24 @@ BringsNoCopy d reset = Unit {0}
 -- record and the same bytes
 abbrev pub NoCopyAsBefore : Type 0
 NoCopyAsBefore = (d : Device) (staging : List ℕ) (call : Call) → holdsWrong (d .session) ≡ false → BringsNoCopy d call
-    → answerOf d staging call ≡ answerBy beforeA4 d staging call
+    → answerOf d staging call ≡ answerBy withoutA4 d staging call
 
 -- what is answered 0 without being taken was answered 0x0B before A4; it changes nothing (`AnswerChangesNothing`)
 abbrev pub CopyWasInvalid : Type 0
-CopyWasInvalid = (d : Device) (report : List ℕ) → contentVerdict d report ≡ Answer SUCCESS → verdictOnBy beforeA4 d report ≡ Answer ERROR-INVALID
+CopyWasInvalid = (d : Device) (report : List ℕ) → contentVerdict d report ≡ Answer SUCCESS → verdictOnBy withoutA4 d report ≡ Answer ERROR-INVALID
 
--- under the premises of both, every call answers as by document 01's rules
+-- the floor of each of the first `count` components is 0
+abbrev pub NoFloor : (count : ℕ) → List Component → Type 0
+NoFloor count components = (k : ℕ) → k < count → componentAt components k .fixed .floor ≡ record { 0 = 0 }
+
+-- A5 changes nothing where the floors of the listed components are 0: the same row, the same replies, the same record and the same bytes; and set-up, for such
+-- a list, the same row and the same record
+pub record NoFloorAsBefore : Type 0 where
+  pub calls : (d : Device) (staging : List ℕ) (call : Call) → NoFloor (d .count) (d .components) → answerOf d staging call ≡ answerBy withoutA5 d staging call
+  pub setUp : (platform : ℕ) (list : List Listed) (count n : ℕ) → NoFloor count (map listed list)
+      → setUpOf platform list count n ≡ setUpBy withoutA5 platform list count n
+
+-- under the premises of the three, every call answers as by document 01's rules
 abbrev pub AsDocument01 : Type 0
 AsDocument01 = (d : Device) (staging : List ℕ) (call : Call) → StagedOne d → BroughtOne d staging call → holdsWrong (d .session) ≡ false → BringsNoCopy d call
-    → answerOf d staging call ≡ answerBy document01 d staging call
+    → NoFloor (d .count) (d .components) → answerOf d staging call ≡ answerBy document01 d staging call

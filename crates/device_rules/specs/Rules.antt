@@ -1,11 +1,18 @@
--- The rules that document 02 amends, as values, those of document 01 and those in force: on versions (A1), and on the sequence of a block (A4).
+-- The rules that document 02 amends, as values, those of document 01 and those in force: on versions (A1), on the sequence of a block (A4), and on floors, which
+-- are asked of versions and of set-up (A5).
 use Prim.Native.Nat.{ℕ}
-use mathlib.Core.Bool.{Bool, false, cond}
-use mathlib.Core.List.{List}
+use mathlib.Core.Bool.{Bool, false, not, cond, _||_, _&&_}
+use mathlib.Core.List.{List, [], _∷_}
 use lib.Dec.{leb, eqb}
+use lib.ListN.{take}
+use Rattle.wire.specs.Checks.{firstOf}
+use Rattle.wire.specs.Version.{releaseOf}
 use Rattle.wire.specs.declared.version.Version.{Version}
 use Rattle.device_component.specs.Versions as amended
+use Rattle.device_component.specs.Setup.{stagingTooLong, badCount, badIds, badRegions, setupVerdict}
 use Rattle.device_component.specs.declared.record.Component.{Component}
+use Rattle.device_component.specs.declared.setup.SetupVerdict.{SetupVerdict}
+use Rattle.device_component.specs.declared.setup.SetupVerdict.the-variants.{Fine, S1, S2, S3, S4}
 use Rattle.device_session.specs.Stage as stages
 use Rattle.device_session.specs.Sound as sound
 use Rattle.device_session.specs.declared.stage.Stage.{Stage}
@@ -16,7 +23,7 @@ use Rattle.device_session.specs.declared.stage.SequenceVerdict.the-variants.{Ne
 -- what the check between 6 and 7, check 7, the image judgement and D1 ask of a version, for a component
 pub record VersionRules : Type 0 where
   pub wrongVariant : Component → Version → Bool
-  pub isOld : Component → Version → Bool
+  pub tooLow : Component → Version → Bool
   pub imageFits : Component → Version → Bool
   pub stagedFits : Component → Version → Bool
 
@@ -24,7 +31,7 @@ pub record VersionRules : Type 0 where
 abbrev pub versions : VersionRules
 versions = record {
   wrongVariant = amended.wrongVariant;
-  isOld = amended.isOld;
+  tooLow = amended.tooLow;
   imageFits = amended.imageVersionFits;
   stagedFits = amended.stagedVersionFits;
 }
@@ -33,9 +40,27 @@ versions = record {
 abbrev pub versions01 : VersionRules
 versions01 = record {
   wrongVariant = λ c v. false;
-  isOld = λ c v. leb (v .0) (c .running .0);
+  tooLow = λ c v. leb (v .0) (c .running .0);
   imageFits = λ c v. leb (c .running .0) (v .0);
   stagedFits = λ c v. leb (c .running .0) (v .0);
+}
+
+-- those of A1, without a floor: releases are compared, and the variant is the running one
+abbrev pub versionsA1 : VersionRules
+versionsA1 = record {
+  wrongVariant = amended.wrongVariant;
+  tooLow = amended.isOld;
+  imageFits = λ c v. not (amended.wrongVariant c v) && leb (releaseOf (c .running)) (releaseOf v);
+  stagedFits = λ c v. not (amended.wrongVariant c v) && leb (releaseOf (c .running)) (releaseOf v);
+}
+
+-- any of them with A5's floor beside it
+abbrev pub withFloor : VersionRules → VersionRules
+withFloor r = record {
+  wrongVariant = r .wrongVariant;
+  tooLow = λ c v. r .tooLow c v || amended.belowFloor c v;
+  imageFits = λ c v. r .imageFits c v && not (amended.belowFloor c v);
+  stagedFits = λ c v. r .stagedFits c v && not (amended.belowFloor c v);
 }
 
 -- what content check 4 and D1 ask of a sequence: the judgement of a block's, by the stage and whether the packet is a copy of the previous one; and whether the
@@ -57,20 +82,35 @@ expected (Receiving r) copy sequence = cond (eqb sequence (r .next)) Next Wrong
 abbrev pub sequences01 : SequenceRules
 sequences01 = record { judged = expected; wrongPrevious = λ stage previous. false }
 
--- a set of both
+-- the rows of set-up, for a staging buffer of n bytes and the first `count` of a list: those of document 01, without S5
+abbrev pub setup01 : (n count : ℕ) → List Component → SetupVerdict
+setup01 n count components =
+    firstOf (
+    (stagingTooLong n, S1)
+    ∷ (badCount count, S2)
+    ∷ (badIds (take count components), S3)
+    ∷ (badRegions n (take count components), S4)
+    ∷ [])
+    Fine
+
+-- a set of the three
 pub record Rules : Type 0 where
   pub versions : VersionRules
   pub sequences : SequenceRules
+  pub setup : (n count : ℕ) → List Component → SetupVerdict
 
--- in force; before A4, with document 01's rules on sequences; with document 01's rules on versions; and by document 01
+-- in force; each request's rules taken back, the others' in force: A5's, A4's, A1's; and by document 01
 abbrev pub inForce : Rules
-inForce = record { versions = versions; sequences = sequences }
+inForce = record { versions = versions; sequences = sequences; setup = setupVerdict }
 
-abbrev pub beforeA4 : Rules
-beforeA4 = record { versions = versions; sequences = sequences01 }
+abbrev pub withoutA5 : Rules
+withoutA5 = record { versions = versionsA1; sequences = sequences; setup = setup01 }
 
-abbrev pub anyVariant : Rules
-anyVariant = record { versions = versions01; sequences = sequences }
+abbrev pub withoutA4 : Rules
+withoutA4 = record { versions = versions; sequences = sequences01; setup = setupVerdict }
+
+abbrev pub withoutA1 : Rules
+withoutA1 = record { versions = withFloor versions01; sequences = sequences; setup = setupVerdict }
 
 abbrev pub document01 : Rules
-document01 = record { versions = versions01; sequences = sequences01 }
+document01 = record { versions = versions01; sequences = sequences01; setup = setup01 }

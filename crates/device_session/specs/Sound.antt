@@ -1,4 +1,4 @@
--- Row D1, clause by clause (document 01, "Numbered refusals"; document 02: its last clause as A1 reads it, and A4's clause on the previous packet).
+-- Row D1, clause by clause (document 01, "Numbered refusals"; document 02: its last clause as A1 and A5 read it, and A4's clause on the previous packet).
 use Prim.Native.Nat.{ℕ}
 use mathlib.Core.Bool.{Bool, false, not, _||_}
 use mathlib.Core.List.{List}
@@ -21,7 +21,7 @@ use Rattle.device_session.specs.declared.effect.Session.{Session}
 use Rattle.device_session.specs.Stage.{openSlot, following}
 use Rattle.device_session.specs.Owed.{owes}
 
--- breaks S1 to S4
+-- breaks S1 to S5
 abbrev pub breaksSetup : (n count : ℕ) → List Component → Bool
 breaksSetup n count components = isRefused (setupVerdict n count components)
 
@@ -50,7 +50,7 @@ owesOn (found.At k) o = false
 abbrev pub owesIdle : Session → Bool
 owesIdle session = owesOn (openSlot (session .stage)) (session .owed)
 
--- has a staged version that does not fit: of another variant than the running one, or of a lower release
+-- has a staged version that does not fit: of another variant than the running one, of a lower release, or of one below the floor's
 abbrev pub stagedUnfit : (count : ℕ) → List Component → Bool
 stagedUnfit count components = any (λ c. not (keepsStaged c (c .staged))) (take count components)
 

@@ -20,20 +20,22 @@ ghost use Rattle.device.specs.Entries.{serveEntry, serveStaging};
 const TURNS: u64 = 0xFFFF_FFFF_FFFF_FFFF;
 
 // A component of the bench device, with 64 bytes of the staging buffer.
-fn listed(id: u8, running: Version, base: u32) -> Listed {
+fn listed(id: u8, running: Version, floor: Version, base: u32) -> Listed {
     let region = Region {
         base: StagingOffset::new(base),
         len: 64,
     };
-    let fixed = Fixed { id, region };
+    let fixed = Fixed { id, region, floor };
     Listed { fixed, running }
 }
 
-// The bench device of document 01: platform 0x0042, two components.
+// The bench device of document 01: platform 0x0042, two components. The second has a floor above its running version (document 02, A5): the next that it takes is
+// 1.3 or later.
 fn bench(staging: &[u8]) -> Device {
-    let first = listed(1, Version::new(1, 2, 0), 0);
-    let second = listed(2, Version::new(1, 1, 0), 64);
-    let unused = listed(0, Version::new(0, 0, 0), 0);
+    let none = Version::new(0, 0, 0);
+    let first = listed(1, Version::new(1, 2, 0), none, 0);
+    let second = listed(2, Version::new(1, 1, 0), Version::new(1, 3, 0), 64);
+    let unused = listed(0, none, none, 0);
     let made = set_up(
         0x0042,
         [first, second, unused, unused, unused, unused, unused],

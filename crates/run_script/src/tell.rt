@@ -9,6 +9,7 @@ use device_bytes::SESSION_START;
 use device_bytes::STAGING_LEN_AT;
 use device_component::setup::SetupVerdict;
 use device_component_bytes::COMPONENT_SIZE;
+use device_component_bytes::FLOOR_AT;
 use device_component_bytes::REGION_AT;
 use device_component_bytes::REGION_LEN_AT;
 use device_component_bytes::RUNNING_AT;
@@ -39,10 +40,11 @@ use wire::codes::SHORT_SIZE;
 use wire::words::byte_at;
 use wire::words::least;
 use wire::words::same;
+use wire::words::word32_at;
 
 pub fn set_up(v: SetupVerdict) {
     form(
-        b"set-up: {served|refused S1|refused S2|refused S3|refused S4}\n",
+        b"set-up: {served|refused S1|refused S2|refused S3|refused S4|refused S5}\n",
         &[v.number()],
     );
 }
@@ -168,12 +170,17 @@ fn session(b: &[u8]) {
     previous(part(b, PREVIOUS_AT, LONG_SIZE));
 }
 
-// A component: its id, running version, region, and what is staged.
+// A component: its id, running version, region, its floor unless that is 0, and what is staged.
 fn component(b: &[u8]) {
     form(b"; %1 at ", b);
     form(b"%v in ", rest(b, RUNNING_AT));
     form(b"%4+", rest(b, REGION_AT));
     form(b"%4", rest(b, REGION_LEN_AT));
+    pick(
+        b"|, floor %v",
+        (word32_at(b, FLOOR_AT as u16) != 0) as u8,
+        rest(b, FLOOR_AT),
+    );
     pick(
         b"|, pending %v",
         byte_at(b, STAGED_AT),

@@ -41,7 +41,11 @@ fn listed() -> Listed {
         base: StagingOffset::new(0),
         len: 64,
     };
-    let fixed = Fixed { id: 1, region };
+    let fixed = Fixed {
+        id: 1,
+        region,
+        floor: Version::new(0, 0, 0),
+    };
     let running = Version::new(1, 0, 0);
     Listed { fixed, running }
 }

@@ -32,7 +32,7 @@ use Rattle.update.specs.Bench.{placed, withCrc, code, offered, block, sa
 
 -- components with regions of 16 bytes, one after the other, all at 1.0.0
 abbrev pub at100 : (id : ℕ) → Component
-at100 id = record { fixed = record { id = id; region = record { base = record { 0 = 16 * (id - 1) }; len = 16 } }; running = versionOf 1 0 0; staged = staged.Nothing }
+at100 id = floored 0 id (versionOf 1 0 0 .0) (16 * (id - 1)) 16
 
 -- the image of a component at 1.1.0, in two records of 8 bytes
 unfoldable pub image16 : (id : ℕ) → List ℕ

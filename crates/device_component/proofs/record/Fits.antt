@@ -9,12 +9,12 @@ use Rattle.device_component.specs.declared.record.Staged.{Staged}
 use Rattle.device_component.specs.declared.record.Staged.the-variants.{Nothing}
 
 -- a component by its parts
-pub component-fits : (id running base len : ℕ) (staged : Staged) → id < 256 → running < 256 ^ 4 → base < 256 ^ 4 → len < 256 ^ 4 → FitsStaged staged
-    → FitsComponent (record { fixed = record { id = id; region = record { base = record { 0 = base }; len = len } }; running = record { 0 = running }; staged = staged })
-component-fits id running base len staged i r b l s = record { fixed = record { id = i; region = record { base = b; len = l } }; running = r; staged = s }
+pub component-fits : (floor id running base len : ℕ) (staged : Staged) → floor < 256 ^ 4 → id < 256 → running < 256 ^ 4 → base < 256 ^ 4 → len < 256 ^ 4 → FitsStaged staged
+    → FitsComponent (record { fixed = record { id = id; region = record { base = record { 0 = base }; len = len }; floor = record { 0 = floor } }; running = record { 0 = running }; staged = staged })
+component-fits floor id running base len staged f i r b l s = record { fixed = record { id = i; region = record { base = b; len = l }; floor = f }; running = r; staged = s }
 
 pub blank-fits : FitsComponent blankComponent
-blank-fits = component-fits 0 0 0 0 Nothing (omega arith) (omega arith) (omega arith) (omega arith) tt
+blank-fits = component-fits 0 0 0 0 0 Nothing (omega arith) (omega arith) (omega arith) (omega arith) (omega arith) tt
 
 -- each of a list fits, and so does what stands past its end
 abbrev pub AllFit : List Component → Type 0

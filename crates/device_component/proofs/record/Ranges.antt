@@ -25,7 +25,7 @@ component-range c vs h =
     let f = h .1 .1 in
     let g = f .0 .1 .1 in
     record {
-      fixed = record { id = g .0 .1; region = record { base = g .1 .0 .1 .1 .0 .1 .1 .0 .1; len = g .1 .0 .1 .1 .1 .0 .1 } };
+      fixed = record { id = g .0 .1; region = record { base = g .1 .0 .1 .1 .0 .1 .1 .0 .1; len = g .1 .0 .1 .1 .1 .0 .1 }; floor = g .1 .1 .0 .1 .1 .0 .1 };
       running = f .1 .0 .1 .1 .0 .1;
       staged = staged-range (c .staged) _ (f .1 .1 .0);
     }

@@ -17,22 +17,24 @@ use Rattle.image.specs.declared.region.Region.{Region}
 use Rattle.image.proofs.region.Within.{Apart}
 use Rattle.device_component.specs.Record.{blankComponent, withStaged}
 use Rattle.device_component.specs.Lists.{componentAt}
-use Rattle.device_component.specs.Setup.{stagingTooLong, badCount, badId, badIds, badRegion, overlap, badRegions, setupVerdict}
+use Rattle.device_component.specs.Setup.{stagingTooLong, badCount, badId, badIds, badRegion, overlap, badRegions, badFloor, badFloors, setupVerdict}
 use Rattle.device_component.specs.declared.record.Component.{Component}
 use Rattle.device_component.specs.declared.record.Fixed.{Fixed}
 use Rattle.device_component.specs.declared.setup.SetupVerdict.{SetupVerdict}
-use Rattle.device_component.specs.declared.setup.SetupVerdict.the-variants.{Fine, S1, S2, S3, S4}
+use Rattle.device_component.specs.declared.setup.SetupVerdict.the-variants.{Fine, S1, S2, S3, S4, S5}
 use Rattle.wire.proofs.Tests.{neither}
 use Rattle.device_component.proofs.list.Members.{any-none, pairs-none, map-take, any-map, pairs-map}
 use Rattle.device_component.proofs.list.Laws.{slot-taken, ids-differ as ids-differ-where}
 
 -- a list is fine where no row applies
-no-row : (a b c e : Bool) → cond a S1 (cond b S2 (cond c S3 (cond e S4 Fine))) ≡ Fine → (a ≡ false) × (b ≡ false) × (c ≡ false) × (e ≡ false)
-no-row true b c e h = let z : true ≡ false = cc in (z, cc, cc, cc)
-no-row false true c e h = let z : true ≡ false = cc in (refl, z, cc, cc)
-no-row false false true e h = let z : true ≡ false = cc in (refl, refl, z, cc)
-no-row false false false true h = let z : true ≡ false = cc in (refl, refl, refl, z)
-no-row false false false false h = (refl, refl, refl, refl)
+no-row : (a b c e f : Bool) → cond a S1 (cond b S2 (cond c S3 (cond e S4 (cond f S5 Fine)))) ≡ Fine
+    → (a ≡ false) × (b ≡ false) × (c ≡ false) × (e ≡ false) × (f ≡ false)
+no-row true b c e f h = let z : true ≡ false = cc in (z, cc, cc, cc, cc)
+no-row false true c e f h = let z : true ≡ false = cc in (refl, z, cc, cc, cc)
+no-row false false true e f h = let z : true ≡ false = cc in (refl, refl, z, cc, cc)
+no-row false false false true f h = let z : true ≡ false = cc in (refl, refl, refl, z, cc)
+no-row false false false false true h = let z : true ≡ false = cc in (refl, refl, refl, refl, z)
+no-row false false false false false h = (refl, refl, refl, refl, refl)
 
 -- two regions that do not overlap lie one before the other
 pub apart : (r r′ : Region) → overlap r r′ ≡ false → Apart r r′
@@ -47,9 +49,10 @@ apart-sym r r′ (inl h) = inr h
 apart-sym r r′ (inr h) = inl h
 
 module _ (n count : ℕ) (components : List Component) (fine : setupVerdict n count components ≡ Fine) where
-  rows : (stagingTooLong n ≡ false) × (badCount count ≡ false) × (badIds (take count components) ≡ false) × (badRegions n (take count components) ≡ false)
+  rows : (stagingTooLong n ≡ false) × (badCount count ≡ false) × (badIds (take count components) ≡ false)
+      × (badRegions n (take count components) ≡ false) × (badFloors (take count components) ≡ false)
   unfolding setupVerdict firstOf
-  rows = no-row (stagingTooLong n) (badCount count) (badIds (take count components)) (badRegions n (take count components)) fine
+  rows = no-row (stagingTooLong n) (badCount count) (badIds (take count components)) (badRegions n (take count components)) (badFloors (take count components)) fine
 
   -- S1: the buffer is at most 65,536 bytes long
   pub fine-staging : n ≤ 65536
@@ -124,12 +127,20 @@ module _ (n count : ℕ) (components components′ : List Component) (e : map se
     at : (l : List Component) → (any (λ c. p (seen c)) (take count l) || pairs (λ c c′. q (seen c) (seen c′)) (take count l)) ≡ over (map seen l)
     at l = rw (← (map-take seen count l)) (ap₂ (λ (a b : Bool). a || b) (any-map seen p (take count l)) (pairs-map seen q (take count l)))
 
+  -- a row that looks at each alone
+  single : (p : Fixed → Bool) → any (λ c. p (seen c)) (take count components) ≡ any (λ c. p (seen c)) (take count components′)
+  single p = at components ∙ ap (λ (t : List Fixed). any p (take count t)) e ∙ sym (at components′) where
+    at : (l : List Component) → any (λ c. p (seen c)) (take count l) ≡ any p (take count (map seen l))
+    at l = rw (← (map-take seen count l)) (any-map seen p (take count l))
+
   -- lists that look the same to set-up get the same verdict
   pub setup-same : setupVerdict n count components ≡ setupVerdict n count components′
   unfolding setupVerdict badIds badRegions
-  setup-same = ap₂ verdict (row (λ x. badId (x .id)) (λ x y. eqb (x .id) (y .id))) (row (λ x. badRegion n (x .region)) (λ x y. overlap (x .region) (y .region))) where
-    verdict : Bool → Bool → SetupVerdict
-    verdict i r = firstOf ((stagingTooLong n, S1) ∷ (badCount count, S2) ∷ (i, S3) ∷ (r, S4) ∷ []) Fine
+  setup-same =
+      ap₂ (verdict (badFloors (take count components))) (row (λ x. badId (x .id)) (λ x y. eqb (x .id) (y .id))) (row (λ x. badRegion n (x .region)) (λ x y. overlap (x .region) (y .region)))
+      ∙ ap (λ (f : Bool). verdict f (badIds (take count components′)) (badRegions n (take count components′))) (single (λ x. badFloor (x .floor))) where
+    verdict : (f i r : Bool) → SetupVerdict
+    verdict f i r = firstOf ((stagingTooLong n, S1) ∷ (badCount count, S2) ∷ (i, S3) ∷ (r, S4) ∷ (f, S5) ∷ []) Fine
 
 -- a component that becomes pending keeps the verdict
 pub setup-staged : (n count : ℕ) (components : List Component) (slot : ℕ) (v : Version) → setupVerdict n count (set components slot (withStaged (componentAt components slot) v)) ≡ setupVerdict n count components

@@ -17,7 +17,7 @@ use Rattle.device_component.specs.Setup.{isRefused, setupVerdict}
 use Rattle.device_component.specs.declared.record.Component.{Component}
 use Rattle.device_component.specs.declared.list.Found.the-variants.{At}
 use Rattle.device_component.specs.declared.setup.SetupVerdict.{SetupVerdict}
-use Rattle.device_component.specs.declared.setup.SetupVerdict.the-variants.{Fine, S1, S2, S3, S4}
+use Rattle.device_component.specs.declared.setup.SetupVerdict.the-variants.{Fine, S1, S2, S3, S4, S5}
 use Rattle.device_component.proofs.setup.Laws.{fine-staging, fine-count, fine-region}
 use Rattle.device_session.specs.declared.effect.Session.{Session}
 use Rattle.device_session.specs.Stage.{openSlot}
@@ -38,6 +38,7 @@ fine S1 h = absurd (true≢false h)
 fine S2 h = absurd (true≢false h)
 fine S3 h = absurd (true≢false h)
 fine S4 h = absurd (true≢false h)
+fine S5 h = absurd (true≢false h)
 
 module _ {n count : ℕ} {components : List Component} {session : Session} where
   pub passes : breaksD1 n count components session ≡ false → Passes n count components session

@@ -18,6 +18,9 @@ returns-3 c = rw (c .before .before .rule2 .given .1) (c .bad-region .ensures)
 returns-4 : tie.Need-returns-4
 returns-4 c = rw (c .before .before .rule3 .given .1) (c .overlaps .ensures)
 
+returns-5 : tie.Need-returns-5
+returns-5 c = rw (c .before .enum-told2 .given .1) (c .bad-floor .ensures)
+
 pub applies-spec : {M : Type 1} → statement M
 applies-spec =
     tie.close
@@ -29,7 +32,10 @@ applies-spec =
     (λ c κs. search needs)
     (λ c. search needs)
     (λ c κs. search needs)
+    (λ c. search needs)
+    (λ c κs. search needs)
     returns
     returns-2
     returns-3
-    returns-4)
+    returns-4
+    returns-5)

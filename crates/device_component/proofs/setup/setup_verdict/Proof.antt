@@ -24,7 +24,11 @@ returns-4 c = search chain
 
 returns-5 : tie.Need-returns-5
 unfolding setupVerdict firstOf
-returns-5 c = search chain
+returns-5 c = search chain depth 6
+
+returns-6 : tie.Need-returns-6
+unfolding setupVerdict firstOf
+returns-6 c = search chain depth 6
 
 pub setup-verdict-spec : {M : Type 1} → statement M
 setup-verdict-spec =
@@ -38,4 +42,6 @@ setup-verdict-spec =
     returns-3
     (λ c κs. search needs)
     returns-4
-    returns-5)
+    (λ c κs. search needs)
+    returns-5
+    returns-6)

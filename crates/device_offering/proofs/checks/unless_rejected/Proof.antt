@@ -18,7 +18,7 @@ returns c =
       c .before .before .before .before .before .before .before .before .before .before .unless2 .ensures,
       c .before .before .before .before .before .before .before .before .before .before .before .is-wrong-variant .ensures,
       c .before .before .before .before .before .before .before .before .before .before .before .before .unless .ensures,
-      c .before .before .before .before .before .before .before .before .before .before .before .before .before .is-old .ensures,
+      c .before .before .before .before .before .before .before .before .before .before .before .before .before .is-too-low .ensures,
     )
 
 pub unless-rejected-spec : {M : Type 1} → statement M

@@ -254,9 +254,9 @@ def filled(components):
     return (list(components) + [NO_COMPONENT] * COMPONENT_LIMIT)[:COMPONENT_LIMIT]
 
 
-def listed(number, running, base, length, floor=0):
-    """A component as set-up's list and a record have it."""
-    return LISTED.pack(number, running, base, length, floor)
+def listed(component, running, base, length, floor=0):
+    """A component as set-up's list has it, and a record before what is staged."""
+    return LISTED.pack(component, running, base, length, floor)
 
 
 def setup_list(components):

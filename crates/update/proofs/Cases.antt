@@ -19,7 +19,7 @@ use Rattle.update.proofs.Goodness.{bodies-good}
 use Rattle.update.proofs.Fitting.{blank-fits, all-fit, component-fits}
 use Rattle.wire.specs.Version.{versionOf}
 use Rattle.device_component.specs.declared.record.Staged.the-variants.{Pending}
-use Rattle.update.specs.Cases.{floor100, at100, image16, seven, chain, mixed, mixedBundle, raised, raisedBundle, ChainReaches, MixedDevice, MixedStaging, MixedRuns, FloorRuns, CycleStops, quartered, RunsWith, DoubledRuns, BoundReached}
+use Rattle.update.specs.Cases.{floor100, at100, image16, seven, chain, mixed, mixedBundle, raised, raisedBundle, ChainReaches, MixedDevice, MixedStaging, MixedRuns, RaisedDevice, RaisedStaging, FloorRuns, CycleStops, quartered, RunsWith, DoubledRuns, BoundReached}
 
 -- a component of the cases
 floor100-fits : (floor id : ℕ) → floor < 256 ^ 4 → id ≤ COMPONENT-LIMIT → FitsComponent (floor100 floor id)
@@ -147,9 +147,17 @@ raised-premise = record {
   good = bodies-good raisedBundle raised refl;
 }
 
+raised-device : RaisedDevice
+unfolding computing image16
+raised-device = refl
+
+raised-staging : RaisedStaging
+unfolding computing image16
+raised-staging = refl
+
 pub floor-runs : FloorRuns
 unfolding computing image16
-floor-runs = record { premise = raised-premise; done = refl; says = refl; device = refl; staging = refl }
+floor-runs = record { premise = raised-premise; done = refl; says = refl; device = raised-device; staging = raised-staging }
 
 -- each packet once
 none-twice : RunsWith once 0

@@ -221,9 +221,9 @@ def split(data):
 
 # ---- Records ----
 
-# base, length: those of the region
-LISTED = struct.Struct("<BIII")
-LISTED_AT = places(LISTED, "id running base length")
+# base, length: those of the region; floor: the lowest allowed version (document 02, A5)
+LISTED = struct.Struct("<BIIII")
+LISTED_AT = places(LISTED, "id running base length floor")
 # 0 nothing, 1 pending; the staged version
 STAGED = struct.Struct("<BI")
 # Platform, staging length, count
@@ -245,7 +245,7 @@ DONE, H1, H2, H3, H4 = range(5)
 RUNNING = struct.Struct("<IBH")
 RUNNING_AT = places(RUNNING, "version id platform")
 
-NO_COMPONENT = (0, 0, 0, 0)
+NO_COMPONENT = (0, 0, 0, 0, 0)
 NO_SESSION = (IDLE, 0, 0, 0)
 
 
@@ -254,9 +254,14 @@ def filled(components):
     return (list(components) + [NO_COMPONENT] * COMPONENT_LIMIT)[:COMPONENT_LIMIT]
 
 
+def listed(component, running, base, length, floor=0):
+    """A component as set-up's list has it, and a record before what is staged."""
+    return LISTED.pack(component, running, base, length, floor)
+
+
 def setup_list(components):
-    """Set-up's list. components: (id, running version, base, length)."""
-    return b"".join(LISTED.pack(*component) for component in filled(components))
+    """Set-up's list. components: (id, running version, base, length), and perhaps the floor, which is 0 where it is left out."""
+    return b"".join(listed(*component) for component in filled(components))
 
 
 def device_record(components, staging, session=NO_SESSION, owed=None, staged=None, platform=PLATFORM, count=None, previous=b""):
@@ -267,7 +272,7 @@ def device_record(components, staging, session=NO_SESSION, owed=None, staged=Non
     out += OWED.pack(0, 0) if owed is None else OWED.pack(1, owed)
     out += PREVIOUS.pack(previous)
     for slot, component in enumerate(filled(components)):
-        out += LISTED.pack(*component) + (STAGED.pack(1, staged[slot]) if slot in staged else STAGED.pack(0, 0))
+        out += listed(*component) + (STAGED.pack(1, staged[slot]) if slot in staged else STAGED.pack(0, 0))
     return out
 
 

@@ -21,9 +21,10 @@ def offer(component, number, need=(0, 0), size=cfu.DATA_SIZE):
     return cfu.offer(component, number, need=need[0], least=need[1] >> 8), body(image(component, number), size)
 
 
-def record(components, **fields):
-    """components: (running version, pending version or None), ids 1 on."""
-    listed = [(slot + 1, running, 64 * slot, 64) for slot, (running, _) in enumerate(components)]
+def record(components, floors=(), **fields):
+    """components: (running version, pending version or None), ids 1 on; floors: those of the first components (A5), 0 for the others."""
+    floors = (list(floors) + [0] * len(components))[:len(components)]
+    listed = [(slot + 1, running, 64 * slot, 64, floor) for slot, ((running, _), floor) in enumerate(zip(components, floors))]
     staged = {slot: pending for slot, (_, pending) in enumerate(components) if pending is not None}
     return cfu.device_record(listed, 64 * len(components), staged=staged, **fields)
 
@@ -43,7 +44,7 @@ def before(next_one):
     return cfu.content(0, (next_one - 1) % 65536, 0, b'\x01')
 
 
-V10, V11, V12, V13 = version(1, 0), version(1, 1), version(1, 2), version(1, 3)
+V10, V11, V12, V13, V14 = (version(1, minor) for minor in range(5))
 BENCH = [(V12, None), (V11, None)]
 ONE, TWO = offer(1, V13, (2, V12)), offer(2, V12)
 
@@ -160,5 +161,65 @@ case('A4: the chain of seven, bodies of three records, every middle block up to 
 twice(record(MOST), bundle(CHAIN_OF_3), middles(*((1 + PASS * p + 1 + cfu.OFFER_LIMIT - p, 3) for p in range(cfu.OFFER_LIMIT))))
 case('A4: the chain of seven, the other order, every middle block twice')
 twice(record(MOST), bundle(CHAIN_OF_3[::-1]), middles(*((3 + 4 * k, 3) for k in range(cfu.OFFER_LIMIT))))
+
+# ------------------------------------------ A5: the lowest allowed version
+
+
+def both(words, device, one, other):
+    """Two offers in both orders; what is left must not depend on it."""
+    case('A5: %s' % words)
+    run(device, bundle([one, other]))
+    case('A5: %s: the other order' % words)
+    run(device, bundle([other, one]))
+
+
+both('E13, the floor of each met exactly by its offer: both land', record(BENCH, [V13, V12]), ONE, TWO)
+both('E13, floors at what runs and below it: both land', record(BENCH, [V12, V10]), ONE, TWO)
+both('E13, the floor of 2 above its offer, which is newer than what runs: 2 is rejected, so that 1, which needs it, is skipped', record(BENCH, [0, V13]), ONE, TWO)
+both('E13, the floor of 1 above its offer: it is rejected, 2 lands and one pass is run', record(BENCH, [V14]), ONE, TWO)
+both('E13, both floors above their offers: none lands, none is skipped', record(BENCH, [V14, V13]), ONE, TWO)
+both('the needed component runs below its floor: what runs meets the need, so that 1 lands; 2, offered below its floor, is rejected',
+     record(BENCH, [0, V13]), offer(1, V13, (2, V11)), TWO)
+both('the needed component runs below its floor, which meets no need: 1 is skipped; 2 is not offered, but 3 is rejected as absent',
+     record(BENCH, [0, V12]), ONE, offer(3, V12))
+both('the needed component is pending at its floor: 1 lands by it, 2 is rejected', record([(V12, None), (V11, V12)], [0, V12]), ONE, TWO)
+both('floors count by release: debug builds at their floors where debug builds run: both land',
+     record([(DEBUG, None), (version(1, 1, 1), None)], [V13, V12]), offer(1, version(1, 3, 1), (2, V12)), offer(2, version(1, 2, 1)))
+both('a debug build below the floor of component 2: REJECT 0xE2, 1 is skipped', record(BENCH, [0, V13]), ONE, offer(2, version(1, 2, 1)))
+both('a need cycle through an offer below its floor: none lands', record(BENCH, [0, V13]), ONE, offer(2, V12, (1, V12)))
+
+case('A5: the chain of seven, the floor of each met exactly by its offer: one lands in a pass')
+run(record(MOST, [V11] * cfu.COMPONENT_LIMIT), bundle(CHAIN))
+case('A5: the chain of seven, the other order, the floor of each met exactly by its offer')
+run(record(MOST, [V11] * cfu.COMPONENT_LIMIT), bundle(CHAIN[::-1]))
+BROKEN = [V12 if slot == 3 else V11 for slot in range(cfu.COMPONENT_LIMIT)]
+case('A5: the chain of seven, the floor of 4 above its offer: 5 to 7 land in a pass each, 1 to 3 are skipped, a fourth pass lands nothing')
+run(record(MOST, BROKEN), bundle(CHAIN))
+case('A5: the chain of seven, the other order, the floor of 4 above its offer: 5 to 7 land, 1 to 3 are skipped, a second pass lands nothing')
+run(record(MOST, BROKEN), bundle(CHAIN[::-1]))
+
+# The offer is at the floor or above it, the image is older.
+for number, words in ((V12, 'at what runs'), (V13, 'newer than what runs')):
+    case('A5: an image %s and below the floor in the body of an offer at the floor: H1 with status 7, nothing pending' % words)
+    run(record(BENCH, [V14]), bundle([(offer(1, V14)[0], body(image(1, number)))]))
+case('A5: an image at the floor in the body of an offer above it: it lands under its own version')
+run(record(BENCH, [V13]), bundle([(offer(1, V14)[0], body(image(1, V13)))]))
+case('A5: an image below the floor behind a good image: 2 lands, and the run ends before anything of component 1 is pending')
+run(record(BENCH, [V14]), bundle([TWO, (offer(1, V14)[0], body(image(1, V13)))]))
+case('A5: a session is open at the start on a component below its floor, with a READY owed: code 0 drops both, and it lands at its floor')
+run(record(BENCH, [V13, V12], session=(cfu.RECEIVING, 0, 0x33, 7), owed=0x44, previous=before(7)), bundle([ONE, TWO]))
+case('A5: refused: D1, a staged version below its floor')
+run(record([(V12, None), (V11, V12)], [0, V13]), bundle([ONE, TWO]))
+case('A5: refused: D1, a floor with a variant')
+run(record(BENCH, [0, version(1, 1, 1)]), bundle([ONE, TWO]))
+case('A5: refused: B3 before D1, no offers and a floor with a variant')
+run(record(BENCH, [1]), bundle([]))
+
+case('A5: every middle block twice, the floor of each met exactly by its offer: both land')
+twice(record(BENCH, [V13, V12]), bundle([TWO_OF_4, ONE_OF_4]), middles((3, 4), (8, 4)))
+case('A5: every middle block twice, the floor of 1 above its offer: 2 lands, 1 is rejected')
+twice(record(BENCH, [V14]), bundle([TWO_OF_4, ONE_OF_4]), middles((3, 4)))
+case('A5: every middle block twice, an image below the floor: H1 with status 7')
+twice(record(BENCH, [V14]), bundle([(offer(1, V14)[0], body(image(1, V13), 16))]), middles((3, 4)))
 
 script.write()

@@ -1,5 +1,5 @@
 //! "The device": set-up, the offer entry, the content entry, the version
-//! reply and the reset, with rows S1-S4 and D1-D3.
+//! reply and the reset, with rows S1-S5 and D1-D3.
 
 use crate::crc::crc;
 use crate::packets::*;
@@ -53,12 +53,16 @@ impl Region {
     }
 }
 
-/// A component: id, running version, region, and perhaps a staged version.
+/// A component: id, running version, region, floor (A5), and perhaps a staged
+/// version.
 #[derive(Clone, Copy, Debug, Default, PartialEq, Eq)]
 pub struct Component {
     pub id: u8,
     pub running: Version,
     pub region: Region,
+    /// A5: the lowest allowed version, by major-minor; its variant is 0. It
+    /// may stand above the running version. Only set-up gives it.
+    pub floor: Version,
     pub staged: Option<Version>,
 }
 
@@ -72,11 +76,17 @@ impl Component {
         self.staged.unwrap_or(self.running)
     }
 
-    /// A1, of an image and of a staged version: the variant matches the
-    /// running one's and major-minor is not lower.
+    /// Of an image and of a staged version. A1: the variant matches the
+    /// running one's and major-minor is not lower. A5: nor below the floor.
     fn may_stage(&self, version: Version) -> bool {
         version.variant() == self.running.variant()
             && version.major_minor() >= self.running.major_minor()
+            && !self.below_floor(version)
+    }
+
+    /// A5: the floor counts by major-minor; variants are not looked at.
+    fn below_floor(&self, version: Version) -> bool {
+        version.major_minor() < self.floor.major_minor()
     }
 }
 
@@ -178,6 +188,7 @@ pub struct Listed {
     pub id: u8,
     pub running: Version,
     pub region: Region,
+    pub floor: Version,
 }
 
 /// What an entry sends.
@@ -205,6 +216,7 @@ pub fn set_up(platform: u16, list: &[Listed; MOST], count: u8, staging: &[u8]) -
             id: listed.id,
             running: listed.running,
             region: listed.region,
+            floor: listed.floor,
             staged: None,
         };
     }
@@ -222,7 +234,7 @@ pub fn set_up(platform: u16, list: &[Listed; MOST], count: u8, staging: &[u8]) -
     }
 }
 
-/// Rows S1-S4, one after another over the whole list.
+/// Rows S1-S5, one after another over the whole list.
 fn setup_refusal(staging: u64, count: u8, components: &[Component; MOST]) -> Option<Refusal> {
     // S1: staging over 65,536 bytes.
     if staging > MOST_STAGING {
@@ -240,6 +252,10 @@ fn setup_refusal(staging: u64, count: u8, components: &[Component; MOST]) -> Opt
     // S4: region under 8 bytes, past the buffer, or overlapping another.
     if (0..list.len()).any(|slot| region_faulty(staging, list, slot)) {
         return Some(Refusal::S4);
+    }
+    // S5 (A5): floor with a variant other than 0.
+    if list.iter().any(|component| component.floor.variant() != 0) {
+        return Some(Refusal::S5);
     }
     None
 }
@@ -269,10 +285,10 @@ impl Device {
         &self.components[..(self.count as usize).min(MOST)]
     }
 
-    /// D1: state breaks S1-S4, opens on an unlisted or pending component,
-    /// owes while idle, has a staged version below running by major-minor or
-    /// of another variant (A1), or receives after a packet whose sequence is
-    /// not just before the next (A4).
+    /// D1: state breaks S1-S5, opens on an unlisted or pending component,
+    /// owes while idle, has a staged version below running by major-minor, of
+    /// another variant (A1) or below the floor (A5), or receives after a
+    /// packet whose sequence is not just before the next (A4).
     fn breaks_d1(&self) -> bool {
         setup_refusal(self.staging as u64, self.count, &self.components).is_some()
             || self.opens_wrongly()
@@ -336,7 +352,7 @@ impl Device {
     }
 
     /// "A reset makes staged versions running, clears pending and the owed
-    /// reply, and idles." D1 only.
+    /// reply, and idles." The floor stays. D1 only.
     pub fn reset(self) -> Judged<Device> {
         if self.breaks_d1() {
             return Judged::refused(Refusal::D1, self);
@@ -447,8 +463,11 @@ impl Device {
         if offer.version.variant() != component.running.variant() {
             return (REJECT, REASON_VARIANT, None);
         }
-        // 7. version divided by 256 (A1) not greater than running: REJECT 0.
-        if offer.version.major_minor() <= component.running.major_minor() {
+        // 7. version divided by 256 (A1) not greater than running, or below
+        // the floor (A5): REJECT 0.
+        if offer.version.major_minor() <= component.running.major_minor()
+            || component.below_floor(offer.version)
+        {
             return (REJECT, REASON_OLD, None);
         }
         // 8. need not met: SKIP.
@@ -612,8 +631,8 @@ pub fn image_version(image: &[u8]) -> Version {
     Version::from_bytes(&image[0..4])
 }
 
-/// Wrong CRC 0x05; wrong id 0x04; another variant or a lower major-minor
-/// (A1) 0x07; else 0.
+/// Wrong CRC 0x05; wrong id 0x04; another variant, a lower major-minor (A1)
+/// or one below the floor (A5) 0x07; else 0.
 fn judge_image(component: &Component, image: &[u8]) -> u8 {
     if !crc_right(image) {
         return 0x05;

@@ -1,5 +1,5 @@
-//! Bench examples of document 01, cases of A1 and A4, and a few searches around
-//! them.
+//! Bench examples of document 01, cases of A1, A4 and A5, and a few searches
+//! around them.
 
 use crate::bundle::{check, lines, Fault};
 use crate::device::*;
@@ -27,6 +27,7 @@ fn listed(id: u8, running: u32, base: u32, length: u32) -> Listed {
         id,
         running: Version(running),
         region: Region { base: StagingOffset(base), length },
+        floor: Version(0),
     }
 }
 
@@ -506,7 +507,9 @@ fn passes_d1(device: Device, staged: Version) {
     assert_eq!(reply.refused, None);
     assert_eq!(reply.value[4..8], device.components[0].running.to_bytes());
     let reset = device.reset();
-    assert_eq!((reset.refused, reset.value), (None, bench_at(staged.0)));
+    let mut expected = bench_at(staged.0);
+    expected.components[0].floor = device.components[0].floor;
+    assert_eq!((reset.refused, reset.value), (None, expected));
 }
 
 #[test]
@@ -1139,7 +1142,7 @@ fn a4_token_0_takes_a_last_blocks_copy_for_a_skip() {
 fn a4_demand_3_searched() {
     let mut dice = Dice(20_260_404);
     let mut copies = 0;
-    for _ in 0..4_000 {
+    for _ in 0..5_000 {
         let device = some_device(&mut dice);
         let mut offers = some_offers(&mut dice, &device, 4);
         let before: Vec<u8> = (0..128).map(|_| dice.below(256) as u8).collect();
@@ -1161,6 +1164,570 @@ fn a4_demand_3_searched() {
         }
     }
     assert!(copies >= 10_000, "{copies}");
+}
+
+// -------------------------------------------------------------------- A5
+
+/// The bench where component 1 runs this version and has this floor.
+fn bench_with(running: u32, floor: u32) -> Device {
+    let mut device = bench_at(running);
+    device.components[0].floor = Version(floor);
+    device
+}
+
+/// Running, floor, offered, and the reason; nothing for ACCEPT.
+const A5_OFFERS: [(u32, u32, u32, Option<u8>); 48] = [
+    // Floor 1.5 above running 1.2: up to running, between, one below, at it, one above.
+    (0x0100_0200, 0x0100_0500, 0x0100_0100, Some(0)),
+    (0x0100_0200, 0x0100_0500, 0x0100_0200, Some(0)),
+    (0x0100_0200, 0x0100_0500, 0x0100_0300, Some(0)),
+    (0x0100_0200, 0x0100_0500, 0x0100_0400, Some(0)),
+    (0x0100_0200, 0x0100_0500, 0x0100_0500, None),
+    (0x0100_0200, 0x0100_0500, 0x0100_0600, None),
+    (0x0100_0200, 0x0100_0500, 0x0200_0000, None),
+    // One above running, and at running.
+    (0x0100_0200, 0x0100_0300, 0x0100_0200, Some(0)),
+    (0x0100_0200, 0x0100_0300, 0x0100_0300, None),
+    (0x0100_0200, 0x0100_0300, 0x0100_0400, None),
+    (0x0100_0200, 0x0100_0200, 0x0100_0100, Some(0)),
+    (0x0100_0200, 0x0100_0200, 0x0100_0200, Some(0)),
+    (0x0100_0200, 0x0100_0200, 0x0100_0300, None),
+    // Below running it changes nothing: a version at the floor is still old.
+    (0x0100_0200, 0x0100_0100, 0x0100_0000, Some(0)),
+    (0x0100_0200, 0x0100_0100, 0x0100_0100, Some(0)),
+    (0x0100_0200, 0x0100_0100, 0x0100_0200, Some(0)),
+    (0x0100_0200, 0x0100_0100, 0x0100_0300, None),
+    (0x0100_0200, 0x0000_0100, 0x0100_0300, None),
+    // The running variant is not the floor's: the release alone counts.
+    (0x0100_0207, 0x0100_0500, 0x0100_0407, Some(0)),
+    (0x0100_0207, 0x0100_0500, 0x0100_0507, None),
+    (0x0100_0207, 0x0100_0500, 0x0100_0607, None),
+    (0x0100_02FF, 0x0100_0500, 0x0100_04FF, Some(0)),
+    (0x0100_02FF, 0x0100_0500, 0x0100_05FF, None),
+    // Another variant: 0xE2 below the floor, at it and above it.
+    (0x0100_0200, 0x0100_0500, 0x0100_0101, Some(0xE2)),
+    (0x0100_0200, 0x0100_0500, 0x0100_0301, Some(0xE2)),
+    (0x0100_0200, 0x0100_0500, 0x0100_04FF, Some(0xE2)),
+    (0x0100_0200, 0x0100_0500, 0x0100_0501, Some(0xE2)),
+    (0x0100_0200, 0x0100_0500, 0x0100_0601, Some(0xE2)),
+    // Also variant 0, which is the floor's and not the running one's.
+    (0x0100_0207, 0x0100_0500, 0x0100_0400, Some(0xE2)),
+    (0x0100_0207, 0x0100_0500, 0x0100_0500, Some(0xE2)),
+    (0x0100_0207, 0x0100_0500, 0x0100_0600, Some(0xE2)),
+    // From minor to major, and from 127 to 128.
+    (0x0100_0200, 0x0200_0000, 0x01FF_FF00, Some(0)),
+    (0x0100_0200, 0x0200_0000, 0x0200_0000, None),
+    (0x0100_0200, 0x01FF_FF00, 0x01FF_FE00, Some(0)),
+    (0x0100_0200, 0x01FF_FF00, 0x01FF_FF00, None),
+    (0x0100_0200, 0x01FF_FF00, 0x0200_0000, None),
+    (0x0100_0203, 0x8000_0000, 0x7FFF_FF03, Some(0)),
+    (0x0100_0203, 0x8000_0000, 0x8000_0003, None),
+    (0x0100_0203, 0x7FFF_FF00, 0x8000_0003, None),
+    // The least and the greatest.
+    (0, 0, 0x100, None),
+    (0, 0x100, 0x100, None),
+    (0, 0x200, 0x100, Some(0)),
+    (0, 0x200, 0x200, None),
+    (0, 0xFFFF_FF00, 0xFFFF_FE00, Some(0)),
+    (0, 0xFFFF_FF00, 0xFFFF_FF00, None),
+    (0xFFFF_FDFF, 0xFFFF_FF00, 0xFFFF_FEFF, Some(0)),
+    (0xFFFF_FDFF, 0xFFFF_FF00, 0xFFFF_FFFF, None),
+    (0xFFFF_FFFF, 0xFFFF_FF00, 0xFFFF_FFFF, Some(0)),
+];
+
+/// I and V are ignored here too.
+#[test]
+fn a5_offers() {
+    for (running, floor, offered, reason) in A5_OFFERS {
+        for flags in [0, 0x40, 0x80, 0xC0] {
+            let device = bench_with(running, floor);
+            let (next, answer) =
+                device.offer(&[0; 128], &offer_of(offered, &[(1, &[flags])]));
+            let expected = match reason {
+                Some(reason) => (device, rejected(reason)),
+                None => (open(device), bytes(&[(3, 0xA5), (12, 1)])),
+            };
+            assert_eq!((next, answer), expected, "{running:08x} {floor:08x} {offered:08x}");
+        }
+    }
+}
+
+/// Offers above running and below the floor: checks 1 to 6 and A1's come
+/// before, 8 after.
+#[test]
+fn a5_order_of_the_checks() {
+    let device = bench_with(0x0100_0200, 0x0100_0500);
+    let cases: [(&[(usize, &[u8])], u8); 9] = [
+        (&[], 0),
+        (&[(12, &[1])], 0xE0),
+        (&[(2, &[3])], 1),
+        (&[(14, &[0x43])], 1),
+        (&[(0, &[1])], 0xE1),
+        // The need of E5, which alone is SKIP; one of an absent component; a met one; its own.
+        (&[(8, &[2, 2, 0, 1])], 0),
+        (&[(8, &[9, 0, 0, 0])], 0),
+        (&[(8, &[2, 1, 0, 1])], 0),
+        (&[(8, &[1, 2, 0, 1])], 0),
+    ];
+    for offered in [0x0100_0300, 0x0100_0400] {
+        for (changes, reason) in cases {
+            let (next, answer) = device.offer(&[0; 128], &offer_of(offered, changes));
+            assert_eq!((next, answer), (device, rejected(reason)));
+        }
+        let (next, answer) = open(device).offer(&[0; 128], &offer_of(offered, &[]));
+        assert_eq!((next, answer), (open(device), bytes(&[(3, 0xA5), (12, 3)])));
+        let mut pending = device;
+        pending.components[0].staged = Some(Version(0x0100_0500));
+        let (next, answer) = pending.offer(&[0; 128], &offer_of(offered, &[]));
+        assert_eq!((next, answer), (pending, rejected(2)));
+    }
+    // At the floor check 8 decides.
+    let skipped = offer_of(0x0100_0500, &[(8, &[2, 2, 0, 1])]);
+    assert_eq!(device.offer(&[0; 128], &skipped), (device, bytes(&[(3, 0xA5)])));
+    let met = offer_of(0x0100_0500, &[(8, &[2, 1, 0, 1])]);
+    assert_eq!(device.offer(&[0; 128], &met).0, open(device));
+}
+
+/// The floor is that of the offer's own component, and it meets no need: this
+/// is asked of the effective version.
+#[test]
+fn a5_floor_of_its_own_component() {
+    let mut device = bench();
+    device.components[1].floor = Version(0x0100_0500);
+    let accepted = bytes(&[(3, 0xA5), (12, 1)]);
+    let skipped = bytes(&[(3, 0xA5)]);
+    let answers: [(&[(usize, &[u8])], Answer); 8] = [
+        (&[], accepted),
+        (&[(2, &[2])], rejected(0)),
+        (&[(2, &[2]), (4, &[0, 4, 0, 1])], rejected(0)),
+        (&[(2, &[2]), (4, &[0, 5, 0, 1])], accepted),
+        (&[(8, &[2, 1, 0, 1])], accepted),
+        (&[(8, &[2, 2, 0, 1])], skipped),
+        (&[(8, &[2, 5, 0, 1])], skipped),
+        // A need of itself, met by what runs.
+        (&[(8, &[1, 2, 0, 1])], accepted),
+    ];
+    for (changes, expected) in answers {
+        assert_eq!(device.offer(&[0; 128], &offer_with(changes)).1, expected);
+    }
+    // Pending at the floor it meets what the staged version meets.
+    device.components[1].staged = Some(Version(0x0100_0500));
+    let needs = [(5, accepted), (6, skipped)];
+    for (minor, expected) in needs {
+        let offer = offer_with(&[(8, &[2, minor, 0, 1])]);
+        assert_eq!(device.offer(&[0; 128], &offer).1, expected);
+    }
+}
+
+/// Running, floor, another version, and whether an image of it may be taken
+/// and a staged one may stand.
+const A5_STAGED: [(u32, u32, u32, bool); 39] = [
+    // Floor 1.5 above running 1.2.
+    (0x0100_0200, 0x0100_0500, 0x0100_0100, false),
+    (0x0100_0200, 0x0100_0500, 0x0100_0200, false),
+    (0x0100_0200, 0x0100_0500, 0x0100_0300, false),
+    (0x0100_0200, 0x0100_0500, 0x0100_0400, false),
+    (0x0100_0200, 0x0100_0500, 0x0100_0500, true),
+    (0x0100_0200, 0x0100_0500, 0x0100_0600, true),
+    // One above running, at running, and below it.
+    (0x0100_0200, 0x0100_0300, 0x0100_0200, false),
+    (0x0100_0200, 0x0100_0300, 0x0100_0300, true),
+    (0x0100_0200, 0x0100_0200, 0x0100_0100, false),
+    (0x0100_0200, 0x0100_0200, 0x0100_0200, true),
+    (0x0100_0200, 0x0100_0200, 0x0100_0300, true),
+    (0x0100_0200, 0x0100_0100, 0x0100_0000, false),
+    (0x0100_0200, 0x0100_0100, 0x0100_0100, false),
+    (0x0100_0200, 0x0100_0100, 0x0100_0200, true),
+    // The running variant is not the floor's.
+    (0x0100_0207, 0x0100_0500, 0x0100_0407, false),
+    (0x0100_0207, 0x0100_0500, 0x0100_0507, true),
+    (0x0100_0207, 0x0100_0500, 0x0100_0607, true),
+    (0x0100_0207, 0x0100_0200, 0x0100_0207, true),
+    (0x0100_02FF, 0x0100_0500, 0x0100_04FF, false),
+    (0x0100_02FF, 0x0100_0500, 0x0100_05FF, true),
+    // Another variant: below the floor, at it and above it.
+    (0x0100_0200, 0x0100_0500, 0x0100_04FF, false),
+    (0x0100_0200, 0x0100_0500, 0x0100_0501, false),
+    (0x0100_0200, 0x0100_0500, 0x0100_0601, false),
+    (0x0100_0207, 0x0100_0500, 0x0100_0400, false),
+    (0x0100_0207, 0x0100_0500, 0x0100_0500, false),
+    (0x0100_0207, 0x0100_0500, 0x0100_0600, false),
+    // From minor to major, and from 127 to 128.
+    (0x0100_0200, 0x0200_0000, 0x01FF_FF00, false),
+    (0x0100_0200, 0x0200_0000, 0x0200_0000, true),
+    (0x0100_0203, 0x8000_0000, 0x7FFF_FF03, false),
+    (0x0100_0203, 0x8000_0000, 0x8000_0003, true),
+    (0x0100_0203, 0x7FFF_FF00, 0x8000_0003, true),
+    // The least and the greatest.
+    (0, 0, 0, true),
+    (0, 0x100, 0, false),
+    (0, 0x100, 0x100, true),
+    (0, 0xFFFF_FF00, 0xFFFF_FE00, false),
+    (0, 0xFFFF_FF00, 0xFFFF_FF00, true),
+    (0xFFFF_FDFF, 0xFFFF_FF00, 0xFFFF_FEFF, false),
+    (0xFFFF_FDFF, 0xFFFF_FF00, 0xFFFF_FFFF, true),
+    (0xFFFF_FFFF, 0xFFFF_FF00, 0xFFFF_FFFF, true),
+];
+
+/// As for A1: 0x05 and 0x04 come before 0x07, and either way the session is
+/// idle and the region holds what was sent.
+#[test]
+fn a5_image_judgement() {
+    for (running, floor, version, taken) in A5_STAGED {
+        let own = image(1, Version(version), 64);
+        let mut torn = own.clone();
+        torn[63] ^= 1;
+        let other = image(2, Version(version), 64);
+        let sent = [(own, if taken { 0 } else { 0x07 }), (torn, 0x05), (other, 0x04)];
+        for (image, status) in sent {
+            let mut staging = [0xA5; 128];
+            let (next, answer) = send(open(bench_with(running, floor)), &mut staging, &image);
+            let mut expected = bench_with(running, floor);
+            if status == 0 {
+                expected.components[0].staged = Some(Version(version));
+            }
+            assert_eq!(answer, answered(1, status), "{running:08x} {floor:08x} {version:08x}");
+            assert_eq!(next, expected);
+            assert_eq!(staging[..64], image[..]);
+            assert_eq!(staging[64..], [0xA5; 64]);
+        }
+    }
+}
+
+/// The image's own version counts, not the offered one; and the floor is that
+/// of the component the session is open on.
+#[test]
+fn a5_image_under_an_offer_at_the_floor() {
+    let device = bench_with(0x0100_0200, 0x0100_0500);
+    let (taken, answer) = device.offer(&[0; 128], &offer_of(0x0100_0500, &[]));
+    assert_eq!(answer, bytes(&[(3, 0xA5), (12, 1)]));
+    for (version, status) in [(0x0100_0300, 7), (0x0100_0400, 7), (0x0100_0500, 0), (0x0100_0600, 0)] {
+        let (next, answer) = send(taken, &mut [0; 128], &image(1, Version(version), 64));
+        let mut expected = device;
+        if status == 0 {
+            expected.components[0].staged = Some(Version(version));
+        }
+        assert_eq!((next, answer), (expected, answered(1, status)));
+    }
+    let mut other = bench();
+    other.components[1].floor = Version(0x0100_0500);
+    let (next, answer) = send(open(other), &mut [0; 128], &image(1, Version(0x0100_0300), 64));
+    assert_eq!(answer, answered(1, 0));
+    assert_eq!(next.components[0].staged, Some(Version(0x0100_0300)));
+    assert_eq!(next.components[1], other.components[1]);
+}
+
+/// A staged version below the floor, for every entry; one at the floor stands,
+/// and a reset makes it running and keeps the floor.
+#[test]
+fn a5_d1_staged_and_floor() {
+    for (running, floor, version, stands) in A5_STAGED {
+        let staged = Some(Version(version));
+        let mut device = bench_with(running, floor);
+        device.components[0].staged = staged;
+        if stands {
+            passes_d1(device, Version(version));
+            continue;
+        }
+        meets_d1(device);
+        // Also while another component is open and a READY is owed.
+        let stage = Stage::Offered(Offered { slot: 1, token: 9 });
+        meets_d1(Device { stage, owed: Some(3), ..device });
+        let stage = Stage::Receiving(Receiving { slot: 1, token: 9, next: 0 });
+        meets_d1(Device { stage, previous: block(0, 4, 65_535, 0), ..device });
+        // Also at the last listed component, and not past it.
+        let mut last = bench();
+        last.components[1] = Component {
+            running: Version(running),
+            floor: Version(floor),
+            staged,
+            ..last.components[1]
+        };
+        meets_d1(last);
+        let mut past = bench();
+        past.components[2] = Component { region: Region::default(), ..last.components[1] };
+        assert_eq!(past.version_reply(), bench().version_reply());
+        let reset = past.reset();
+        assert_eq!((reset.refused, reset.value), (None, past));
+    }
+}
+
+/// S5: a variant other than 0 in any listed slot, whatever the release; none
+/// past the count; and S1 to S4 come first over the whole list.
+#[test]
+fn a5_set_up() {
+    let staging = [0x33; 128];
+    let refusal = |list: &[Listed; MOST], count| {
+        let made = set_up(0x0042, list, count, &staging);
+        match made.refused {
+            None => assert_eq!(made.value.count, count),
+            Some(_) => assert_eq!(made.value, Device::default()),
+        }
+        made.refused
+    };
+    let most = MOST as u8;
+    let mut good = [Listed::default(); MOST];
+    for slot in 0..most {
+        good[slot as usize] = listed(1 + slot, 0x0100_0200, 16 * slot as u32, 16);
+    }
+    assert_eq!(refusal(&good, most), None);
+    for variant in 1..=255 {
+        for slot in 0..MOST {
+            for release in [0, 0x0100_0100, 0x0100_0200, 0x0100_0500, 0xFFFF_FF00] {
+                let mut list = good;
+                list[slot].floor = Version(release);
+                assert_eq!(refusal(&list, most), None);
+                list[slot].floor = Version(release + variant);
+                assert_eq!(refusal(&list, most), Some(Refusal::S5));
+                // At and past the count it is not looked at.
+                let expected = if slot == 0 { Some(Refusal::S2) } else { None };
+                assert_eq!(refusal(&list, slot as u8), expected);
+                assert_eq!(refusal(&list, slot as u8 + 1), Some(Refusal::S5));
+                // The running version's variant does not allow the floor's.
+                list[slot].running = Version(0x0100_0200 + variant);
+                assert_eq!(refusal(&list, most), Some(Refusal::S5));
+            }
+        }
+    }
+    // The floor's fault stands before or behind the other one's slot.
+    for slot in [0, 3, 6] {
+        let mut list = good;
+        list[slot].floor = Version(0x0100_0501);
+        assert_eq!(refusal(&list, most + 1), Some(Refusal::S2));
+        assert_eq!(refusal(&list, 0), Some(Refusal::S2));
+        let long = vec![0; 65_537];
+        assert_eq!(set_up(0x0042, &list, most, &long).refused, Some(Refusal::S1));
+        for other in 0..MOST {
+            let mut bad = list;
+            bad[other].id = 0xE0;
+            assert_eq!(refusal(&bad, most), Some(Refusal::S3));
+            let mut bad = list;
+            bad[other].region.length = 7;
+            assert_eq!(refusal(&bad, most), Some(Refusal::S4));
+            let mut bad = list;
+            bad[other].region.base = StagingOffset(120);
+            assert_eq!(refusal(&bad, most), Some(Refusal::S4));
+            let mut bad = list;
+            bad[other].region.length = 17;
+            let expected = if other == 6 { Refusal::S5 } else { Refusal::S4 };
+            assert_eq!(refusal(&bad, most), Some(expected));
+        }
+    }
+}
+
+/// Set-up hands the floor on as it was given, also above running; a component
+/// past the count has none.
+#[test]
+fn a5_set_up_gives_the_floor() {
+    for floor in [0, 0x100, 0x0100_0100, 0x0100_0200, 0x0100_0300, 0xFFFF_FF00] {
+        let mut list = [Listed::default(); MOST];
+        list[0] = listed(1, 0x0100_0200, 0, 64);
+        list[1] = listed(2, 0x0100_0100, 64, 64);
+        list[2] = Listed { floor: Version(0x0100_0501), ..listed(3, 7, 8, 8) };
+        list[0].floor = Version(floor);
+        let made = set_up(0x0042, &list, 2, &[0; 128]);
+        assert_eq!((made.refused, made.value), (None, bench_with(0x0100_0200, floor)));
+        list[0].floor = Version(0);
+        list[1].floor = Version(floor);
+        let made = set_up(0x0042, &list, 2, &[0; 128]).value;
+        assert_eq!((made.components[0].floor, made.components[1].floor), (Version(0), Version(floor)));
+    }
+}
+
+/// D1 by S5, for every entry and stage; not past the count.
+#[test]
+fn a5_d1_floor_with_a_variant() {
+    for floor in [1, 0xFF, 0x0100_0101, 0x0100_0201, 0x0100_0280, 0x0100_0501, 0xFFFF_FFFF] {
+        for slot in 0..2 {
+            let mut device = bench();
+            device.components[slot].floor = Version(floor);
+            meets_d1(device);
+            // Of the running variant, too.
+            device.components[slot].running = Version(0x0100_0200 + floor % 256);
+            meets_d1(device);
+            for open in 0..2 {
+                let stage = Stage::Offered(Offered { slot: open, token: 9 });
+                meets_d1(Device { stage, owed: Some(3), ..device });
+                let stage = Stage::Receiving(Receiving { slot: open, token: 9, next: 0 });
+                meets_d1(Device { stage, previous: block(0, 4, 65_535, 0), ..device });
+            }
+            // Staged above the floor, of the running variant.
+            device.components[slot].staged = Some(Version(0xFFFF_FF00 + floor % 256));
+            meets_d1(device);
+        }
+        let mut past = bench();
+        past.components[2].floor = Version(floor);
+        assert_eq!(past.version_reply(), bench().version_reply());
+        assert_eq!((past.reset().refused, past.reset().value), (None, past));
+        let (next, answer) = past.offer(&[0; 128], &offer_with(&[]));
+        assert_eq!((next, answer), (open(past), bytes(&[(3, 0xA5), (12, 1)])));
+    }
+}
+
+/// What runs may stand below the floor: every entry serves it, in every stage.
+#[test]
+fn a5_running_below_the_floor() {
+    for floor in [0x0100_0300, 0x0100_0500, 0xFFFF_FF00] {
+        let device = bench_with(0x0100_0200, floor);
+        assert_eq!(device.version_reply(), bench().version_reply());
+        assert_eq!((device.reset().refused, device.reset().value), (None, device));
+        assert_eq!(device.offer(&[0; 128], &offer_of(0x0100_0200, &[])), (device, rejected(0)));
+        let code_0 = offer_with(&[(0, &[0]), (2, &[0xFF])]);
+        let accepted = bytes(&[(3, 0xA5), (12, 1)]);
+        assert_eq!(open(device).offer(&[0; 128], &code_0), (device, accepted));
+        only_answers(device, &block(FIRST, 4, 0, 0), 0x0A);
+        // A block is taken, whatever the image will be.
+        let mut staging = [0x33; 128];
+        let (next, answer) = open(device).content(&mut staging, &block(FIRST, 4, 6, 0));
+        assert_eq!(answer, answered(6, 0));
+        assert_eq!(next.components, device.components);
+        assert_eq!(staging[..4], [0x5C; 4]);
+        assert_eq!(next.reset().value, device);
+        // The other component is updated as ever.
+        let other = device.offer(&[0; 128], &offer_with(&[(2, &[2])])).0;
+        assert_eq!(other.stage, Stage::Offered(Offered { slot: 1, token: 0xA5 }));
+    }
+}
+
+/// Through an update to the floor and a reset: the floor stays, what stands at
+/// it runs, and nothing older is taken then.
+#[test]
+fn a5_reset_keeps_the_floor() {
+    let device = bench_with(0x0100_0207, 0x0100_0500);
+    let at_floor = Version(0x0100_0507);
+    let (next, _) = device.offer(&[0; 128], &offer_of(at_floor.0, &[]));
+    let (next, answer) = send(next, &mut [0; 128], &image(1, at_floor, 64));
+    assert_eq!(answer, answered(1, 0));
+    let mut expected = device;
+    expected.components[0].staged = Some(at_floor);
+    assert_eq!(next, expected);
+    let reset = next.reset();
+    assert_eq!((reset.refused, reset.value), (None, bench_with(at_floor.0, 0x0100_0500)));
+    let now = reset.value;
+    for (offered, reason) in [(0x0100_0407, 0), (0x0100_0507, 0), (0x0100_0500, 0xE2)] {
+        assert_eq!(now.offer(&[0; 128], &offer_of(offered, &[])), (now, rejected(reason)));
+    }
+    assert_eq!(now.offer(&[0; 128], &offer_of(0x0100_0607, &[])).0, open(now));
+    // Nothing pending: a reset changes no floor either, nor that of the other.
+    let mut two = bench_with(0x0100_0200, 0x0100_0500);
+    two.components[1].floor = Version(0x0100_0100);
+    assert_eq!((two.reset().refused, two.reset().value), (None, two));
+    two.components[1].staged = Some(Version(0x0100_0100));
+    let after = two.reset().value;
+    two.components[1].staged = None;
+    assert_eq!(after, two);
+}
+
+/// Every triple of these versions, told by their parts.
+#[test]
+fn a5_searched() {
+    let releases = [(0, 0), (0, 1), (0, 0xFF), (0, 0xFFFF), (1, 0), (0x80, 0x100), (0xFF, 0xFFFF)];
+    let variants = [0, 1, 0xFF];
+    for before in releases {
+        for floor in releases {
+            for after in releases {
+                for (own, other) in variants.iter().flat_map(|v| variants.map(|w| (*v, w))) {
+                    let running = Version::from_parts(before.0, before.1, own);
+                    let floor_version = Version::from_parts(floor.0, floor.1, 0);
+                    let mut device = bench_with(running.0, floor_version.0);
+                    let version = Version::from_parts(after.0, after.1, other);
+                    let expected = if own != other {
+                        rejected(0xE2)
+                    } else if after <= before || after < floor {
+                        rejected(0)
+                    } else {
+                        bytes(&[(3, 0xA5), (12, 1)])
+                    };
+                    let answer = device.offer(&[0; 128], &offer_of(version.0, &[])).1;
+                    assert_eq!(answer, expected);
+                    let good = own == other && after >= before && after >= floor;
+                    let sent = send(open(device), &mut [0; 128], &image(1, version, 64)).1;
+                    assert_eq!(sent, answered(1, if good { 0 } else { 0x07 }));
+                    device.components[0].staged = Some(version);
+                    let broken = device.version_reply().refused == Some(Refusal::D1);
+                    assert_eq!(broken, !good);
+                }
+            }
+        }
+    }
+}
+
+// Whole runs.
+
+/// Floors of both components.
+fn bench_floors(one: u32, two: u32) -> Device {
+    let mut device = bench_with(0x0100_0200, one);
+    device.components[1].floor = Version(two);
+    device
+}
+
+/// E13 where component 2's new version stands at its floor: as without one, in
+/// both orders. One release higher, and component 2 is rejected, so that 1,
+/// which needs it, is skipped; no second pass is run.
+#[test]
+fn a5_runs_of_e13() {
+    let [one, two] = e12();
+    let orders = [[one.clone(), two.clone()], [two, one]];
+    for (number, offers) in orders.iter().enumerate() {
+        let bundle = bundle_of(offers);
+        for (one, two) in [(0x0100_0300, 0x0100_0200), (0x0100_0200, 0x0100_0100), (0, 0x0100_0200)] {
+            let mut staging = [0x33; 128];
+            let left = run(0x17, &bundle, bench_floors(one, two), &mut staging);
+            let mut plain_staging = [0x33; 128];
+            let plain = run(0x17, &bundle, bench(), &mut plain_staging);
+            assert_eq!((left.host, exchanged(&left)), (plain.host, exchanged(&plain)));
+            assert_eq!(staging, plain_staging);
+            let mut expected = bench_floors(one, two);
+            expected.components[0].staged = Some(Version(0x0100_0300));
+            expected.components[1].staged = Some(Version(0x0100_0200));
+            assert_eq!(left.device, expected);
+        }
+        // Component 2's floor is 1.3: 1.2 is newer than what runs, and too old.
+        let device = bench_floors(0, 0x0100_0300);
+        let mut staging = [0x33; 128];
+        let left = run(0x17, &bundle, device, &mut staging);
+        let offered = match number {
+            0 => ["offer 1 0 0", "offer 2 2 0"],
+            _ => ["offer 2 2 0", "offer 1 0 0"],
+        };
+        let expected = ["code 0 1", "code 1 1", offered[0], offered[1], "code 2 1"];
+        assert_eq!(told(&left), expected);
+        let report = left.report();
+        assert_eq!((report.packets, report.passes, report.end), (5, 1, Some(End::Done)));
+        assert_eq!((left.host.mask, left.device, staging), (0, device, [0x33; 128]));
+        // Component 1's floor is 1.4: 2 lands alone. In the first order 1 is
+        // rejected before its need is looked at: no SKIP, one pass.
+        let device = bench_floors(0x0100_0400, 0);
+        let mut staging = [0x33; 128];
+        let left = run(0x17, &bundle, device, &mut staging);
+        let report = left.report();
+        assert_eq!((report.packets, report.passes, report.end), (7, 1, Some(End::Done)));
+        assert_eq!(report.completed, 1);
+        let mut expected = device;
+        expected.components[1].staged = Some(Version(0x0100_0200));
+        assert_eq!((left.device, &staging[..64]), (expected, &[0x33; 64][..]));
+    }
+}
+
+/// An image below the floor in the body of an offer at the floor: H1 with
+/// status 7, and nothing is pending.
+#[test]
+fn a5_run_with_an_old_image() {
+    let floor = Version(0x0100_0500);
+    for (version, status) in [(0x0100_0300, 7), (0x0100_0400, 7), (0x0100_0500, 0)] {
+        let body = body(&image(1, Version(version), 64), 52);
+        let bundle = bundle_of(&[(plain_offer(1, floor, (0, 0)), body)]);
+        let device = bench_floors(floor.0, 0);
+        let left = run(0x17, &bundle, device, &mut [0x33; 128]);
+        let mut expected = device;
+        let end = if status == 0 {
+            expected.components[0].staged = Some(Version(version));
+            End::Done
+        } else {
+            End::H1(status)
+        };
+        assert_eq!((left.report().end, left.device), (Some(end), expected));
+    }
 }
 
 // --------------------------------------------------------------- packets
@@ -1443,20 +2010,22 @@ impl Dice {
 }
 
 /// A device of up to seven components with small versions of two variants,
-/// some pending, perhaps an open session.
+/// every second one with a floor (A5), some pending, perhaps an open session.
 fn some_device(dice: &mut Dice) -> Device {
     let count = 1 + dice.below(MOST as u32) as u8;
     let mut device = Device { platform: 0x0042, staging: 8 * 16, count, ..Default::default() };
     for slot in 0..count as usize {
-        let running = Version(256 * dice.below(4) + dice.below(2));
+        let (release, variant) = (dice.below(4), dice.below(2));
+        let floor = if dice.below(2) == 0 { 0 } else { dice.below(10) };
         let staged = match dice.below(4) {
-            0 => Some(Version(running.0 + 256 * dice.below(3))),
+            0 => Some(Version(256 * (release.max(floor) + dice.below(3)) + variant)),
             _ => None,
         };
         device.components[slot] = Component {
             id: 1 + slot as u8,
-            running,
+            running: Version(256 * release + variant),
             region: Region { base: StagingOffset(16 * slot as u32), length: 9 + dice.below(8) },
+            floor: Version(256 * floor),
             staged,
         };
     }
@@ -1477,9 +2046,9 @@ fn some_device(dice: &mut Dice) -> Device {
 }
 
 /// Offers with good bodies for the components that the device has, most of
-/// the running variant. Every second time all are newer than what can run and
-/// most need one another, so that many passes are run. Records have at most
-/// so many bytes.
+/// the running variant. Every second time all are newer than what can run,
+/// few are below a floor and most need one another, so that many passes are
+/// run. Records have at most so many bytes.
 fn some_offers(dice: &mut Dice, device: &Device, most_data: u32) -> Vec<(Offer, Vec<u8>)> {
     let chained = dice.below(2) == 0;
     let most = MOST as u8;
@@ -1515,7 +2084,8 @@ fn some_offers(dice: &mut Dice, device: &Device, most_data: u32) -> Vec<(Offer, 
     offers
 }
 
-/// Passes checks 2 to 7, A1's among them, against the device after code 0.
+/// Passes checks 2 to 7, A1's and A5's among them, against the device after
+/// code 0.
 fn passes_2_to_7(device: &Device, offer: &Offer) -> bool {
     match device.listed().iter().find(|c| c.id == offer.id) {
         None => false,
@@ -1524,6 +2094,7 @@ fn passes_2_to_7(device: &Device, offer: &Offer) -> bool {
                 && c.staged.is_none()
                 && offer.version.0 % 256 == c.running.0 % 256
                 && offer.version.0 / 256 > c.running.0 / 256
+                && offer.version.0 / 256 >= c.floor.0 / 256
         }
     }
 }
@@ -1579,7 +2150,7 @@ fn left_by(set: u32, device: &Device, staging: &[u8], offers: &[(Offer, Vec<u8>)
 fn demand_3_searched() {
     let mut dice = Dice(20_260_321);
     let mut most_passes = 0;
-    let mut other_variants = 0;
+    let (mut other_variants, mut below_floor) = (0, 0);
     for _ in 0..20_000 {
         let device = some_device(&mut dice);
         let mut offers = some_offers(&mut dice, &device, 20);
@@ -1602,11 +2173,64 @@ fn demand_3_searched() {
             assert_eq!(left.device.version_reply().refused, None);
             most_passes = most_passes.max(report.passes);
             other_variants += told(&left).iter().filter(|line| line.ends_with(" 2 226")).count();
+            below_floor += offers.iter().filter(|(offer, _)| floor_alone(&device, offer)).count();
             offers.reverse();
         }
     }
     assert!(most_passes >= 5, "{most_passes}");
     assert!(other_variants >= 1000, "{other_variants}");
+    assert!(below_floor >= 5_000, "{below_floor}");
+}
+
+/// It is the floor alone that keeps the offer out of checks 2 to 7.
+fn floor_alone(device: &Device, offer: &Offer) -> bool {
+    let mut without = *device;
+    for component in without.components.iter_mut() {
+        component.floor = Version(0);
+    }
+    passes_2_to_7(&without, offer) && !passes_2_to_7(device, offer)
+}
+
+/// The set in hand is one of the closed ones and every other contains it; all
+/// sets of offers are tried.
+#[test]
+fn demand_3_smallest_of_all_closed_sets() {
+    let mut dice = Dice(20_260_505);
+    let mut by_floor = 0;
+    for _ in 0..2_000 {
+        let device = some_device(&mut dice);
+        let offers = some_offers(&mut dice, &device, 20);
+        let set = smallest(&device, &offers);
+        assert!(closed(set, &device, &offers));
+        for other in 0..1u32 << offers.len() {
+            assert!(!closed(other, &device, &offers) || other & set == set);
+        }
+        let mut without = device;
+        without.components.iter_mut().for_each(|component| component.floor = Version(0));
+        by_floor += (smallest(&without, &offers) != set) as u32;
+    }
+    assert!(by_floor >= 100, "{by_floor}");
+}
+
+/// "it holds every offer that passes checks 2 to 7 against the device after
+/// code 0 and whose need is none, or met by an effective version then or by
+/// the offered version of another member".
+fn closed(set: u32, device: &Device, offers: &[(Offer, Vec<u8>)]) -> bool {
+    offers.iter().enumerate().all(|(index, (offer, _))| {
+        let by_device = |c: &Component| {
+            c.id == offer.need_id && c.effective().0 / 256 >= offer.need_least
+        };
+        let by_member = |other: usize, member: &Offer| {
+            other != index
+                && set >> other & 1 == 1
+                && member.id == offer.need_id
+                && member.version.0 / 256 >= offer.need_least
+        };
+        let met = offer.need_id == 0
+            || device.listed().iter().any(by_device)
+            || offers.iter().enumerate().any(|(other, (member, _))| by_member(other, member));
+        set >> index & 1 == 1 || !passes_2_to_7(device, offer) || !met
+    })
 }
 
 #[test]
@@ -1617,7 +2241,7 @@ fn demand_3_longest_run() {
     for slot in 0..most {
         let region = Region { base: StagingOffset(16 * slot as u32), length: 16 };
         device.components[slot as usize] =
-            Component { id: 1 + slot, running: Version(256), region, staged: None };
+            Component { id: 1 + slot, running: Version(256), region, ..Default::default() };
         let need = if slot + 1 == most { (0, 0) } else { (2 + slot, 2) };
         let body = body(&image(1 + slot, Version(512), 16), 7);
         offers.push((plain_offer(1 + slot, Version(512), need), body));

@@ -771,7 +771,7 @@ mod tests {
     }
 
     /// Demand 3's premise: on a device with the same region lengths the run
-    /// stages every image.
+    /// stages every image. The floors are met (A5).
     #[test]
     fn staged_on_a_device() {
         let mut dice = Dice(20_260_323);
@@ -784,7 +784,8 @@ mod tests {
             for (slot, image) in images.iter().enumerate() {
                 let running = Version::from_parts(1, 2, image[0]);
                 let region = Region { base: StagingOffset(base), length: image.len() as u32 };
-                list[slot] = Listed { id: image[4], running, region };
+                let floor = Version::from_parts(255, dice.below(4) as u16, 0);
+                list[slot] = Listed { id: image[4], running, region, floor };
                 base += image.len() as u32;
             }
             let mut staging = vec![0x33; base as usize];

@@ -1,12 +1,13 @@
 //! "Numbered refusals": the numbers themselves.
 
-/// The rows of the table, in the paper's order; then A3's.
+/// The rows of the table, A5's S5 among them, in the paper's order; then A3's.
 #[derive(Clone, Copy, Debug, PartialEq, Eq)]
 pub enum Refusal {
     S1,
     S2,
     S3,
     S4,
+    S5,
     D1,
     D2,
     D3,

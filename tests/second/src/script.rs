@@ -54,6 +54,7 @@ pub fn read_listed(numbers: &mut Numbers) -> Listed {
         id: numbers.one(),
         running: Version(numbers.four()),
         region: Region { base: StagingOffset(numbers.four()), length: numbers.four() },
+        floor: Version(numbers.four()),
     }
 }
 
@@ -80,6 +81,7 @@ pub fn read_record(numbers: &mut Numbers) -> Device {
             id: listed.id,
             running: listed.running,
             region: listed.region,
+            floor: listed.floor,
             staged: if pending == 1 { Some(version) } else { None },
         };
     }
@@ -131,6 +133,9 @@ pub fn component_text(component: &Component) -> String {
         "{} at {} in {}+{}",
         component.id, component.running, component.region.base.0, component.region.length
     );
+    if component.floor != Version(0) {
+        text += &format!(", floor {}", component.floor);
+    }
     if let Some(staged) = component.staged {
         text += &format!(", pending {staged}");
     }

@@ -330,6 +330,8 @@ pub record CallsHold : Type 0 where
   pub lists-raised : listCall (replicate LIST-SIZE 0) 0 listedRaised ≡ leaves SERVED (filledTo LIST-SIZE (raised 0))
   pub sets-up-raised : setUpCall (replicate DEVICE-SIZE 0) 0x0042 (filledTo LIST-SIZE (raised 0)) 1 128 ≡ leaves SERVED raisedRecord
   pub sets-up-none : setUpCall (replicate DEVICE-SIZE 9) 0x0042 (filledTo LIST-SIZE (raised 1)) 1 128 ≡ leaves 0x5305 (replicate DEVICE-SIZE 9)
+  pub rejects-raised : offerCall raisedRecord 128 offer (replicate REPLIES-SIZE 9)
+      ≡ record { number = SERVED; count = 1; device = raisedRecord; replies = filledTo REPLIES-SIZE (flatten (bench.answer 0 2)) }
   pub tells-raised : componentCall raisedRecord 0
       ≡ record { number = SERVED; id = 1; running = minorOne 2; base = 0; length = 64; floor = minorOne 5; pending = 0; staged = noVersion }
   pub lists-no-more : listCall list COMPONENT-LIMIT listedTwo ≡ leaves 0x4304 list

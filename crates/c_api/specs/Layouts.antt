@@ -38,7 +38,7 @@ use Rattle.c_device_packet.specs.Packet.{REPLIES-SIZE, repliesLeft}
 
 -- what set-up fixes of a component
 abbrev pub fixed : Fixed
-fixed = record { id = 1; region = record { base = record { 0 = 0x09080706 }; len = 0x0D0C0B0A }; floor = record { 0 = 0x11100F0E } }
+fixed = record { id = 0x16; region = record { base = record { 0 = 0x09080706 }; len = 0x0D0C0B0A }; floor = record { 0 = 0x11100F0E } }
 
 -- a component that is pending
 abbrev pub pending : Component
@@ -138,8 +138,8 @@ dueThenReady = record { due = true; reply = reply; ready = Token 0x5A }
 
 pub record LayoutsHold : Type 0 where
   -- a component of the device's record, and one of set-up's list
-  pub component : componentBytes pending ≡ 1 ∷ 2 ∷ 3 ∷ 4 ∷ 5 ∷ 6 ∷ 7 ∷ 8 ∷ 9 ∷ 10 ∷ 11 ∷ 12 ∷ 13 ∷ 14 ∷ 15 ∷ 16 ∷ 17 ∷ 1 ∷ 18 ∷ 19 ∷ 20 ∷ 21 ∷ []
-  pub listed : listedIn (1 ∷ 2 ∷ 3 ∷ 4 ∷ 5 ∷ 6 ∷ 7 ∷ 8 ∷ 9 ∷ 10 ∷ 11 ∷ 12 ∷ 13 ∷ 14 ∷ 15 ∷ 16 ∷ 17 ∷ []) ≡ record { fixed = fixed; running = record { 0 = 0x05040302 } }
+  pub component : componentBytes pending ≡ 0x16 ∷ 2 ∷ 3 ∷ 4 ∷ 5 ∷ 6 ∷ 7 ∷ 8 ∷ 9 ∷ 10 ∷ 11 ∷ 12 ∷ 13 ∷ 14 ∷ 15 ∷ 16 ∷ 17 ∷ 1 ∷ 18 ∷ 19 ∷ 20 ∷ 21 ∷ []
+  pub listed : listedIn (0x16 ∷ 2 ∷ 3 ∷ 4 ∷ 5 ∷ 6 ∷ 7 ∷ 8 ∷ 9 ∷ 10 ∷ 11 ∷ 12 ∷ 13 ∷ 14 ∷ 15 ∷ 16 ∷ 17 ∷ []) ≡ record { fixed = fixed; running = record { 0 = 0x05040302 } }
   -- the session, and the device's record around both
   pub offering : sessionBytes offered ≡ 1 ∷ 3 ∷ 4 ∷ 0 ∷ 0 ∷ 0 ∷ 0 ∷ replicate 60 0
   pub receives : sessionBytes receiving ≡ 2 ∷ 3 ∷ 4 ∷ 5 ∷ 6 ∷ 1 ∷ 8 ∷ packet

@@ -1,5 +1,5 @@
--- Calls of the device's entries, one after another, from set-up on: what each comes to, and what a list of them leaves. Set-up makes the record; every other entry
--- is given one.
+-- Calls of the device's entries, one after another, from set-up on: what each comes to, and what a list of them leaves. Set-up makes the record, and every other
+-- entry is given one; so a list starts at set-up, and a second set-up is a new start.
 use Prim.Native.Nat.{ℕ}
 use mathlib.Core.List.{List, [], _∷_}
 use lib.ListN.{length}
@@ -40,10 +40,19 @@ afterCall s (packet channel report) = record {
 afterCall s versions = s
 afterCall s reset = record { device = resetEntry (s .device) .device; staging = s .staging }
 
--- .. and after one call after another
-abbrev pub afterCalls : Kept → List Call → Kept
-afterCalls s [] = s
-afterCalls s (call ∷ calls) = afterCalls (afterCall s call) calls
+-- what may happen to a device: a call; or, between two calls, other bytes in the staging buffer, or a buffer of another length, which D2 then refuses
+pub data Event : Type 0 where
+  call : Call → Event
+  lends : (staging : List ℕ) → Event
+
+abbrev pub afterEvent : Kept → Event → Kept
+afterEvent s (call c) = afterCall s c
+afterEvent s (lends staging) = record { device = s .device; staging = staging }
+
+-- .. one after another
+abbrev pub afterEvents : Kept → List Event → Kept
+afterEvents s [] = s
+afterEvents s (e ∷ es) = afterEvents (afterEvent s e) es
 
 -- what set-up leaves, with this staging buffer: the new device, or the blank one, which no entry serves, where a row refuses
 abbrev pub fromSetUp : (platform : ℕ) → List Listed → (count : ℕ) → (staging : List ℕ) → Kept

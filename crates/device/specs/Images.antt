@@ -16,7 +16,8 @@ use Rattle.device.specs.Record.{component}
 use Rattle.device.specs.Entries.{serveEntry, serveStaging}
 
 -- whatever packet comes, a component that is pending with a version afterwards was so before, or its region now holds an image with a right CRC that bears the
--- component's own id and this version, which has the running variant, no lower release, and none below the floor's
+-- component's own id and this version, which has the running variant and a release that is neither lower than the running one's nor below
+-- the floor's
 abbrev pub StagesOwnImage : Type 0
 StagesOwnImage = (d : Device) (channel : Channel) (staging report : List ℕ) (k : ℕ) (v : Version)
     → component (serveEntry d channel staging report .device) k .staged ≡ Pending v

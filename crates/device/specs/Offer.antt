@@ -12,7 +12,7 @@ use Rattle.device_offering.specs.declared.verdict.OfferVerdict.{OfferVerdict}
 use Rattle.device.specs.declared.record.Device.{Device}
 use Rattle.device.specs.Refusals.{Outcome, refusalOf, unlessRefused, servedWith}
 
--- checks 2 to 7, that of the variant among them, each with its answer, and check 8
+-- checks 2 to 7, those of the variant and the floor among them, each with its answer, and check 8
 abbrev pub rejections : Device → OfferFields → List (Bool × OfferVerdict)
 rejections d o = offering.rejections (d .platform) (d .count) (d .components) o
 

@@ -13,7 +13,7 @@ use Rattle.device_component.specs.declared.record.Component.{Component}
 use Rattle.device_component.specs.declared.setup.SetupVerdict.{SetupVerdict}
 use Rattle.device_component.specs.declared.setup.SetupVerdict.the-variants.{Fine, S1, S2, S3, S4, S5}
 
--- the rows of document 01 that set-up gives out
+-- the rows of documents 01 and 02 that set-up gives out
 pub data Row : Type 0 where
   served : Row
   S : ℕ → Row

@@ -24,7 +24,7 @@ isOld c v = leb (releaseOf v) (releaseOf (c .running))
 abbrev pub belowFloor : Component → Version → Bool
 belowFloor c v = ltb (releaseOf v) (releaseOf (c .fixed .floor))
 
--- offer check 7: one of the two
+-- offer check 7: either of the two
 abbrev pub tooLow : Component → Version → Bool
 tooLow c v = isOld c v || belowFloor c v
 

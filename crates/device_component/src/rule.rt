@@ -45,7 +45,7 @@ impl Component {
         v.release() < floor.release()
     }
 
-    // Offer check 7: one of the two.
+    // Offer check 7: either of the two.
     pub fn is_too_low(self, v: Version) -> bool
         ensures { λ r. ⌜ r ≡ tooLow self v ⌝ }
     {

@@ -1,5 +1,5 @@
--- The customer's cases, by document 01's rules and by those in force: a debug build of the number that runs as a production build, as an offer, an image and a
--- staged version (document 02, A1); a block that a hub delivers twice (A4); and a floor that stands above the running version (A5).
+-- The customer's cases, by the rules in force and without the request that decides them: a debug build of the number that runs as a production build, as an offer,
+-- an image and a staged version (document 02, A1); a block that a hub delivers twice (A4); and a floor that stands above the running version (A5).
 use Prim.Native.Nat.{ℕ, _-_}
 use mathlib.Core.Path.{_≡_}
 use mathlib.Core.List.{List, [], _∷_, _++_}
@@ -18,8 +18,7 @@ use Rattle.device.specs.declared.record.Device.{Device}
 use Rattle.device.specs.declared.answer.Channel.the-variants.{Offer, Content}
 use Rattle.device.specs.Bench.{forOne, noNeed, answer}
 use Rattle.device.specs.Refusals.{Outcome, served, D}
-use Rattle.device.specs.Record.{blankDevice}
-use Rattle.device.specs.Entries.{SetUp, Reset}
+use Rattle.device.specs.Entries.{Reset}
 use Rattle.device_rules.specs.Rules.{Rules, inForce, withoutA5, document01}
 use Rattle.device_rules.specs.Entries.{setUpBy, serveBy, serveStagingBy, resetBy}
 
@@ -136,11 +135,11 @@ pub record A4Differs : Type 0 where
 abbrev pub raised : Component
 raised = floored 0x01000500 1 0x01000200 0 8
 
--- what an offer for it comes to, at 1.minor.0
-abbrev pub offeringRaised : Rules → (minor : ℕ) → Outcome
-offeringRaised rules minor =
+-- what an offer for it comes to, at 1.minor.variant
+abbrev pub offeringRaised : Rules → (minor variant : ℕ) → Outcome
+offeringRaised rules minor variant =
     serveBy rules (deviceOf raised idle) Offer (replicate 8 0)
-    (0x00 ∷ 0x00 ∷ 0x01 ∷ 0xA5 ∷ 0x00 ∷ minor ∷ 0x00 ∷ 0x01 ∷ noNeed ++ 0x02 ∷ 0x00 ∷ 0x42 ∷ 0x00 ∷ [])
+    (0x00 ∷ 0x00 ∷ 0x01 ∷ 0xA5 ∷ variant ∷ minor ∷ 0x00 ∷ 0x01 ∷ noNeed ++ 0x02 ∷ 0x00 ∷ 0x42 ∷ 0x00 ∷ [])
 
 -- what its whole image in one block comes to, at 1.minor.0 and with this CRC
 abbrev pub sendingRaised : Rules → (minor high low : ℕ) → Outcome
@@ -148,31 +147,38 @@ sendingRaised rules minor high low =
     serveBy rules (deviceOf raised (inStage idle forOne blankPacket)) Content (replicate 8 0)
     (0xC0 ∷ 8 ∷ replicate 6 0x00 ++ (0x00 ∷ minor ∷ 0x00 ∷ 0x01 ∷ 0x01 ∷ 0x00 ∷ high ∷ low ∷ replicate 44 0x00))
 
--- what a reset comes to where 1.3.0 is staged
-abbrev pub resettingRaised : Rules → Reset
-resettingRaised rules = resetBy rules (deviceOf (withStaged raised (versionOf 1 3 0)) idle)
+-- what a reset comes to where 1.minor.0 is staged
+abbrev pub resettingRaised : Rules → (minor : ℕ) → Reset
+resettingRaised rules minor = resetBy rules (deviceOf (withStaged raised (versionOf 1 minor 0)) idle)
 
--- what set-up comes to, with this floor
-abbrev pub listedWith : (floor : ℕ) → List Listed
-listedWith floor =
+-- a list of these two components, with a floor, and with a floor and a region that is too short
+abbrev pub listedWith : (floor len other : ℕ) → List Listed
+listedWith floor len other =
     record { fixed = floored floor 1 0x01000200 0 8 .fixed; running = versionOf 1 2 0 }
-    ∷ replicate (COMPONENT-LIMIT - 1) (record { fixed = blankComponent .fixed; running = blankComponent .running })
+    ∷ record { fixed = floored other 2 0x01000200 8 len .fixed; running = versionOf 1 2 0 }
+    ∷ replicate (COMPONENT-LIMIT - 2) (record { fixed = blankComponent .fixed; running = blankComponent .running })
 
-abbrev pub settingUp : Rules → (floor : ℕ) → SetUp
-settingUp rules floor = setUpBy rules 0x0042 (listedWith floor) 1 8
+-- the row that set-up comes to with the first `count` of them, for a staging buffer of 16 bytes
+abbrev pub settingUp : Rules → (count floor len other : ℕ) → setup.Row
+settingUp rules count floor len other = setUpBy rules 0x0042 (listedWith floor len other) count 16 .row
 
--- between the running version and the floor, at 1.3.0: without A5 it is accepted, staged and started; in force it is rejected with 0, its image is answered with 0x07
--- and not staged, and the record with it is refused by D1. At the floor, at 1.5.0, it is accepted and staged. A floor of 1.5.1 is refused by S5, where without A5 it is
--- served; a floor of 1.5.0 is served although it stands above the running version
+-- just below the floor, at 1.4.0: without A5 it is accepted, staged and started; in force it is rejected with 0, or with 0xE2 where its variant is another, its image is
+-- answered with 0x07 and not staged, and the record with it is refused by D1. At the floor, at 1.5.0, it is accepted, staged and started, and the floor stays. A floor
+-- with a variant is refused by S5, in every slot that is in use, after S4, and makes D1; a floor above the running version does not
 pub record A5Differs : Type 0 where
-  pub offeredBefore : (offeringRaised withoutA5 3 .sent ≡ answer 0 OFFER-ACCEPT) × (offeringRaised withoutA5 3 .device ≡ deviceOf raised (inStage idle forOne blankPacket))
-  pub offered : (offeringRaised inForce 3 .sent ≡ answer REJECT-OLD-FW OFFER-REJECT) × (offeringRaised inForce 3 .device ≡ deviceOf raised idle)
-  pub offeredFloor : (offeringRaised inForce 5 .sent ≡ answer 0 OFFER-ACCEPT) × (offeringRaised inForce 5 .device ≡ deviceOf raised (inStage idle forOne blankPacket))
-  pub imageBefore : (sendingRaised withoutA5 3 0xEA 0xD3 .sent ≡ status SUCCESS) × (sendingRaised withoutA5 3 0xEA 0xD3 .device ≡ deviceOf (withStaged raised (versionOf 1 3 0)) idle)
-  pub image : (sendingRaised inForce 3 0xEA 0xD3 .sent ≡ status ERROR-VERSION) × (sendingRaised inForce 3 0xEA 0xD3 .device ≡ deviceOf raised idle)
+  pub offeredBefore : (offeringRaised withoutA5 4 0 .sent ≡ answer 0 OFFER-ACCEPT) × (offeringRaised withoutA5 4 0 .device ≡ deviceOf raised (inStage idle forOne blankPacket))
+  pub offered : (offeringRaised inForce 4 0 .sent ≡ answer REJECT-OLD-FW OFFER-REJECT) × (offeringRaised inForce 4 0 .device ≡ deviceOf raised idle)
+  pub variant : (offeringRaised inForce 4 1 .sent ≡ answer REJECT-WRONG-VARIANT OFFER-REJECT) × (offeringRaised inForce 4 1 .device ≡ deviceOf raised idle)
+  pub offeredFloor : (offeringRaised inForce 5 0 .sent ≡ answer 0 OFFER-ACCEPT) × (offeringRaised inForce 5 0 .device ≡ deviceOf raised (inStage idle forOne blankPacket))
+  pub imageBefore : (sendingRaised withoutA5 4 0x8D 0x07 .sent ≡ status SUCCESS) × (sendingRaised withoutA5 4 0x8D 0x07 .device ≡ deviceOf (withStaged raised (versionOf 1 4 0)) idle)
+  pub image : (sendingRaised inForce 4 0x8D 0x07 .sent ≡ status ERROR-VERSION) × (sendingRaised inForce 4 0x8D 0x07 .device ≡ deviceOf raised idle)
   pub imageFloor : (sendingRaised inForce 5 0x27 0x56 .sent ≡ status SUCCESS) × (sendingRaised inForce 5 0x27 0x56 .device ≡ deviceOf (withStaged raised (versionOf 1 5 0)) idle)
-  pub stagedBefore : resettingRaised withoutA5 ≡ record { row = served; device = deviceOf (floored 0x01000500 1 0x01000300 0 8) idle }
-  pub staged : resettingRaised inForce ≡ record { row = D 1; device = deviceOf (withStaged raised (versionOf 1 3 0)) idle }
-  pub setUpBefore : settingUp withoutA5 0x01000501 .row ≡ setup.served
-  pub setUp : settingUp inForce 0x01000501 ≡ record { row = setup.S 5; device = blankDevice }
-  pub setUpFloor : settingUp inForce 0x01000500 ≡ record { row = setup.served; device = deviceOf raised idle }
+  pub stagedBefore : resettingRaised withoutA5 4 ≡ record { row = served; device = deviceOf (floored 0x01000500 1 0x01000400 0 8) idle }
+  pub staged : resettingRaised inForce 4 ≡ record { row = D 1; device = deviceOf (withStaged raised (versionOf 1 4 0)) idle }
+  pub stagedFloor : resettingRaised inForce 5 ≡ record { row = served; device = deviceOf (floored 0x01000500 1 0x01000500 0 8) idle }
+  pub setUpBefore : settingUp withoutA5 2 0 8 0x01000501 ≡ setup.served
+  pub setUp : settingUp inForce 2 0 8 0x01000501 ≡ setup.S 5
+  pub setUpOrder : settingUp inForce 2 0x01000501 7 0 ≡ setup.S 4
+  pub setUpUnused : settingUp inForce 1 0 8 0x01000501 ≡ setup.served
+  pub setUpFloor : settingUp inForce 2 0x01000500 8 0 ≡ setup.served
+  pub judged : resetBy inForce (deviceOf (floored 0x01000501 1 0x01000200 0 8) idle) .row ≡ D 1

@@ -1,6 +1,6 @@
--- What document 02 leaves as it is: where versions have the variant that their component runs, every call answers as by document 01's rules on versions (A1);
--- every call on a record that D1's new clause lets pass, but a block sent again, answers as by document 01's rules on sequences (A4); and where every floor is 0,
--- set-up and every call answer as without floors (A5).
+-- What document 02 leaves as it is: where versions have the variant that their component runs, every call answers as by document 01's rules on versions, with the
+-- floors beside them (A1); every call on a record that D1's new clause lets pass, but a block sent again, answers as by document 01's rules on sequences (A4); and
+-- where every floor is 0, set-up and every call answer as without floors (A5).
 use Prim.Native.Nat.{ℕ, _<_}
 use mathlib.Core.Path.{_≡_}
 use mathlib.Core.Bool.{true, false}
@@ -94,7 +94,9 @@ pub record NoFloorAsBefore : Type 0 where
   pub setUp : (platform : ℕ) (list : List Listed) (count n : ℕ) → NoFloor count (map listed list)
       → setUpOf platform list count n ≡ setUpBy withoutA5 platform list count n
 
--- under the premises of the three, every call answers as by document 01's rules
-abbrev pub AsDocument01 : Type 0
-AsDocument01 = (d : Device) (staging : List ℕ) (call : Call) → StagedOne d → BroughtOne d staging call → holdsWrong (d .session) ≡ false → BringsNoCopy d call
-    → NoFloor (d .count) (d .components) → answerOf d staging call ≡ answerBy document01 d staging call
+-- under the premises of the three, every call answers as by document 01's rules; set-up does for a list whose floors are 0
+pub record AsDocument01 : Type 0 where
+  pub calls : (d : Device) (staging : List ℕ) (call : Call) → StagedOne d → BroughtOne d staging call → holdsWrong (d .session) ≡ false → BringsNoCopy d call
+      → NoFloor (d .count) (d .components) → answerOf d staging call ≡ answerBy document01 d staging call
+  pub setUp : (platform : ℕ) (list : List Listed) (count n : ℕ) → NoFloor count (map listed list)
+      → setUpOf platform list count n ≡ setUpBy document01 platform list count n

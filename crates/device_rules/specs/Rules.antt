@@ -1,5 +1,5 @@
--- The rules that document 02 amends, as values, those of document 01 and those in force: on versions (A1), on the sequence of a block (A4), and on floors, which
--- are asked of versions and of set-up (A5).
+-- The rules that document 02 amends, as values, those of document 01 and those in force: on versions (A1), on the sequence of a block (A4), and on floors,
+-- against which versions and set-up's list are tested (A5).
 use Prim.Native.Nat.{ℕ}
 use mathlib.Core.Bool.{Bool, false, not, cond, _||_, _&&_}
 use mathlib.Core.List.{List, [], _∷_}

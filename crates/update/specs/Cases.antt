@@ -7,14 +7,13 @@ use mathlib.Core.Bool.{true, false}
 use mathlib.Core.List.{List, [], _∷_, _++_, map}
 use lib.Dec.{eqb}
 use lib.ListN.{length, getD, take, drop, replicate}
-use Rattle.wire.specs.Codes.{COMPONENT-LIMIT, OFFER-SKIP, OFFER-ACCEPT, OFFER-REJECT, OFFER-BUSY, OFFER-READY, REJECT-INV-COMPONENT, REJECT-SWAP-PENDING, SUCCESS}
+use Rattle.wire.specs.Codes.{COMPONENT-LIMIT, OFFER-SKIP, OFFER-ACCEPT, OFFER-REJECT, OFFER-BUSY, OFFER-READY, REJECT-OLD-FW, REJECT-INV-COMPONENT, REJECT-SWAP-PENDING, SUCCESS}
 use Rattle.wire.specs.Version.{versionBytes, versionOf}
 use Rattle.wire_offer.specs.Reply as offerReply
 use Rattle.wire_content.specs.Reply as contentReply
 use Rattle.bundle_records.specs.Record.{Block}
-use Rattle.device_component.specs.Record.{isPending, withStaged, blankComponent}
+use Rattle.device_component.specs.Record.{floored, isPending, withStaged, blankComponent}
 use Rattle.device_component.specs.declared.record.Component.{Component}
-use Rattle.device_component.specs.declared.record.Staged.the-variants as staged
 use Rattle.bundle_layout.specs.Layout.{countIn}
 use Rattle.bundle.specs.Contents.{Part, bundleBytes}
 use Rattle.device.specs.declared.record.Device.{Device}
@@ -30,9 +29,12 @@ use Rattle.update.specs.Ends.{hostSteps}
 use Rattle.update.specs.Demand.{Premise}
 use Rattle.update.specs.Bench.{placed, withCrc, code, offered, block, said}
 
--- components with regions of 16 bytes, one after the other, all at 1.0.0
+-- components with regions of 16 bytes, one after the other, all at 1.0.0: with this floor, and with none
+abbrev pub floor100 : (floor id : ℕ) → Component
+floor100 floor id = floored floor id 0x01000000 (16 * (id - 1)) 16
+
 abbrev pub at100 : (id : ℕ) → Component
-at100 id = floored 0 id (versionOf 1 0 0 .0) (16 * (id - 1)) 16
+at100 id = floor100 0 id
 
 -- the image of a component at 1.1.0, in two records of 8 bytes
 unfoldable pub image16 : (id : ℕ) → List ℕ
@@ -112,6 +114,32 @@ pub record MixedRuns : Type 0 where
       ∷ []
   pub device : MixedDevice
   pub staging : MixedStaging
+
+-- floors (document 02, A5): component 1 has 1.2.0 for its floor, above the 1.1.0 that is offered, and component 3 has 1.1.0; 2 needs 1 at 1.1
+abbrev pub raised : Device
+raised = record {
+  platform = 0x0042;
+  «staging_len» = 48;
+  count = 3;
+  components = floor100 0x01000200 1 ∷ at100 2 ∷ floor100 0x01000100 3 ∷ replicate (COMPONENT-LIMIT - 3) blankComponent;
+  session = idle;
+}
+
+abbrev pub raisedBundle : List ℕ
+raisedBundle = bundleBytes (alone 1 ∷ needing 2 1 ∷ alone 3 ∷ [])
+
+-- 1 is rejected with 0, so that 2 is skipped; only 3 lands
+pub record FloorRuns : Type 0 where
+  pub premise : Premise raisedBundle 7 raised (replicate 48 0)
+  pub done : comes raisedBundle raised .host .stage ≡ Ended Done
+  pub says : map said (comes raisedBundle raised .trace)
+      ≡ code 0
+      ∷ code 1 ∷ offered 1 OFFER-REJECT REJECT-OLD-FW ∷ offered 2 OFFER-SKIP 0 ∷ offered 3 OFFER-ACCEPT 0 ∷ block SUCCESS ∷ block SUCCESS ∷ code 2
+      ∷ code 1 ∷ offered 1 OFFER-REJECT REJECT-OLD-FW ∷ offered 2 OFFER-SKIP 0 ∷ offered 3 OFFER-REJECT REJECT-SWAP-PENDING ∷ code 2
+      ∷ []
+  pub device : comes raisedBundle raised .device .components
+      ≡ floor100 0x01000200 1 ∷ at100 2 ∷ withStaged (floor100 0x01000100 3) (versionOf 1 1 0) ∷ replicate (COMPONENT-LIMIT - 3) blankComponent
+  pub staging : comes raisedBundle raised .staging ≡ replicate 32 0 ++ image16 3
 
 -- a need cycle alone: both offers are skipped, one pass, five packets, nothing staged
 abbrev pub cycle : List ℕ

@@ -48,7 +48,7 @@ pub record Good (c : Component) (o : OfferFields) (rs : List Block) : Type 0 whe
   pub id : imageId (imageOf (c .fixed .region .len) rs) ≡ o .id
   pub version : imageVersion (imageOf (c .fixed .region .len) rs) ≡ o .version
 
--- an offer passes checks 2 to 7, that of the variant among them (document 02, A1)
+-- an offer passes checks 2 to 7, that of the variant (document 02, A1) and that of the floor (A5) among them
 abbrev pub isEligible : Device → OfferFields → Bool
 isEligible d o = not (applies (rejections d o))
 

@@ -95,6 +95,7 @@ calls-hold = record {
   lists-raised = refl;
   sets-up-raised = refl;
   sets-up-none = refl;
+  rejects-raised = refl;
   tells-raised = refl;
   lists-no-more = refl;
   tells-two = refl;

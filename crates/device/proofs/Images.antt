@@ -35,7 +35,7 @@ use Rattle.device.specs.Entries.{serveEntry, serveStaging}
 use Rattle.device.specs.Images.{StagesOwnImage}
 
 -- an element after a store is the one before it, or the one stored
-at-set : (l : List Component) (i k : ℕ) (a z : Component) → (getD (set l i a) k z ≡ getD l k z) ⊎ ((k ≡ i) × (getD (set l i a) k z ≡ a))
+pub at-set : (l : List Component) (i k : ℕ) (a z : Component) → (getD (set l i a) k z ≡ getD l k z) ⊎ ((k ≡ i) × (getD (set l i a) k z ≡ a))
 at-set [] i k a z = inl refl
 at-set (x ∷ xs) zero zero a z = inr (refl, refl)
 at-set (x ∷ xs) zero (suc k) a z = inl refl
@@ -47,7 +47,7 @@ at-set (x ∷ xs) (suc i) (suc k) a z = go (at-set xs i k a z) where
   go (inr h) = inr (ap suc (h .0), h .1)
 
 -- two pending components have one version
-one-version : (v w : Version) → Pending v ≡ Pending w → v ≡ w
+pub one-version : (v w : Version) → Pending v ≡ Pending w → v ≡ w
 one-version v w e = ap version e where
   version : Staged → Version
   version Nothing = v

@@ -15,3 +15,5 @@ pub mod Copies
 pub mod Offering
 pub mod Blocks
 pub mod Opened
+pub mod Floors
+pub mod Judged

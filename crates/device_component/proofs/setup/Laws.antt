@@ -64,6 +64,10 @@ module _ (n count : ℕ) (components : List Component) (fine : setupVerdict n co
       let s = neither (ltb count 1) (ltb COMPONENT-LIMIT count) (rows .1) in
       (ltb-false count 1 (s .0), ltb-false COMPONENT-LIMIT count (s .1))
 
+  -- S5: no floor is bad
+  pub fine-floors : badFloors (take count components) ≡ false
+  fine-floors = rows .4
+
   -- S3: no id is bad
   pub fine-ids : badIds (take count components) ≡ false
   fine-ids = rows .2

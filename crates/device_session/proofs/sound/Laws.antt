@@ -54,7 +54,7 @@ module _ {n count : ℕ} {components : List Component} {session : Session} where
   unfolding breaksD1
   keeps p = rw (p .setup, p .slot, p .previous, p .owed) (p .staged)
 
-  setup-fine : Passes n count components session → setupVerdict n count components ≡ Fine
+  pub setup-fine : Passes n count components session → setupVerdict n count components ≡ Fine
   setup-fine p = fine _ (p .setup)
 
   -- the staging buffer is at most 65,536 bytes long

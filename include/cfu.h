@@ -51,14 +51,20 @@ extern "C" {
 /* ---- The version of this interface ---- */
 
 /* The major counts changes that a program must follow, the minor what was only added. */
-#define CFU_INTERFACE_MAJOR 2
+#define CFU_INTERFACE_MAJOR 3
 #define CFU_INTERFACE_MINOR 0
 
-/* What a program that was written for major 1 has to follow:
- *   - the records are longer, a device's 200 bytes in place of 140, a host's 25 in place of 24, and a device's components stand at 74 in place of 14. Lend
- *     buffers of CFU_DEVICE_SIZE and CFU_HOST_SIZE bytes. A record that older code left is refused by C1, as is any buffer of its length; its bytes in a longer
- *     buffer are another record, which need not be refused. For a kept device reset it with the older code, so that what is staged runs, and set it up anew
- *     with this one. For a kept host let its update end with the older code, or begin again with cfu_host_fresh: its first packet, code 0, closes the session;
+/* What a program that was written for major 2 has to follow:
+ *   - a component has a floor, the lowest version that it takes: cfu_listed and cfu_component have a field for it, so compile anew. An offer below it gets
+ *     CFU_REJECT_OLD_FW, an image CFU_ERROR_VERSION. A floor of zero is none: with a zeroed list that cfu_list_put fills with floors of zero a device answers
+ *     as before;
+ *   - the list and the device's record are longer: the list has 119 bytes in place of 91, of which a component takes 17 in place of 13; the record has 228 in
+ *     place of 200, of which a component takes 22 in place of 18, with what is staged at 17 in place of 13. Lend buffers of CFU_LIST_SIZE and CFU_DEVICE_SIZE
+ *     bytes. A record that older code left is refused by C1, as is any buffer of its length; its bytes in a longer buffer are another record, which need not be
+ *     refused. Reset a kept device with the older code, so that what is staged runs, and set it up anew with this one.
+ * A program that was written for major 1 also this:
+ *   - a device's record has 228 bytes in place of 140, with its components at 74 in place of 14, a host's record 25 in place of 24: lend CFU_HOST_SIZE bytes
+ *     too. Let the update of a kept host end with the older code, or begin again with cfu_host_fresh: its first packet, code 0, closes the session;
  *   - a step of the host that has nothing to send need not be its end: see cfu_host_step. */
 
 /* ---- Versions of firmware ---- */
@@ -75,8 +81,8 @@ extern "C" {
 
 /* ---- Sizes of lent buffers, in bytes ---- */
 
-#define CFU_DEVICE_SIZE 200     /* a device's record */
-#define CFU_LIST_SIZE 91        /* the list that set-up takes: CFU_COMPONENT_LIMIT times 13 */
+#define CFU_DEVICE_SIZE 228     /* a device's record */
+#define CFU_LIST_SIZE 119       /* the list that set-up takes: CFU_COMPONENT_LIMIT times 17 */
 #define CFU_HOST_SIZE 25        /* a host's record */
 #define CFU_CONTENTS_SIZE 103   /* what the check of a bundle answers, with the host's cursor */
 #define CFU_REPLIES_SIZE 32     /* up to two replies of the device */
@@ -89,16 +95,17 @@ extern "C" {
 /* ---- Places in lent bytes, and the sizes of parts that stand there several times ---- */
 
 /* A device's record: its session, the ready-reply and the previous packet in it, the components. A component: its running version, its region (base, then
- * length), whether a version is staged (then that version). A component of set-up's list: what stands before that. */
+ * length), its floor, whether a version is staged (then that version). A component of set-up's list: what stands before that. */
 #define CFU_DEVICE_SESSION_AT 7
 #define CFU_DEVICE_OWED_AT 12
 #define CFU_DEVICE_PREVIOUS_AT 14
 #define CFU_DEVICE_COMPONENTS_AT 74
-#define CFU_COMPONENT_SIZE 18
+#define CFU_COMPONENT_SIZE 22
 #define CFU_COMPONENT_RUNNING_AT 1
 #define CFU_COMPONENT_REGION_AT 5
-#define CFU_COMPONENT_STAGED_AT 13
-#define CFU_LISTED_SIZE 13
+#define CFU_COMPONENT_FLOOR_AT 13
+#define CFU_COMPONENT_STAGED_AT 17
+#define CFU_LISTED_SIZE 17
 
 /* A component of a version reply as it is lent: its running version, its id, the platform. */
 #define CFU_RUNNING_SIZE 7
@@ -147,16 +154,17 @@ extern "C" {
 #define CFU_C4 0x4304
 
 /* Set-up: staging over 65,536 bytes; a count not 1 to CFU_COMPONENT_LIMIT; an id outside 1 to 0xDF or repeated; a region under 8 bytes, past the buffer or over
- * another. */
+ * another; a floor with a variant other than 0, since it counts by major and minor. */
 #define CFU_S1 0x5301
 #define CFU_S2 0x5302
 #define CFU_S3 0x5303
 #define CFU_S4 0x5304
+#define CFU_S5 0x5305
 
-/* Device. D1: a stage, an owed or a staged that no record has; a record that breaks S1 to S4, opens a session on a component that is not listed or is pending,
+/* Device. D1: a stage, an owed or a staged that no record has; a record that breaks S1 to S5, opens a session on a component that is not listed or is pending,
  * receives while the sequence of its previous packet is not just before the next one (65,535 is just before 0), owes a ready-reply while idle, or has a staged
- * version whose variant is not the running one or whose major and minor are lower. D2: another staging length than at set-up. D3: a report of another length
- * than 16 (offer channel) or 60 (content channel). */
+ * version whose variant is not the running one or whose major and minor are lower than the running ones or than the floor's. D2: another staging length than
+ * at set-up. D3: a report of another length than 16 (offer channel) or 60 (content channel). */
 #define CFU_D1 0x4401
 #define CFU_D2 0x4402
 #define CFU_D3 0x4403
@@ -228,7 +236,7 @@ extern "C" {
 #define CFU_OFFER_BUSY 3
 #define CFU_OFFER_READY 4
 #define CFU_OFFER_UNSUPPORTED 0xFF
-#define CFU_REJECT_OLD_FW 0 /* the offered major and minor are not greater than the running ones */
+#define CFU_REJECT_OLD_FW 0 /* the offered major and minor are not greater than the running ones, or are lower than the floor's */
 #define CFU_REJECT_INV_COMPONENT 1
 #define CFU_REJECT_SWAP_PENDING 2
 #define CFU_REJECT_WRONG_PROTOCOL 0xE0
@@ -241,7 +249,7 @@ extern "C" {
 #define CFU_SUCCESS 0
 #define CFU_ERROR_VERIFY 0x04
 #define CFU_ERROR_CRC 0x05
-#define CFU_ERROR_VERSION 0x07 /* the image's variant is not the running one, or its major and minor are lower */
+#define CFU_ERROR_VERSION 0x07 /* the image's variant is not the running one, or its major and minor are lower than the running ones or than the floor's */
 #define CFU_ERROR_INVALID_ADDR 0x09
 #define CFU_ERROR_NO_OFFER 0x0A
 #define CFU_ERROR_INVALID 0x0B /* also a block that comes again, unless it is a copy that cfu_device_content answers with CFU_SUCCESS */
@@ -341,12 +349,14 @@ typedef struct cfu_report {
     uint32_t status; /* the content status of H1, otherwise 0 */
 } cfu_report;
 
-/* A component of the list that set-up takes: id, running version, and the region's base and length. */
+/* A component of the list that set-up takes: id, running version, the region's base and length, and the floor, the lowest version that the component takes,
+ * which may stand above the running one. It counts by major and minor, so that its variant is 0; zero is no floor. */
 typedef struct cfu_listed {
     uint8_t id;
     cfu_version running;
     uint32_t base;
     uint32_t length;
+    cfu_version floor;
 } cfu_listed;
 
 typedef struct cfu_component {
@@ -355,6 +365,7 @@ typedef struct cfu_component {
     cfu_version running;
     uint32_t base;
     uint32_t length;
+    cfu_version floor;  /* as set-up took it */
     uint8_t pending;    /* 1 where a version is staged, which a reset makes the running one, otherwise 0 */
     cfu_version staged; /* that version, zero where none is staged */
 } cfu_component;
@@ -378,8 +389,8 @@ typedef struct cfu_entry {
  *     8  slot (1): the component's place in the list, from 0; 9 token (1), 10 next sequence (2)
  *    12  owed ready-reply (1): 0 none, 1 owed; 13 its token (1)
  *    14  previous packet (CFU_LONG_SIZE): while receiving, the content packet of the block that was taken last
- *    74  CFU_COMPONENT_LIMIT times 18 bytes: id (1), running version (4), region base (4), region length (4), staged (1): 0 nothing, 1 pending; staged
- *        version (4)
+ *    74  CFU_COMPONENT_LIMIT times 22 bytes: id (1), running version (4), region base (4), region length (4), floor (4), staged (1): 0 nothing, 1 pending;
+ *        staged version (4)
  * Only these calls need to write one, and cfu_device_component reads a component. Fields that the stage does not have, the token where none is owed and the
  * staged version where nothing is staged are not looked at, whatever stands there; a call that writes the session or the component writes zero there. The
  * previous packet alone stays as it is, looked at or not, until a block is taken, which writes its packet there, or the session begins or ends or code 0 comes,
@@ -397,15 +408,16 @@ uint32_t cfu_list_put(uint8_t *list, size_t list_len, uint32_t place, cfu_listed
 
 /*
  * Makes the record of a device that is idle, with nothing staged and nothing owed. list: CFU_COMPONENT_LIMIT times id (1), running version (4), region base
- * (4), region length (4), CFU_LIST_SIZE bytes, of which the first `count` are used; all are copied into the record. Of the staging buffer, plain memory, only
- * the length counts, which later calls must lend again. Returns CFU_SERVED, C1 (device), C2 (list) or S1 to S4. A refusal leaves the record as it was.
+ * (4), region length (4), floor (4), CFU_LIST_SIZE bytes, of which the first `count` are used; all are copied into the record. Of the staging buffer, plain
+ * memory, only the length counts, which later calls must lend again. Returns CFU_SERVED, C1 (device), C2 (list) or S1 to S5. A refusal leaves the record as it
+ * was. No later call changes a floor: to raise one, reset the device and set it up anew.
  */
 uint32_t cfu_device_set_up(uint8_t *device, size_t device_len, uint16_t platform, const uint8_t *list, size_t list_len, uint8_t count,
                            const uint8_t *staging, size_t staging_len);
 
 /*
- * The component at a place of the list that set-up took, counted from 0: what runs, its region, and the version that is staged. Returns CFU_SERVED, C1
- * (device), D1, or C4 (a place that is not under the count of components).
+ * The component at a place of the list that set-up took, counted from 0: what runs, its region, its floor, and the version that is staged. Returns CFU_SERVED,
+ * C1 (device), D1, or C4 (a place that is not under the count of components).
  */
 cfu_component cfu_device_component(const uint8_t *device, size_t device_len, uint32_t place);
 
@@ -435,9 +447,9 @@ cfu_replies cfu_device_content(uint8_t *device, size_t device_len, uint8_t *stag
                                uint8_t *replies, size_t replies_len);
 
 /*
- * The device was reset: in the record staged versions run, nothing is pending or owed, the session is idle. The caller installs the images before this call.
- * Returns CFU_SERVED, C1 (device) or D1. A record in which code from before CFU_REJECT_WRONG_VARIANT has staged another variant than the running one is refused
- * by D1, here too, and has to be set up anew: reset before firmware with this code is installed.
+ * The device was reset: in the record staged versions run, nothing is pending or owed, the session is idle, and the floors are as they were. The caller
+ * installs the images before this call. Returns CFU_SERVED, C1 (device) or D1. A record that older code left is refused by C1, here too: reset before firmware
+ * with this code is installed.
  */
 uint32_t cfu_device_reset(uint8_t *device, size_t device_len);
 

@@ -42,6 +42,8 @@ static inline const char *cfu_name(uint32_t kind, uint32_t number)
             return "S3";
         case CFU_S4:
             return "S4";
+        case CFU_S5:
+            return "S5";
         case CFU_D1:
             return "D1";
         case CFU_D2:
@@ -198,6 +200,8 @@ static inline const char *cfu_sentence(uint32_t kind, uint32_t number)
             return "a component's id is not 1 to 223, or two have the same";
         case CFU_S4:
             return "a region is under 8 bytes, reaches past the staging memory, or overlaps another";
+        case CFU_S5:
+            return "a floor has a variant other than 0, where only major and minor count";
         case CFU_D1:
             return "the device's record breaks its rules";
         case CFU_D2:
@@ -279,7 +283,7 @@ static inline const char *cfu_sentence(uint32_t kind, uint32_t number)
     case CFU_OF_REASON:
         switch (number) {
         case CFU_REJECT_OLD_FW:
-            return "what runs is not older";
+            return "not newer than what runs, or below the floor";
         case CFU_REJECT_INV_COMPONENT:
             return "no such component on this platform";
         case CFU_REJECT_SWAP_PENDING:
@@ -301,7 +305,7 @@ static inline const char *cfu_sentence(uint32_t kind, uint32_t number)
         case CFU_ERROR_CRC:
             return "the image's CRC is wrong";
         case CFU_ERROR_VERSION:
-            return "the image is of another variant than what runs, or older";
+            return "the image is of another variant than what runs, older than that, or below the floor";
         case CFU_ERROR_INVALID_ADDR:
             return "the block reaches past the region";
         case CFU_ERROR_NO_OFFER:

@@ -22,6 +22,8 @@ pub struct Listed {
     /// Its region of the staging memory.
     pub base: u32,
     pub length: u32,
+    /// The lowest version that it takes, by major and minor; 0.0.0 is none.
+    pub floor: Version,
 }
 
 /// What a call refused by a row answers: the row's number, as include/cfu.h has it.
@@ -54,7 +56,7 @@ impl Device {
         Ok(device)
     }
 
-    /// Prints what runs, which the version reply tells, and what is pending, which only the device's record has.
+    /// Prints what runs, which the version reply tells, and the floor and what is pending, which only the device's record has.
     pub fn show(&self, out: &mut Output) -> Result<(), Refused> {
         let (mut packet, mut components) = ([0; LONG_SIZE], [0; COMPONENTS_SIZE]);
         served(cfu_device_version_reply(&self.record, &mut packet))?;
@@ -62,11 +64,16 @@ impl Device {
         served(reply.number)?;
         let own = self.record[COMPONENTS_START..].chunks_exact(COMPONENT_SIZE);
         for (running, own) in components.chunks_exact(RUNNING_SIZE).zip(own).take(reply.count.into()) {
-            let pending = match component_in(own).staged {
+            let own = component_in(own);
+            let floor = match own.fixed.floor {
+                floor if floor.release() == 0 => String::new(),
+                floor => format!(", floor {}", shown::version(floor)),
+            };
+            let pending = match own.staged {
                 Staged::Pending(version) => format!(", pending {}", shown::version(version)),
                 Staged::Nothing => String::new(),
             };
-            out.line(format!("  component {} runs {}{pending}", running[ID_AT], shown::version(Version::read_at(running, 0))));
+            out.line(format!("  component {} runs {}{floor}{pending}", running[ID_AT], shown::version(Version::read_at(running, 0))));
         }
         Ok(())
     }
@@ -90,8 +97,8 @@ impl Device {
     }
 }
 
-/// A component of the list that set-up takes: id, running version, base and length of the region.
-fn listed_bytes(component: &Listed) -> [u8; LISTED_SIZE] {
-    let (v, b, l) = (component.running.bytes(), component.base.to_le_bytes(), component.length.to_le_bytes());
-    [component.id, v[0], v[1], v[2], v[3], b[0], b[1], b[2], b[3], l[0], l[1], l[2], l[3]]
+/// A component of the list that set-up takes: id, running version, base and length of the region, floor.
+fn listed_bytes(component: &Listed) -> Vec<u8> {
+    let words = [component.running.bytes(), component.base.to_le_bytes(), component.length.to_le_bytes(), component.floor.bytes()];
+    [&[component.id], words.concat().as_slice()].concat()
 }

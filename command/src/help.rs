@@ -164,9 +164,10 @@ Updates a simulated device from a bundle, prints what happened, and resets the d
 be -, standard input.
 
   --platform N       the device's platform (0x{BENCH_PLATFORM:04X})
-  --component ID:VERSION:BASE:LENGTH
-                     a component, its running version as major.minor.variant, and its region of
-                     the staging memory; up to {COMPONENT_LIMIT} times
+  --component ID:VERSION:BASE:LENGTH[:FLOOR]
+                     a component, its running version as major.minor.variant, its region of the
+                     staging memory, and its floor, the lowest version that it takes, with
+                     variant 0; up to {COMPONENT_LIMIT} times
                      ({})
   --staging BYTES    the device's staging memory (up to the end of the last region)
   --token N          the host's token (0x{BENCH_TOKEN:02X})

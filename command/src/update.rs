@@ -72,7 +72,7 @@ fn options(line: &Line) -> Result<Options, Failure> {
         if components.len() == COMPONENT_LIMIT {
             return Err(Failure::Wrong(format!("more than {COMPONENT_LIMIT} components").into()));
         }
-        components.push(read_value(COMPONENT, value, "ID:VERSION:BASE:LENGTH", component)?);
+        components.push(read_value(COMPONENT, value, "ID:VERSION:BASE:LENGTH[:FLOOR]", component)?);
     }
     if components.is_empty() {
         components = bench();
@@ -88,21 +88,25 @@ fn options(line: &Line) -> Result<Options, Failure> {
     })
 }
 
-/// Reads `ID:VERSION:BASE:LENGTH`.
+/// Reads `ID:VERSION:BASE:LENGTH[:FLOOR]`.
 fn component(text: &str) -> Option<Listed> {
     let parts: Vec<&str> = text.split(':').collect();
-    let [id, version, base, length] = parts[..] else {
-        return None;
+    let (&[id, version, base, length], rest) = parts.split_first_chunk()?;
+    let floor = match rest {
+        [] => Version::new(0, 0, 0),
+        [floor] => values::version(floor)?,
+        _ => return None,
     };
     let number = |text| values::number(text, u32::MAX);
-    Some(Listed { id: values::byte(id)?, running: values::version(version)?, base: number(base)?, length: number(length)? })
+    Some(Listed { id: values::byte(id)?, running: values::version(version)?, base: number(base)?, length: number(length)?, floor })
 }
 
-/// The components of the bench device.
+/// The components of the bench device, which have no floors.
 pub fn bench() -> Vec<Listed> {
+    let floor = Version::new(0, 0, 0);
     vec![
-        Listed { id: 1, running: Version::new(1, 2, 0), base: 0, length: 64 },
-        Listed { id: 2, running: Version::new(1, 1, 0), base: 64, length: 64 },
+        Listed { id: 1, running: Version::new(1, 2, 0), base: 0, length: 64, floor },
+        Listed { id: 2, running: Version::new(1, 1, 0), base: 64, length: 64, floor },
     ]
 }
 

@@ -1,6 +1,6 @@
 /*
  * update.c: updates a simulated device from a bundle file, over the C interface include/cfu.h (document 01, "The device", "The host", E12 and E13; document 02,
- * A4).
+ * A4 and A5).
  *
  * Device and host stand in one process, and a bus between them: `deliver` takes a packet to the device, `bring` takes the next reply to the host. On a PC the
  * host's half stays, and the two write and read over HID; in a device `serve` is what the main loop does with a packet that has come. With --twice the bus has
@@ -12,7 +12,7 @@
  *     2  the command line is wrong
  *     3  the file cannot be read
  *     4  the bundle is refused (B1 to B8)
- *     5  the device is refused at set-up (S1 to S4)
+ *     5  the device is refused at set-up (S1 to S5)
  *     6  the host ended the update (H1 to H4)
  *     7  a call refused what this program lent to it (C1 to C4, D1 to D3, N1, P1, P2)
  *     8  what was printed is lost
@@ -41,9 +41,10 @@ static const char USAGE[] =
     "Updates a simulated device from a bundle file, prints what happened, and resets the device.\n"
     "\n"
     "  --platform NUMBER           the device's platform (0x0042)\n"
-    "  --component ID:VERSION:BASE:LENGTH\n"
-    "                              a component, its running version as major.minor.variant, and its region of the staging memory; up to\n"
-    "                              " TEXT(CFU_COMPONENT_LIMIT) " times (1:1.2.0:0:64 and 2:1.1.0:64:64)\n"
+    "  --component ID:VERSION:BASE:LENGTH[:FLOOR]\n"
+    "                              a component, its running version as major.minor.variant, its region of the staging memory, and its\n"
+    "                              floor, the lowest version that it takes, with variant 0; up to " TEXT(CFU_COMPONENT_LIMIT) " times\n"
+    "                              (1:1.2.0:0:64 and 2:1.1.0:64:64)\n"
     "  --staging BYTES             the device's staging memory (up to the end of the last region)\n"
     "  --token NUMBER              the host's token (0xA5)\n"
     "  --packets                   print each packet and each reply\n"
@@ -56,7 +57,7 @@ static const char USAGE[] =
     "  2  the command line is wrong\n"
     "  3  the file cannot be read\n"
     "  4  the bundle is refused (B1 to B8)\n"
-    "  5  the device is refused at set-up (S1 to S4)\n"
+    "  5  the device is refused at set-up (S1 to S5)\n"
     "  6  the host ended the update (H1 to H4)\n"
     "  7  a call refused what this program lent to it (C1 to C4, D1 to D3, N1, P1, P2)\n"
     "  8  what was printed is lost\n";
@@ -100,7 +101,7 @@ static uint32_t set_up(struct device *d)
     return cfu_device_set_up(d->record, sizeof d->record, d->platform, list, sizeof list, d->count, d->staging, d->staging_len);
 }
 
-/* What runs and what is pending, of each component up to the first place that has none. */
+/* What runs, the floor where there is one and what is pending, of each component up to the first place that has none. */
 static uint32_t show_device(const struct device *d)
 {
     for (uint32_t place = 0;; place++) {
@@ -109,6 +110,10 @@ static uint32_t show_device(const struct device *d)
             return c.number == CFU_C4 ? CFU_SERVED : c.number;
         printf("  component %u runs ", (unsigned)c.id);
         print_version(c.running);
+        if (c.floor.major != 0 || c.floor.minor != 0) {
+            printf(", floor ");
+            print_version(c.floor);
+        }
         if (c.pending) {
             printf(", pending ");
             print_version(c.staged);
@@ -415,18 +420,32 @@ static const char *take_number(const char *text, uint32_t limit, char behind, ui
     return behind == '\0' ? end : end + 1;
 }
 
+/* A version, major.minor.variant, and the character after it; the place after that, or NULL. */
+static const char *take_version(const char *text, char behind, cfu_version *version)
+{
+    uint32_t major, minor, variant;
+    if ((text = take_number(text, 0xFF, '.', &major)) == NULL || (text = take_number(text, 0xFFFF, '.', &minor)) == NULL ||
+        (text = take_number(text, 0xFF, behind, &variant)) == NULL)
+        return NULL;
+    version->major = (uint8_t)major;
+    version->minor = (uint16_t)minor;
+    version->variant = (uint8_t)variant;
+    return text;
+}
+
+/* Where the text ends behind the length there is no floor. Nothing of the component is judged here: set-up does that. */
 static bool take_component(const char *text, cfu_listed *c)
 {
-    uint32_t id, major, minor, variant;
-    if ((text = take_number(text, 0xFF, ':', &id)) == NULL || (text = take_number(text, 0xFF, '.', &major)) == NULL ||
-        (text = take_number(text, 0xFFFF, '.', &minor)) == NULL || (text = take_number(text, 0xFF, ':', &variant)) == NULL ||
-        (text = take_number(text, 0xFFFFFFFF, ':', &c->base)) == NULL || (text = take_number(text, 0xFFFFFFFF, '\0', &c->length)) == NULL)
+    const cfu_version none = {0, 0, 0};
+    uint32_t id;
+    if ((text = take_number(text, 0xFF, ':', &id)) == NULL || (text = take_version(text, ':', &c->running)) == NULL ||
+        (text = take_number(text, 0xFFFFFFFF, ':', &c->base)) == NULL)
         return false;
     c->id = (uint8_t)id;
-    c->running.major = (uint8_t)major;
-    c->running.minor = (uint16_t)minor;
-    c->running.variant = (uint8_t)variant;
-    return true;
+    c->floor = none;
+    if (take_number(text, 0xFFFFFFFF, '\0', &c->length) != NULL)
+        return true;
+    return (text = take_number(text, 0xFFFFFFFF, ':', &c->length)) != NULL && take_version(text, '\0', &c->floor) != NULL;
 }
 
 static int take_option(const char *name, const char *value, struct device *d, struct options *o)
@@ -436,7 +455,7 @@ static int take_option(const char *name, const char *value, struct device *d, st
         if (d->count == CFU_COMPONENT_LIMIT)
             return wrong("more than %d components", CFU_COMPONENT_LIMIT);
         if (!take_component(value, &d->list[d->count]))
-            return wrong("%s %s: not ID:VERSION:BASE:LENGTH", name, value);
+            return wrong("%s %s: not ID:VERSION:BASE:LENGTH[:FLOOR]", name, value);
         d->count++;
     } else if (strcmp(name, "--platform") == 0) {
         if (take_number(value, 0xFFFF, '\0', &number) == NULL)
@@ -457,10 +476,10 @@ static int take_option(const char *name, const char *value, struct device *d, st
     return 0;
 }
 
-/* The bench device of document 01. */
+/* The bench device of document 01, without floors. */
 static void take_bench(struct device *d)
 {
-    const cfu_listed first = {1, {1, 2, 0}, 0, 64}, second = {2, {1, 1, 0}, 64, 64};
+    const cfu_listed first = {1, {1, 2, 0}, 0, 64, {0, 0, 0}}, second = {2, {1, 1, 0}, 64, 64, {0, 0, 0}};
     d->list[0] = first;
     d->list[1] = second;
     d->count = 2;

@@ -1,6 +1,6 @@
 /*
  * calls.c: each function of include/cfu.h, called from C on the values of document 01 (E1 to E10, E13, and a case of each row that the interface gives) and of
- * document 02, A1, A3 and A4; and the words and macros of the headers. The bytes around each lent buffer are checked: no call writes there.
+ * document 02, A1 and A3 to A5; and the words and macros of the headers. The bytes around each lent buffer are checked: no call writes there.
  *
  * usage: calls BUNDLE, where BUNDLE is examples/e12.bundle
  */
@@ -83,8 +83,8 @@ static BUFFER(contents, CFU_CONTENTS_SIZE);
 static BUFFER(new_contents, CFU_CONTENTS_SIZE);
 static BUFFER(third_host, CFU_HOST_SIZE);
 
-/* The bench device of document 01, as CFU_COMPONENT_LIMIT times id, version, base, length. */
-static const uint8_t BENCH[CFU_LIST_SIZE] = {1, 0, 2, 0, 1, 0, 0, 0, 0, 64, 0, 0, 0, 2, 0, 1, 0, 1, 64, 0, 0, 0, 64, 0, 0, 0};
+/* The bench device of document 01, as CFU_COMPONENT_LIMIT times id, version, base, length, floor. */
+static const uint8_t BENCH[CFU_LIST_SIZE] = {1, 0, 2, 0, 1, 0, 0, 0, 0, 64, 0, 0, 0, 0, 0, 0, 0, 2, 0, 1, 0, 1, 64, 0, 0, 0, 64, 0, 0, 0, 0, 0, 0, 0};
 
 static void bench(void)
 {
@@ -132,8 +132,9 @@ static void block(uint8_t length, uint32_t address, uint16_t sequence, uint8_t s
     CHECK(SAME(replies, (uint8_t)sequence, (uint8_t)(sequence >> 8), 0, 0, status));
 }
 
-/* The size of the session in a device's record, and the place of the flag for a staged version of component i, which that version follows. */
+/* The size of the session in a device's record; of component i the place of the floor and of the flag for a staged version, which that version follows. */
 enum { SESSION_SIZE = CFU_DEVICE_COMPONENTS_AT - CFU_DEVICE_SESSION_AT };
+#define FLOOR(i) (CFU_DEVICE_COMPONENTS_AT + CFU_COMPONENT_SIZE * (i) + CFU_COMPONENT_FLOOR_AT)
 #define STAGED(i) (CFU_DEVICE_COMPONENTS_AT + CFU_COMPONENT_SIZE * (i) + CFU_COMPONENT_STAGED_AT)
 
 /* With another value at a place no call serves the record, and it stays as it is. */
@@ -281,12 +282,16 @@ static void device_calls(void)
     CHECK(cfu_device_version_reply(AT(device), AT(longer)) == CFU_D1);
     CHECK(FILLED(longer, 0) && FILLED(device, 0));
 
-    /* S2 to S4, and the record as it was */
+    /* S2 to S5, and the record as it was */
     CHECK(cfu_device_set_up(AT(device), 0x0042, AT(list), 0, AT(staging)) == CFU_S2);
     CHECK(cfu_device_set_up(AT(device), 0x0042, AT(list), CFU_COMPONENT_LIMIT + 1, AT(staging)) == CFU_S2);
     CHECK(cfu_device_set_up(AT(device), 0x0042, AT(list), 3, AT(staging)) == CFU_S3);
     CHECK(cfu_device_set_up(AT(device), 0x0042, AT(list), 2, staging + EDGE, STAGING - 1) == CFU_S4);
+    list[EDGE + CFU_LISTED_SIZE + CFU_COMPONENT_FLOOR_AT] = 1;
+    CHECK(cfu_device_set_up(AT(device), 0x0042, AT(list), 2, AT(staging)) == CFU_S5);
+    CHECK(cfu_device_set_up(AT(device), 0x0042, AT(list), 2, staging + EDGE, STAGING - 1) == CFU_S4);
     CHECK(FILLED(device, 0));
+    list[EDGE + CFU_LISTED_SIZE + CFU_COMPONENT_FLOOR_AT] = 0;
 
     /* C1 to C3 */
     CHECK(cfu_device_set_up(device + EDGE, CFU_DEVICE_SIZE - 1, 0x0042, AT(list), 2, AT(staging)) == CFU_C1);
@@ -429,15 +434,19 @@ static void device_wraps(void)
         CHECK(filled(device + CFU_DEVICE_SESSION_AT, SESSION_SIZE, 0));
         memset(device + EDGE + CFU_DEVICE_PREVIOUS_AT, 0x99, CFU_LONG_SIZE);
     }
-    /* a record of the length that it had before A4 */
-    enum { OLD_SIZE = 140 };
+    /* a record of the length that it had before A4, and before A5; a list of that before A5 */
+    static const size_t old[] = {140, 200};
+    enum { OLD_LIST = 91 };
     bench();
-    CHECK(cfu_device_set_up(device + EDGE, OLD_SIZE, 0x0042, AT(list), 2, AT(staging)) == CFU_C1);
-    CHECK(cfu_device_version_reply(device + EDGE, OLD_SIZE, AT(longer)) == CFU_C1);
-    CHECK(cfu_device_offer(device + EDGE, OLD_SIZE, AT(staging), OFFER, sizeof OFFER, AT(replies)).number == CFU_C1);
-    CHECK(cfu_device_content(device + EDGE, OLD_SIZE, AT(staging), first, sizeof first, AT(replies)).number == CFU_C1);
-    CHECK(cfu_device_component(device + EDGE, OLD_SIZE, 0).number == CFU_C1);
-    CHECK(cfu_device_reset(device + EDGE, OLD_SIZE) == CFU_C1);
+    for (unsigned i = 0; i < 2; i++) {
+        CHECK(cfu_device_set_up(device + EDGE, old[i], 0x0042, AT(list), 2, AT(staging)) == CFU_C1);
+        CHECK(cfu_device_version_reply(device + EDGE, old[i], AT(longer)) == CFU_C1);
+        CHECK(cfu_device_offer(device + EDGE, old[i], AT(staging), OFFER, sizeof OFFER, AT(replies)).number == CFU_C1);
+        CHECK(cfu_device_content(device + EDGE, old[i], AT(staging), first, sizeof first, AT(replies)).number == CFU_C1);
+        CHECK(cfu_device_component(device + EDGE, old[i], 0).number == CFU_C1);
+        CHECK(cfu_device_reset(device + EDGE, old[i]) == CFU_C1);
+    }
+    CHECK(cfu_device_set_up(AT(device), 0x0042, list + EDGE, OLD_LIST, 2, AT(staging)) == CFU_C2);
     EDGES(device);
 }
 
@@ -1112,7 +1121,8 @@ static int is_version(cfu_version v, uint8_t major, uint16_t minor, uint8_t vari
 /* A refused call tells of no component. */
 static int no_component(cfu_component c, uint32_t number)
 {
-    return c.number == number && c.id == 0 && is_version(c.running, 0, 0, 0) && c.base == 0 && c.length == 0 && c.pending == 0 && is_version(c.staged, 0, 0, 0);
+    return c.number == number && c.id == 0 && is_version(c.running, 0, 0, 0) && c.base == 0 && c.length == 0 && is_version(c.floor, 0, 0, 0) &&
+           c.pending == 0 && is_version(c.staged, 0, 0, 0);
 }
 
 static int is_entry(cfu_entry e, uint32_t number, uint32_t entry, uint32_t offset, uint32_t length, uint32_t records)
@@ -1122,7 +1132,8 @@ static int is_entry(cfu_entry e, uint32_t number, uint32_t entry, uint32_t offse
 
 static void list_calls(void)
 {
-    const cfu_listed one = {1, {1, 2, 0}, 0, 64}, two = {2, {1, 1, 0}, 64, 64}, odd = {0xFF, {0x11, 0x2233, 0x44}, 0x55667788, 0x99AABBCC};
+    const cfu_listed one = {1, {1, 2, 0}, 0, 64, {0, 0, 0}}, two = {2, {1, 1, 0}, 64, 64, {0, 0, 0}},
+                     odd = {0xFF, {0x11, 0x2233, 0x44}, 0x55667788, 0x99AABBCC, {0xDD, 0xEEF0, 0x12}};
     /* the bench's list, in any order of the places */
     CLEAR(list, 0);
     CHECK(cfu_list_put(AT(list), 1, two) == CFU_SERVED);
@@ -1132,7 +1143,7 @@ static void list_calls(void)
     /* nothing of the component is judged, and the other places stay */
     CLEAR(list, 0x33);
     CHECK(cfu_list_put(AT(list), CFU_COMPONENT_LIMIT - 1, odd) == CFU_SERVED);
-    const uint8_t last[CFU_LISTED_SIZE] = {0xFF, 0x44, 0x33, 0x22, 0x11, 0x88, 0x77, 0x66, 0x55, 0xCC, 0xBB, 0xAA, 0x99};
+    const uint8_t last[CFU_LISTED_SIZE] = {0xFF, 0x44, 0x33, 0x22, 0x11, 0x88, 0x77, 0x66, 0x55, 0xCC, 0xBB, 0xAA, 0x99, 0x12, 0xF0, 0xEE, 0xDD};
     CHECK(memcmp(list + EDGE + CFU_LIST_SIZE - CFU_LISTED_SIZE, last, sizeof last) == 0);
     for (size_t i = 0; i < CFU_LIST_SIZE - CFU_LISTED_SIZE; i++)
         CHECK(list[EDGE + i] == 0x33);
@@ -1153,7 +1164,7 @@ static void component_calls(void)
     bench();
     cfu_component c = cfu_device_component(AT(device), 1);
     CHECK(c.number == CFU_SERVED && c.id == 2 && is_version(c.running, 1, 1, 0) && c.base == 64 && c.length == 64 && c.pending == 0);
-    CHECK(is_version(c.staged, 0, 0, 0));
+    CHECK(is_version(c.floor, 0, 0, 0) && is_version(c.staged, 0, 0, 0));
     /* a staged version, and what is not looked at where none is staged */
     const uint8_t pending[] = {1, 0, 3, 0, 1};
     memcpy(device + EDGE + STAGED(0), pending, sizeof pending);
@@ -1163,6 +1174,10 @@ static void component_calls(void)
     CHECK(is_version(c.staged, 1, 3, 0));
     c = cfu_device_component(AT(device), 1);
     CHECK(c.number == CFU_SERVED && c.pending == 0 && is_version(c.staged, 0, 0, 0));
+    /* a floor of each component, its major and its minor with a value of their own, above what runs and below it */
+    memcpy(device + EDGE + FLOOR(0), (const uint8_t[]){0, 2, 1, 0}, 4);
+    memcpy(device + EDGE + FLOOR(1), (const uint8_t[]){0, 0x44, 0x55, 0x66}, 4);
+    CHECK(is_version(cfu_device_component(AT(device), 0).floor, 0, 0x0102, 0) && is_version(cfu_device_component(AT(device), 1).floor, 0x66, 0x5544, 0));
     /* C1, D1, C4, in this order */
     CHECK(no_component(cfu_device_component(AT(device), 2), CFU_C4));
     CHECK(no_component(cfu_device_component(AT(device), 256), CFU_C4));
@@ -1173,6 +1188,98 @@ static void component_calls(void)
     CHECK(no_component(cfu_device_component(AT(device), 2), CFU_D1));
     CHECK(no_component(cfu_device_component(device + EDGE, 0, 2), CFU_C1));
     EDGES(device);
+}
+
+/* ---- Floors (document 02, A5) ---- */
+
+/* The bench device, whose component 2 has a region of 8 bytes and the floor 1.3.0, above its running 1.1.0. */
+static void bench_with_floor(void)
+{
+    const cfu_listed one = {1, {1, 2, 0}, 0, 64, {0, 0, 0}}, two = {2, {1, 1, 0}, 64, CFU_REGION_LEAST, {1, 3, 0}};
+    CLEAR(device, 0);
+    CLEAR(staging, 0x77);
+    CLEAR(list, 0);
+    CHECK(cfu_list_put(AT(list), 0, one) == CFU_SERVED && cfu_list_put(AT(list), 1, two) == CFU_SERVED);
+    CHECK(cfu_device_set_up(AT(device), 0x0042, AT(list), 2, AT(staging)) == CFU_SERVED);
+}
+
+/* An offer of a version for component 2, and its reply. */
+static void version_offered(uint8_t major, uint16_t minor, uint8_t variant, uint8_t reason, uint8_t status)
+{
+    const uint8_t packet[CFU_SHORT_SIZE] = {0, 0, 2, 0xA5, variant, (uint8_t)minor, (uint8_t)(minor >> 8), major, 0, 0, 0, 0, CFU_PROTOCOL, 0, 0x42, 0};
+    offers(packet, sizeof packet, CFU_SERVED, 1);
+    CHECK(SAME(replies, 0, 0, 0, 0xA5, 0, 0, 0, 0, reason, 0, 0, 0, status));
+}
+
+/* The image 1.MINOR.0 of component 2 in one block, and its status. */
+static void image_sent(uint8_t minor, uint8_t status)
+{
+    enum { CRC_AT = CFU_DATA_AT + CFU_REGION_LEAST - 2 };
+    uint8_t packet[CFU_LONG_SIZE] = {CFU_FLAG_FIRST_BLOCK | CFU_FLAG_LAST_BLOCK, CFU_REGION_LEAST, 0, 0, 0, 0, 0, 0, 0, minor, 0, 1, 2, 0x99};
+    const uint16_t crc = crc_of(packet + CFU_DATA_AT, CRC_AT - CFU_DATA_AT);
+    packet[CRC_AT] = (uint8_t)(crc >> 8);
+    packet[CRC_AT + 1] = (uint8_t)crc;
+    answered(packet, status);
+    CHECK(memcmp(staging + EDGE + 64, packet + CFU_DATA_AT, CFU_REGION_LEAST) == 0);
+}
+
+/* Component 2 runs 1.MINOR.0 and has the floor 1.3.0; 1.PENDING.0 is staged, or nothing. */
+static int is_second(uint16_t minor, uint16_t pending)
+{
+    cfu_component c = cfu_device_component(AT(device), 1);
+    return c.number == CFU_SERVED && c.id == 2 && is_version(c.running, 1, minor, 0) && c.base == 64 && c.length == CFU_REGION_LEAST &&
+           is_version(c.floor, 1, 3, 0) && c.pending == (pending != 0) && is_version(c.staged, pending != 0, pending, 0);
+}
+
+static void floor_calls(void)
+{
+    bench_with_floor();
+    CHECK(is_second(1, 0));
+    /* check 7: what is below the floor is rejected though it is newer; another variant is, before that; component 1 has no floor */
+    version_offered(1, 2, 0, CFU_REJECT_OLD_FW, CFU_OFFER_REJECT);
+    version_offered(1, 1, 0, CFU_REJECT_OLD_FW, CFU_OFFER_REJECT);
+    version_offered(0, 0xFFFF, 0, CFU_REJECT_OLD_FW, CFU_OFFER_REJECT);
+    version_offered(1, 2, 1, CFU_REJECT_WRONG_VARIANT, CFU_OFFER_REJECT);
+    version_offered(1, 3, 1, CFU_REJECT_WRONG_VARIANT, CFU_OFFER_REJECT);
+    /* image judgement: of an accepted offer an image below the floor, newer than what runs and the same; nothing is staged */
+    version_offered(1, 3, 0, 0, CFU_OFFER_ACCEPT);
+    image_sent(2, CFU_ERROR_VERSION);
+    version_offered(2, 0, 0, 0, CFU_OFFER_ACCEPT);
+    image_sent(1, CFU_ERROR_VERSION);
+    CHECK(is_second(1, 0));
+    /* one at the floor */
+    version_offered(1, 3, 0, 0, CFU_OFFER_ACCEPT);
+    image_sent(3, CFU_SUCCESS);
+    CHECK(is_second(1, 3));
+    version_offered(1, 2, 0, CFU_REJECT_SWAP_PENDING, CFU_OFFER_REJECT);
+    /* D1: a staged version below the floor, newer than what runs and the same; a floor above it by minor and by major; S5 */
+    no_device(STAGED(1) + 2, 2);
+    no_device(STAGED(1) + 2, 1);
+    no_device(FLOOR(1) + 1, 4);
+    no_device(FLOOR(1) + 2, 1);
+    no_device(FLOOR(1) + 3, 2);
+    no_device(FLOOR(1), 1);
+    no_device(FLOOR(0), 0xFF);
+    /* a reset keeps the floor, below which nothing runs from then on */
+    CHECK(cfu_device_reset(AT(device)) == CFU_SERVED);
+    CHECK(is_second(3, 0));
+    version_offered(1, 3, 0, CFU_REJECT_OLD_FW, CFU_OFFER_REJECT);
+    version_offered(1, 4, 0, 0, CFU_OFFER_ACCEPT);
+    CHECK(cfu_device_reset(AT(device)) == CFU_SERVED && is_second(3, 0));
+    /* where nothing is staged a floor may stand anywhere, and that of a component that is not in use is not judged, by set-up neither */
+    memset(device + EDGE + FLOOR(1) + 1, 0xFF, 3);
+    memset(device + EDGE + FLOOR(2), 0xFF, 4);
+    CHECK(cfu_device_version_reply(AT(device), AT(longer)) == CFU_SERVED);
+    version_offered(255, 65534, 0, CFU_REJECT_OLD_FW, CFU_OFFER_REJECT);
+    version_offered(255, 65535, 0, 0, CFU_OFFER_ACCEPT);
+    memset(list + EDGE + 2 * CFU_LISTED_SIZE + CFU_COMPONENT_FLOOR_AT, 0xFF, 4);
+    CHECK(cfu_device_set_up(AT(device), 0x0042, AT(list), 2, AT(staging)) == CFU_SERVED);
+    CHECK(is_second(1, 0));
+    /* S5 for a variant alone */
+    list[EDGE + CFU_COMPONENT_FLOOR_AT] = 1;
+    CHECK(cfu_device_set_up(AT(device), 0x0042, AT(list), 2, AT(staging)) == CFU_S5);
+    CHECK(is_second(1, 0));
+    EDGES(device), EDGES(list);
 }
 
 static void entry_calls(const uint8_t *bundle, size_t length)
@@ -1208,9 +1315,11 @@ static void words_and_macros(void)
 {
     CHECK(says(CFU_OF_CALL, CFU_B6, "B6", "an earlier entry offers the same component"));
     CHECK(says(CFU_OF_CALL, CFU_S1, "S1", "the staging memory is over 65,536 bytes"));
+    CHECK(says(CFU_OF_CALL, CFU_S5, "S5", "a floor has a variant other than 0, where only major and minor count"));
     CHECK(says(CFU_OF_ENDING, CFU_H1, "H1", "the device refused a block or its image"));
     CHECK(says(CFU_OF_OFFER_STATUS, CFU_OFFER_SKIP, "SKIP", "its need is not met"));
     CHECK(says(CFU_OF_REASON, CFU_REJECT_SWAP_PENDING, "SWAP_PENDING", "the component awaits a reset"));
+    CHECK(says(CFU_OF_REASON, CFU_REJECT_OLD_FW, "OLD_FW", "not newer than what runs, or below the floor"));
     CHECK(says(CFU_OF_CONTENT_STATUS, CFU_ERROR_VERIFY, "ERROR_VERIFY", "the image is for another component"));
     CHECK(says(CFU_OF_INFORMATION, CFU_INFO_END_OFFER_LIST, "END_OFFER_LIST", "end offer list"));
     CHECK(says(CFU_OF_EXTENDED, CFU_NOTIFY_ON_READY, "NOTIFY_ON_READY", "notify on ready"));
@@ -1248,6 +1357,7 @@ int main(int count, char **words)
     writer_calls();
     list_calls();
     component_calls();
+    floor_calls();
     entry_calls(bundle, length);
     words_and_macros();
     printf("%u passed, %u failed\n", passed, failed);

@@ -1,6 +1,6 @@
 #!/usr/bin/env python3
-"""Runs the C example on good and damaged bundles, on devices that refuse and over a bus that delivers blocks twice, and checks its lines and its status against
-document 01 and document 02, A1 and A4.
+"""Runs the C example on good and damaged bundles, on devices that refuse, on devices with floors and over a bus that delivers blocks twice, and checks its lines
+and its status against document 01 and document 02, A1, A4 and A5.
 
 cases.py [--few] COMMAND..    COMMAND runs the example: its path, with a checker before it where there is one; --few takes the cases that lend every buffer once
 
@@ -138,6 +138,8 @@ assert [text.split("  ")[1] for text in sent_blocks(FOUR_BLOCKS, twice=True)] ==
     "content: block 3, bytes 52 at address 104", "content: block 3 again, bytes 52 at address 104", "taken: block 2 again, passed over", "taken",
     "content: block 4, bytes 44 at address 156", "taken: block 3 again, passed over", "taken"]
 
+TOO_LOW = "not newer than what runs, or below the floor"
+OLD_IMAGE = "ended H1: the device refused a block or its image with status 0x07: the image is of another variant than what runs, older than that, or below the floor"
 AFTER = ["device after the reset:"]
 BOTH_NEW = ["device:", "  component 1 runs 1.2.0, pending 1.3.0", "  component 2 runs 1.1.0, pending 1.2.0"] + AFTER + [
     "  component 1 runs 1.3.0", "  component 2 runs 1.2.0"]
@@ -250,7 +252,7 @@ def further(command, work, case, refusal, report):
     # devices that refuse
     case("another platform", E12, NOT_ALL, "pass 1", "  offer 1: REJECT: no such component on this platform", "  offer 2: REJECT: no such component on this platform",
          "done", report(0, 2, 5, 1), *BOTH_OLD, args=["--platform", "0x0043"])
-    case("an old version", E12, NOT_ALL, "pass 1", "  offer 1: REJECT: what runs is not older", "  offer 2: REJECT: what runs is not older",
+    case("an old version", E12, NOT_ALL, "pass 1", f"  offer 1: REJECT: {TOO_LOW}", f"  offer 2: REJECT: {TOO_LOW}",
          "done", report(0, 2, 5, 1), "device:", "  component 1 runs 1.3.0", "  component 2 runs 1.2.0", *AFTER, "  component 1 runs 1.3.0", "  component 2 runs 1.2.0",
          args=["--component", "1:1.3.0:0:64", "--component", "2:1.2.0:64:64"])
     case("the customer's case, a debug build of the running number", one(1, version(1, 2, 1), body(image(1, version(1, 2, 1)))), NOT_ALL, "pass 1",
@@ -269,13 +271,13 @@ def further(command, work, case, refusal, report):
     # images that the device refuses, by judgement and by content check 5
     case("an image for another component", one(2, V120, body(image(1, V120))), ENDED,
          "ended H1: the device refused a block or its image with status 0x04: the image is for another component", report(0, 1, 5, 1), *BOTH_OLD)
-    old_image = "ended H1: the device refused a block or its image with status 0x07: the image is of another variant than what runs, or older"
-    case("an older image", one(2, V120, body(image(2, version(1, 0, 0)))), ENDED, old_image, report(0, 1, 5, 1), *BOTH_OLD)
-    case("an image of another variant", one(2, V120, body(image(2, version(1, 2, 1)))), ENDED, old_image, report(0, 1, 5, 1), *BOTH_OLD)
+    case("an older image", one(2, V120, body(image(2, version(1, 0, 0)))), ENDED, OLD_IMAGE, report(0, 1, 5, 1), *BOTH_OLD)
+    case("an image of another variant", one(2, V120, body(image(2, version(1, 2, 1)))), ENDED, OLD_IMAGE, report(0, 1, 5, 1), *BOTH_OLD)
     case("a block past the region", one(2, V120, body_record(13, bytes(52))), ENDED,
          "ended H1: the device refused a block or its image with status 0x09: the block reaches past the region", report(0, 1, 4, 1), *BOTH_OLD)
 
     doubled(case, report)
+    floors(case, report)
 
     # devices that set-up refuses
     refusal("S1", E12, SET_UP, "refused S1", args=["--staging", "65537"])
@@ -286,6 +288,10 @@ def further(command, work, case, refusal, report):
     refusal("S4 for a region past the buffer", E12, SET_UP, "refused S4", args=["--component", "1:1.0.0:0:64", "--staging", "63"])
     refusal("S4 for a region far past the buffer", E12, SET_UP, "refused S4", args=["--component", "1:1.0.0:0xFFFFFFFF:64"])
     refusal("S4 for two regions that overlap", E12, SET_UP, "refused S4", args=["--component", "1:1.0.0:0:64", "--component", "2:1.0.0:63:64"])
+    refusal("S4 before S5", E12, SET_UP, "refused S4", args=["--component", "1:1.0.0:0:64:1.3.1", "--component", "2:1.0.0:63:64"])
+    for floor in ("1.3.1", "0.0.1", "0.0.255"):
+        case(f"S5 for the floor {floor}", E12, SET_UP, "refused S5: a floor has a variant other than 0, where only major and minor count",
+             args=["--component", "1:1.2.0:0:64", "--component", f"2:1.1.1:64:64:{floor}"])
 
     # files that cannot be read, and one that has no end
     for name, path in (("a file that is not there", os.path.join(work, "none")), ("a directory", work)):
@@ -298,11 +304,14 @@ def further(command, work, case, refusal, report):
     for args in ([], ["--packets"], ["--twice"], [path, "--twice=1"], [path, path], [path, "--token"], [path, "--colour", "1"], [path, "--token", "256"], [path, "--token", "x"], [path, "--token", ""],
                  [path, "--token", "-1"], [path, "--platform", "0x10000"], [path, "--platform", "0x"], [path, "--staging", "0x1000000"], [path, "--component", "1:1.2:0:64"],
                  [path, "--component", "1:1.2.0:0:64:"], [path, "--component", "1:1.2.0:0:4294967296"], [path, "--component", "1:256.2.0:0:64"],
+                 *([path, "--component", f"1:1.2.0:0:64:{floor}"] for floor in ("x", "1", "1.3", "1.3.", "1..0", "1.3.x", "256.3.0", "1.65536.0", "1.3.256", "-1.3.0", "1.3.0.0",
+                                                                               "1.3.0:", "1.3.0:1.3.0", " 1.3.0", "1.3.0 ", ":1.3.0")),
+                 [path, "--component", "1:1.2.0:0:4294967296:1.3.0"], [path, "--component", "1:1.2.0:0::1.3.0"],
                  [path] + (cfu.COMPONENT_LIMIT + 1) * ["--component", "1:1.2.0:0:64"]):
         got, out, err = ran(command, args)
         checked(f"the command line {args}", got == COMMAND_LINE and out == "" and err.startswith("update: ") and err.endswith("(update --help)\n"), f"status {got}; {err}{out}")
     got, out, err = ran(command, ["--help"])
-    checked("--help", got == 0 and all(f"\n  {status}  " in out for status in range(LOST + 1)) and "\n  --twice " in out and err == "", out)
+    checked("--help", got == 0 and all(f"\n  {status}  " in out for status in range(LOST + 1)) and "\n  --twice " in out and "LENGTH[:FLOOR]\n" in out and err == "", out)
 
     # output that is lost
     for args in ([path], ["--help"], [os.path.join(work, "E13-in-the-other-order"), "--packets"]):
@@ -349,6 +358,50 @@ def doubled(case, report):
     case("a wrong CRC behind a doubled block", one(2, V120, cfu.written_body(bytes(bad))), ENDED,
          *one_offer(sent_blocks(cut_in_three(bytes(bad)), twice=True, refused=(2, cfu.ERROR_CRC, "the image's CRC is wrong"))),
          "ended H1: the device refused a block or its image with status 0x05: the image's CRC is wrong", report(0, 1, 6, 1), *BOTH_OLD, args=["--twice", "--packets"])
+
+
+def floors(case, report):
+    """A5: what a component takes is not below its floor by major and minor, whatever runs; a floor of 0 is none, and no line tells of it."""
+    def device(floor):
+        return ["--component", "1:1.2.0:0:64", "--component", f"2:1.1.0:64:64:{floor}"]
+
+    def listed(*components):
+        return ["device: platform 0x0042, staging 128", *components]
+
+    first, second = "  component 1 runs 1.2.0", "  component 2 runs 1.1.0, floor "
+    case("an offer below the floor, which stands above what runs", E12, NOT_ALL, *listed(first, f"{second}1.3.0"), "pass 1", "  offer 1: SKIP: its need is not met",
+         f"  offer 2: REJECT: {TOO_LOW}", "done", report(0, 2, 5, 1), "device:", first, f"{second}1.3.0", *AFTER, first, f"{second}1.3.0", args=device("1.3.0"))
+    for floor in ("1.2.0", "0.1.0", "1.0.0"):
+        case(f"E13 with the floor {floor}", E12, ALL, *listed(first, f"{second}{floor}"), "pass 1", "  offer 1: SKIP: its need is not met", "  offer 2: ACCEPT",
+             "  offer 2: completed, blocks 2", "pass 2", "  offer 1: ACCEPT", "  offer 1: completed, blocks 2", "  offer 2: REJECT: the component awaits a reset",
+             "done", report(2, 2, 13, 2), "device:", f"{first}, pending 1.3.0", f"{second}{floor}, pending 1.2.0", *AFTER,
+             "  component 1 runs 1.3.0", f"  component 2 runs 1.2.0, floor {floor}", args=device(floor))
+    case("E13 with the floor 0", E12, ALL, *listed(first, "  component 2 runs 1.1.0"), "pass 1", "  offer 1: SKIP: its need is not met", "  offer 2: ACCEPT",
+         "  offer 2: completed, blocks 2", "pass 2", "  offer 1: ACCEPT", "  offer 1: completed, blocks 2", "  offer 2: REJECT: the component awaits a reset",
+         "done", report(2, 2, 13, 2), *BOTH_NEW, args=device("0.0.0"))
+    # by major before minor: 2.0 is above 1.65535
+    case("an offer below a floor of another major", E12, NOT_ALL, "pass 1", "  offer 1: SKIP: its need is not met", f"  offer 2: REJECT: {TOO_LOW}", "done",
+         report(0, 2, 5, 1), "device:", first, f"{second}2.0.0", *AFTER, first, f"{second}2.0.0", args=device("2.0.0"))
+    top = version(1, 65535)
+    case("an offer at the floor", one(2, top, body(image(2, top))), ALL, "pass 1", "  offer 1: ACCEPT", "  offer 1: completed, blocks 2", "done", report(1, 1, 6, 1),
+         "device:", first, f"{second}1.65535.0, pending 1.65535.0", *AFTER, first, "  component 2 runs 1.65535.0, floor 1.65535.0", args=device("1.65535.0"))
+    # the variant does not count for the floor, and another one than the running is rejected before the floor is looked at
+    debug = version(1, 3, 7)
+    case("an offer at the floor, with a variant", one(1, debug, body(image(1, debug))), ALL, "pass 1", "  offer 1: ACCEPT", "  offer 1: completed, blocks 2", "done",
+         report(1, 1, 6, 1), "device:", "  component 1 runs 1.2.7, floor 1.3.0, pending 1.3.7", *AFTER, "  component 1 runs 1.3.7, floor 1.3.0",
+         args=["--component", "1:1.2.7:0:64:1.3.0"])
+    case("another variant below the floor", one(2, version(1, 2, 1), body(image(2, version(1, 2, 1)))), NOT_ALL, "pass 1", "  offer 1: REJECT: another variant runs", "done",
+         report(0, 1, 4, 1), "device:", first, f"{second}1.3.0", *AFTER, first, f"{second}1.3.0", args=device("1.3.0"))
+    # the image is judged by the version that it bears, not by its offer's
+    case("an image below the floor", one(2, V130, body(image(2, V120))), ENDED, "pass 1", "  offer 1: ACCEPT", OLD_IMAGE, report(0, 1, 5, 1), "device:", first,
+         f"{second}1.3.0", *AFTER, first, f"{second}1.3.0", args=device("1.3.0"))
+    case("an image of the running version below the floor", one(2, V130, body(image(2, version(1, 1)))), ENDED, OLD_IMAGE, report(0, 1, 5, 1), "device:", first,
+         f"{second}1.3.0", *AFTER, first, f"{second}1.3.0", args=device("1.3.0"))
+    case("an image at the floor, of an offer above it", one(2, version(1, 4), body(image(2, V130))), ALL, "  offer 1: completed, blocks 2", "done", report(1, 1, 6, 1),
+         "device:", first, f"{second}1.3.0, pending 1.3.0", *AFTER, first, "  component 2 runs 1.3.0, floor 1.3.0", args=device("1.3.0"))
+    # a need is met by what runs or is staged, and not by a floor
+    case("a need that only a floor would meet", one(1, V130, BODY_1, need=2, least=V120 >> 8), NOT_ALL, "pass 1", "  offer 1: SKIP: its need is not met", "done",
+         report(0, 1, 4, 1), "device:", first, f"{second}1.2.0", *AFTER, first, f"{second}1.2.0", args=device("1.2.0"))
 
 
 main()

@@ -1,4 +1,4 @@
-"""What `cfu` must print and write, worked out from docs/COMMAND.md, include/words.txt, document 01 and requests A1, A3 and A4 of document 02.
+"""What `cfu` must print and write, worked out from docs/COMMAND.md, include/words.txt, document 01 and requests A1 and A3 to A5 of document 02.
 
 The formats are those of tests/cfu.py; nothing here comes from a run of the program.
 """
@@ -49,11 +49,15 @@ def refusal(row, entry=0):
     return f"refused {row}{f', entry {entry}' if entry else ''}: {SENTENCE[row]}"
 
 
+def on_page(pattern):
+    """What docs/COMMAND.md has for the group of a pattern, each time that it stands there."""
+    with open(os.path.join(TOP, "docs", "COMMAND.md"), encoding="utf-8") as file:
+        return re.findall(pattern, file.read(), re.M | re.S)
+
+
 def page_block(start):
     """The example of docs/COMMAND.md whose first line starts so."""
-    with open(os.path.join(TOP, "docs", "COMMAND.md"), encoding="utf-8") as file:
-        blocks = re.findall(r"^```\w*\n(.*?)^```$", file.read(), re.M | re.S)
-    found = [block for block in blocks if block.startswith(start)]
+    found = [block for block in on_page(r"^```\w*\n(.*?)^```$") if block.startswith(start)]
     assert len(found) == 1, f"docs/COMMAND.md: {len(found)} examples start with {start!r}"
     return found[0]
 
@@ -294,8 +298,8 @@ def split_files(offers, swap=False):
 
 # ---- update ----
 
-# A component of the simulated device: its region is base and length.
-Component = namedtuple("Component", "id running base length")
+# A component of the simulated device: its region is base and length; a floor of 0 is none (A5).
+Component = namedtuple("Component", "id running base length floor", defaults=[0])
 BENCH = (Component(1, version(1, 2), 0, 64), Component(2, version(1, 1), 64, 64))
 TOKEN = 0xA5
 OFFER_STATUS = {cfu.SKIP: "SKIP", cfu.ACCEPT: "ACCEPT", cfu.REJECT: "REJECT"}
@@ -314,7 +318,7 @@ def needed_staging(components):
 
 
 def set_up_row(components, staging):
-    """S1 to S4, in checking order; None for a device that is set up."""
+    """S1 to S5, in checking order; None for a device that is set up."""
     ids = [it.id for it in components]
     if staging > STAGING_LIMIT:
         return "S1"
@@ -326,6 +330,8 @@ def set_up_row(components, staging):
     if (any(it.length < cfu.REGION_LEAST or it.base + it.length > staging for it in components)
             or any(it.base + it.length > after.base for it, after in zip(ordered, ordered[1:]))):
         return "S4"
+    if any(it.floor & 0xFF != 0 for it in components):
+        return "S5"
     return None
 
 
@@ -340,15 +346,15 @@ class Device:
         return self.pending.get(component, self.components[component].running)
 
     def offered(self, it):
-        """Checks 3 to 9 with A1: status and reason. The bundle's check leaves no other protocol and no segment."""
+        """Checks 3 to 9 with A1 and A5: status and reason. The bundle's check leaves no other protocol and no segment."""
         if it.component not in self.components or it.platform != self.platform:
             return cfu.REJECT, cfu.INV_COMPONENT
-        running = self.components[it.component].running
+        its = self.components[it.component]
         if it.component in self.pending:
             return cfu.REJECT, cfu.SWAP_PENDING
-        if it.version & 0xFF != running & 0xFF:
+        if it.version & 0xFF != its.running & 0xFF:
             return cfu.REJECT, cfu.WRONG_VARIANT
-        if it.version >> 8 <= running >> 8:
+        if it.version >> 8 <= its.running >> 8 or it.version >> 8 < its.floor >> 8:
             return cfu.REJECT, cfu.OLD_FW
         if it.need and (it.need not in self.components or self.effective(it.need) >> 8 < it.least):
             return cfu.SKIP, 0
@@ -370,7 +376,7 @@ class Device:
             return cfu.ERROR_CRC
         if bears != component:
             return cfu.ERROR_VERIFY
-        if number & 0xFF != its.running & 0xFF or number >> 8 < its.running >> 8:
+        if number & 0xFF != its.running & 0xFF or number >> 8 < its.running >> 8 or number >> 8 < its.floor >> 8:
             return cfu.ERROR_VERSION
         self.pending[component] = number
         return cfu.SUCCESS
@@ -380,7 +386,7 @@ class Device:
         self.pending = {}
 
     def lines(self):
-        return [f"  component {it.id} runs {version_words(it.running)}"
+        return [f"  component {it.id} runs {version_words(it.running)}" + (f", floor {version_words(it.floor)}" if it.floor else "")
                 + (f", pending {version_words(self.pending[it.id])}" if it.id in self.pending else "") + "\n" for it in self.components.values()]
 
 

@@ -1,9 +1,9 @@
-"""`cfu update`: E13, devices and images that refuse, blocks that come twice, bundles that are refused, and the progress line of a terminal."""
+"""`cfu update`: E13, devices and images that refuse, floors, blocks that come twice, bundles that are refused, and the progress line of a terminal."""
 import errno
 import re
 
 from common import COLOUR, OneOf, TOP, as_told, case, check, fresh, no_file, on_terminal, save, terminal, wrong_line
-from model import BENCH, Component, SENTENCE, inspected, known_answer, page_block, refusal, update_text, version_words
+from model import BENCH, Component, SENTENCE, inspected, known_answer, on_page, page_block, refusal, update_text, version_words
 import cfu
 from cfu import COMPONENT_LIMIT, body, body_record, bundle, image, offer, version, written_body
 from make import E12, E12_OFFERS
@@ -31,7 +31,7 @@ def words_of(components=None, staging=None, platform=None, token=None, packets=F
     """The options for a device and a host."""
     words = []
     for it in components or ():
-        words += ["--component", f"{it.id}:{version_words(it.running)}:{it.base}:{it.length}"]
+        words += ["--component", f"{it.id}:{version_words(it.running)}:{it.base}:{it.length}" + (f":{version_words(it.floor)}" if it.floor else "")]
     for name, value in (("--staging", staging), ("--platform", platform), ("--token", token)):
         words += [] if value is None else [name, str(value)]
     return words + (["--packets"] if packets else []) + (["--twice"] if twice else [])
@@ -47,10 +47,10 @@ def update(folder, name, data, end=None, answer=None, **how):
 
 
 def regions(*components):
-    """Components with regions one behind the other: (id, running version, length)."""
+    """Components with regions one behind the other: (id, running version, length), and perhaps the floor."""
     out, base = [], 0
-    for component, running, length in components:
-        out.append(Component(component, running, base, length))
+    for component, running, length, *floor in components:
+        out.append(Component(component, running, base, length, *floor))
         base += length
     return tuple(out)
 
@@ -102,10 +102,69 @@ def set_ups(folder):
     device("a region far past the buffer", "S4", (Component(1, V100, 0xFFFFFFFF, 64),))
     device("two regions that overlap", "S4", (Component(1, V100, 0, 64), Component(2, V100, 63, 64)))
     device("staging of 0 bytes", "S4", staging=0)
+    for floor in (version(1, 3, 1), version(0, 0, 1), version(0, 0, 255), version(255, 65535, 255)):
+        device(f"the floor {version_words(floor)}", "S5", regions((1, V120, 64), (2, version(1, 1, 1), 64, floor)))
+    device("a floor with a variant, and an id twice", "S3", regions((1, V100, 64, version(1, 3, 1)), (1, V100, 64)))
+    device("a floor with a variant, and a region past the buffer", "S4", regions((1, V100, 64, version(1, 3, 1))), 63)
     case("update, the options of the bench device are those that are taken without them", ["update", "E13", *words_of(BENCH, 128, "0x42", "0xA5")], 0,
          update_text("E13", E12)[1], cwd=folder)
     case("update, options with =", ["update", *(f"{name}={value}" for name, value in zip(*[iter(words_of(BENCH, 128, 66, 165))] * 2)), "E13"], 0,
          update_text("E13", E12)[1], cwd=folder)
+
+
+def second(floor):
+    """The bench device, whose component 2 has a floor."""
+    return {"components": (BENCH[0], BENCH[1]._replace(floor=floor))}
+
+
+def alone(number, bears=None):
+    """One offer, for component 2, and its image, which may bear another version."""
+    return one(2, number, body(image(2, number if bears is None else bears)))
+
+
+def floors(folder):
+    """A5: what is below the floor by major and minor is not taken, whatever runs."""
+    words, = on_page("With `(--component [^`]*:1\\.3\\.0)`")
+    status, text = update_text("examples/e12.bundle", E12, **second(V130))
+    check("the model gives the page's example of a floor", status=(1, status), device=(page_block("device: platform"), text[text.index("device:"):]))
+    case("update, the page's example of a floor", ["update", *words.split(), "examples/e12.bundle"], status, text, cwd=TOP)
+
+    too_low, refused = f"REJECT: {SENTENCE['REJECT_OLD_FW']}", f"ended H1: {SENTENCE['H1']} with status 0x07: {SENTENCE['ERROR_VERSION']}"
+    # below the floor, at it and above it, by minor and by major, up to the highest; the floor above what runs, the same and below it
+    for packets in (False, True):
+        update(folder, f"an offer below the floor, packets {packets}", E12, f"  offer 2: {too_low}", packets=packets, **second(V130))
+        update(folder, f"a floor that is met, packets {packets}", E12, "  component 2 runs 1.1.0, floor 1.2.0, pending 1.2.0", packets=packets, **second(V120))
+    for name, floor, number, line in (
+            ("the offer at the floor", V130, V130, "  component 2 runs 1.3.0, floor 1.3.0"),
+            ("the offer above the floor", V130, version(1, 4), "  component 2 runs 1.4.0, floor 1.3.0"),
+            ("the offer below the floor by its minor", version(1, 65535), version(1, 65534), f"  offer 1: {too_low}"),
+            ("the offer at a floor with the highest minor", version(1, 65535), version(1, 65535), "  component 2 runs 1.65535.0, floor 1.65535.0"),
+            ("the offer below the floor by its major", version(2, 0), version(1, 65535), f"  offer 1: {too_low}"),
+            ("the offer above the floor by its major, with a lower minor", version(1, 65535), version(2, 0), "  component 2 runs 2.0.0, floor 1.65535.0"),
+            ("the highest floor", version(255, 65535), version(255, 65534), f"  offer 1: {too_low}"),
+            ("the highest floor, met", version(255, 65535), version(255, 65535), "  component 2 runs 255.65535.0, floor 255.65535.0"),
+            ("a floor below what runs, and an older offer above it", version(0, 1), V100, f"  offer 1: {too_low}"),
+            ("a floor that is what runs", V110, V110, f"  offer 1: {too_low}"),
+            ("a floor that is what runs, and a later offer", V110, V120, "  component 2 runs 1.2.0, floor 1.1.0"),
+            ("a floor below what runs", version(0, 1), V120, "  component 2 runs 1.2.0, floor 0.1.0")):
+        update(folder, name, alone(number), line, **second(floor))
+    # the variant: not counted for the floor, and tested before it
+    debug = regions((2, version(1, 1, 7), 64, V130))
+    update(folder, "an offer at the floor with the running variant", alone(version(1, 3, 7)), "  component 2 runs 1.3.7, floor 1.3.0", components=debug)
+    update(folder, "an offer below the floor with the running variant", alone(version(1, 2, 7)), f"  offer 1: {too_low}", components=debug)
+    for number in (V120, V130):
+        update(folder, f"another variant than the running one, {version_words(number)}", alone(number), f"  offer 1: REJECT: {SENTENCE['REJECT_WRONG_VARIANT']}", components=debug)
+    # the image is judged by the version that it bears
+    for name, bears in (("newer than what runs", V120), ("what runs", V110), ("older than what runs", V100)):
+        update(folder, f"an image below the floor, {name}", alone(V130, bears), refused, packets=True, **second(V130))
+    update(folder, "an image at the floor of an offer above it", alone(version(1, 4), V130), "  component 2 runs 1.3.0, floor 1.3.0", **second(V130))
+    # a need is met by what runs or is staged, and by no floor; a floor of each component
+    update(folder, "a need that only a floor would meet", bundle(E12_OFFERS[:1]), f"  offer 1: SKIP: {SENTENCE['OFFER_SKIP']}", **second(V120))
+    update(folder, "floors of both, met", E12, "report: completed 2 of 2, packets 13, passes 2", components=regions((1, V120, 64, V130), (2, V110, 64, V120)))
+    update(folder, "floors of both, one met", E12, f"  offer 1: {too_low}", components=regions((1, V120, 64, version(1, 4)), (2, V110, 64, V120)))
+    # a floor of 0 is none; numbers in hexadecimal
+    for floor, how in (("0.0.0", {}), ("0x0.0X0.00", {}), ("0x1.0x3.0x0", second(V130))):
+        case(f"update, the floor {floor}", ["update", "--component", "1:1.2.0:0:64", f"--component=2:1.1.0:64:64:{floor}", "E13"], *update_text("E13", E12, **how), cwd=folder)
 
 
 # A4: E13's offers with bodies that the writer cuts, into 52, 10 and 2 bytes; a body of four blocks, of which two in a row come twice
@@ -178,6 +237,11 @@ def command_lines(folder):
                   ["E13", "--component", "1:1.2.0:0:64:"], ["E13", "--component", "1:1.2.0:0:4294967296"], ["E13", "--component", "1:1.2.0:4294967296:64"],
                   ["E13", "--component", "1:256.2.0:0:64"], ["E13", "--component", "1:1.65536.0:0:64"], ["E13", "--component", "1:1.2.256:0:64"],
                   ["E13", "--component", "256:1.2.0:0:64"], ["E13", "--component", "1:1.2.0:0"], ["E13", "--component", "1:1.2.0::64"],
+                  *(["E13", "--component", f"1:1.2.0:0:64:{floor}"] for floor in (
+                      "x", "1", "1.3", "1.3.", ".3.0", "1..0", "1.3.x", "1.3.0.0", "256.3.0", "1.65536.0", "1.3.256", "-1.3.0", "+1.3.0", " 1.3.0", "1.3.0 ", "1,3,0", "1.3@0",
+                      "1.3.0:", ":1.3.0", "1.3.0:1.3.0", "1.3.0:x", "::")),
+                  ["E13", "--component=1:1.2.0:0:64:"], ["E13", "--component=1:1.2.0:0:64:1.3"], ["E13", "--component", "1:1.2.0:0:1.3.0"],
+                  ["E13", "--component", "1:1.2.0:0:4294967296:1.3.0"], ["E13", "--component", "1:1.2.0:0::1.3.0"], ["E13", "--component", "1:1.2.0:64:1.3.0"],
                   ["E13"] + (COMPONENT_LIMIT + 1) * ["--component", "1:1.2.0:0:64"], ["E13", "--json"], ["E13", "--swap-protocol"], ["E13", "--packets=1"],
                   ["E13", "--packets="], ["--packets=yes", "E13"], ["--twice"], ["E13", "--twice="], ["E13", "--twice=2"], ["E13", "--twice", "2"]):
         case(f"update, the command line {words}", ["update", *words], 2, "", wrong_line("update"), cwd=folder)
@@ -211,6 +275,7 @@ def cases(work):
     folder = fresh(work, "update")
     runs(folder)
     set_ups(folder)
+    floors(folder)
     doubled(folder)
     command_lines(folder)
     terminals(folder)

@@ -102,7 +102,7 @@ PARTS = (
     ("device*_bytes", {"DEVICE_SESSION_AT": "SESSION_START", "DEVICE_OWED_AT": "SESSION_START + OWED_AT",
                        "DEVICE_PREVIOUS_AT": "SESSION_START + PREVIOUS_AT", "DEVICE_COMPONENTS_AT": "COMPONENTS_START",
                        "COMPONENT_SIZE": "COMPONENT_SIZE", "COMPONENT_RUNNING_AT": "RUNNING_AT", "COMPONENT_REGION_AT": "REGION_AT",
-                       "COMPONENT_STAGED_AT": "STAGED_AT", "LISTED_SIZE": "LISTED_SIZE"}),
+                       "COMPONENT_FLOOR_AT": "FLOOR_AT", "COMPONENT_STAGED_AT": "STAGED_AT", "LISTED_SIZE": "LISTED_SIZE"}),
     ("c_version", {"RUNNING_SIZE": "RUNNING_SIZE", "RUNNING_ID_AT": "ID_AT"}),
     ("bundle_layout", {"BUNDLE_HEAD_SIZE": "HEAD", "BUNDLE_ENTRY_SIZE": "ENTRY"}),
     ("host_bytes", {"CONTENTS_BODIES_AT": "BODIES_START", "BODY_SIZE": "BODY_SIZE", "BODY_RECORDS_AT": "RECORDS_IN", "CONTENTS_HAND_AT": "HAND_START",
@@ -192,7 +192,7 @@ def expected_numbers():
 # Places and sizes that the header's comments give, with the crate and the constants that they are. Of the fields of a component and of an entry of the writer's
 # list the comments give the widths: each field ends where the sum of the widths says.
 
-FIELDS = r"id \((\d)\), running version \((\d)\), region base[ *\n]+\((\d)\), region length \((\d)\), "
+FIELDS = r"id \((\d)\), running version \((\d)\), region base[ *\n]+\((\d)\), region length \((\d)\), floor \((\d)\), "
 LAYOUTS = (
     (r"the list that set-up takes: CFU_COMPONENT_LIMIT times (\d+) ", "device_component_bytes", ["LISTED_SIZE"]),
     (r"(\d+)  platform \(2\)", "device_bytes", ["PLATFORM_AT"]),
@@ -218,15 +218,19 @@ LAYOUTS = (
     (r"(\d+)  this pass had a SKIP \(1\), (\d+) a completed image \(1\)", "host_bytes", ["SKIPPED_AT", "LANDED_AT"]),
     (r"(\d+)  a reply was passed over since the block in hand was sent \(1\)", "host_bytes", ["PASSED_AT"]),
     (r"a byte (\d+), (\d+) or (\d+) over 1,", "host_bytes", ["SKIPPED_AT", "LANDED_AT", "PASSED_AT"]),
-    (r"a device's (\d+) bytes in place of 140, a host's (\d+) in place of 24, and a device's components stand at (\d+) in", "*_bytes",
-     ["DEVICE_SIZE", "HOST_SIZE", "COMPONENTS_START"]),
+    (r"the list has (\d+) bytes in place of 91, of which a component takes (\d+) in place of 13; the record has (\d+) in[ *\n]+place of 200, of which a "
+     r"component takes (\d+) in place of 18, with what is staged at (\d+) in place of 13", "device*_bytes",
+     ["LIST_SIZE", "LISTED_SIZE", "DEVICE_SIZE", "COMPONENT_SIZE", "STAGED_AT"]),
+    (r"a device's record has (\d+) bytes in place of 140, with its components at (\d+) in place of 14, a host's record (\d+) in place of 24", "*_bytes",
+     ["DEVICE_SIZE", "COMPONENTS_START", "HOST_SIZE"]),
 )
 WIDTHS_OF = (
-    (r"bytes: " + FIELDS + r"staged \((\d)\): .*; staged[ *\n]+version \((\d)\)", "device_component_bytes",
-     ["RUNNING_AT", "REGION_AT", "REGION_LEN_AT", "STAGED_AT", "STAGED_VERSION_AT", "COMPONENT_SIZE"]),
+    (r"bytes: " + FIELDS + r"staged \((\d)\): .*;[ *\n]+staged version \((\d)\)", "device_component_bytes",
+     ["RUNNING_AT", "REGION_AT", "REGION_LEN_AT", "FLOOR_AT", "STAGED_AT", "STAGED_VERSION_AT", "COMPONENT_SIZE"]),
     (r"CFU_BUNDLE_ENTRY_SIZE bytes: the offer \((\d+)\), at \d+ where its image[ *\n]+starts in `images` \((\d)\), at \d+ how long it is \((\d)\)", "bundle_layout",
      ["SHORT_SIZE", "SHORT_SIZE + 4", "ENTRY"]),
-    (r"list: CFU_COMPONENT_LIMIT times " + FIELDS + "CFU_LIST_SIZE", "device_component_bytes", ["RUNNING_AT", "REGION_AT", "REGION_LEN_AT", "LISTED_SIZE"]),
+    (r"list: CFU_COMPONENT_LIMIT times " + FIELDS + "CFU_LIST_SIZE", "device_component_bytes",
+     ["RUNNING_AT", "REGION_AT", "REGION_LEN_AT", "FLOOR_AT", "LISTED_SIZE"]),
 )
 
 

@@ -55,6 +55,7 @@ slip "a field left out" '/^    uint32_t mask;/d' cfu_report
 slip "two fields exchanged" 's/^    uint8_t reason;/    uint8_t status;/;t;s/^    uint8_t status;/    uint8_t reason;/' cfu_offer_reply
 slip "a size" 's/^#define CFU_DEVICE_SIZE [0-9]*/&1/' CFU_DEVICE_SIZE
 slip "a row's number" 's/^#define CFU_B7 0x4207/#define CFU_B7 0x4208/' CFU_B7
+slip "a row's number of set-up" 's/^#define CFU_S5 0x5305/#define CFU_S5 0x5306/' CFU_S5
 slip "a row's number of the writer" 's/^#define CFU_W5 0x5705/#define CFU_W5 0x5706/' CFU_W5
 slip "a row of the writer left out" '/^#define CFU_W8 /d' CFU_W8
 slip "an end's number" 's/^#define CFU_H4 0x4804/#define CFU_H4 4/' CFU_H4
@@ -69,18 +70,26 @@ slip "the previous packet's place by its name" 's/^#define CFU_DEVICE_PREVIOUS_A
 slip "a width in a device's record" 's/region base ([0-9])/region base (2)/' REGION_AT
 slip "a place in a host's record" 's/^\( \* *[0-9]*\)\(  mask of\)/\11\2/' MASK_AT
 slip "the place of a reply that was passed over" 's/^\( \* *[0-9]*\)\(  a reply was passed over\)/\11\2/' PASSED_AT
-slip "a size in the words on older records" 's/bytes in place of 140, a host.s 25/bytes in place of 140, a host'"'"'s 24/' HOST_SIZE
+slip "a size in the words on older records" 's/a host.s record 25 in place of 24/a host'"'"'s record 26 in place of 24/' HOST_SIZE
+slip "the list's size in the words on older records" 's/the list has 119 bytes/the list has 91 bytes/' LIST_SIZE
+slip "a component's place in the words on older records" 's/with what is staged at 17/with what is staged at 18/' STAGED_AT
 slip "a place in the contents" 's/^\( \* *[0-9]*\)\(  the block that\)/\11\2/' HAND_START
 slip "a place in the writer's list" 's/, at 20 how long it is/, at 24 how long it is/' SHORT_SIZE
 slip "a width in the writer's list" 's/how long it is (4)/how long it is (2)/' SHORT_SIZE
 slip "a place that has a name" 's/^#define CFU_COMPONENT_STAGED_AT [0-9]*/&1/' CFU_COMPONENT_STAGED_AT
+slip "the floor's place by its name" 's/^#define CFU_COMPONENT_FLOOR_AT [0-9]*/&1/' CFU_COMPONENT_FLOOR_AT
+slip "the floor's width" 's/floor (4)/floor (2)/' FLOOR_AT
+slip "the floor left out of the list" 's/floor (4), CFU_LIST_SIZE/CFU_LIST_SIZE/' FLOOR_AT
 slip "a part's size that has a name" 's/^#define CFU_BODY_SIZE [0-9]*/&1/' CFU_BODY_SIZE
 slip "a number left out" '/^#define CFU_ERROR_CRC /d' CFU_ERROR_CRC
+slip "a row that set-up lacks" 's/^#define CFU_SERVED 0/&\n#define CFU_S6 0x5306/' CFU_S6
 slip "a number that nothing has" 's/^#define CFU_SERVED 0/&\n#define CFU_B9 0x4209/' CFU_B9
 slip "a row that the writer lacks" 's/^#define CFU_SERVED 0/&\n#define CFU_W9 0x5709/' CFU_W9
 slip "a declaration that nothing has" 's/^uint32_t cfu_host_fresh(/int spare;\n&/' "int spare"
 slip "a macro left out" '/^#define CFU_LEAST_MINOR(/d' macros
 slip "a component's field left out" '/^    uint8_t pending;/d' cfu_component
+slip "the floor left out" '/^    cfu_version floor;$/d' cfu_listed
+slip "the floor behind what is staged" '/^    cfu_version floor;  /d;s/^    cfu_version staged;.*/&\n    cfu_version floor;/' cfu_component
 
 # A slip in the wrappers of the made crate: what it is, the edit, and what the misfit must name.
 wrapped() {

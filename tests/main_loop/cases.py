@@ -1,6 +1,6 @@
 #!/usr/bin/env python3
 """Frames for the main loop, and what it must print of each, from document 01 as document 02 amends it (bench examples E1 to E10,
-A1's REJECT, then one whole update).
+A1's REJECT, A5's floor, then whole updates).
 
 cases.py stdin     writes the frames to standard output
 cases.py stdout    writes the lines that the program must print
@@ -66,6 +66,12 @@ def sends(packet, status):
     case("C", packet, reply(content_reply(cfu.CONTENT.unpack(packet)[2], status)))
 
 
+def sends_image(image, status):
+    """An image in blocks, of which the last gets the status of its judgement."""
+    for sequence, (address, flags, data) in enumerate(cfu.blocks(image)):
+        sends(content(flags, len(data), sequence, address, data), status if flags & LAST else 0)
+
+
 def versions(reply):
     """A version reply, with zeros after these bytes."""
     case("V", b"", "versions " + spaced(bytes.fromhex(reply).ljust(cfu.LONG_SIZE, b"\0")))
@@ -93,6 +99,15 @@ asks(changed(OFFER, "need", "02 02 00 01"), SKIP)
 # document 02, A1: a debug build of the running number, and one of a newer release
 asks(changed(OFFER, "version", "01 02 00 01"), REJECT, 0xE2)
 asks(changed(OFFER, "version", "01 03 00 01"), REJECT, 0xE2)
+
+# document 02, A5: component 2 runs 1.1.0 and has the floor 1.3.0. Below it a newer offer is rejected, too, after the check of the variant; at it one is accepted,
+# and its image is judged by the version that it bears
+SECOND = changed(OFFER, "id", "02")
+BELOW = changed(SECOND, "version", "00 02 00 01")
+asks(BELOW, REJECT, 0)
+asks(changed(SECOND, "version", "01 02 00 01"), REJECT, 0xE2)
+asks(SECOND, ACCEPT)
+sends_image(cfu.image(2, cfu.version(1, 2)), 0x07)
 
 # E6, then a second offer while the session is open; E2
 asks(changed(OFFER, "need", "02 01 00 01"), ACCEPT)
@@ -139,6 +154,15 @@ versions("02 00 00 02 00 02 00 01 00 01 42 00 00 01 00 01 00 02 42 00")
 case("R", b"", "reset")
 versions("02 00 00 02 00 03 00 01 00 01 42 00 00 01 00 01 00 02 42 00")
 asks(OFFER, REJECT, 0)
+
+# A reset keeps the floor; an update of component 2 to it, 1.3.0, and the same offer again
+asks(BELOW, REJECT, 0)
+asks(SECOND, ACCEPT)
+sends_image(cfu.image(2, cfu.version(1, 3)), 0)
+asks(SECOND, REJECT, 2)
+case("R", b"", "reset")
+versions("02 00 00 02 00 03 00 01 00 01 42 00 00 03 00 01 00 02 42 00")
+asks(SECOND, REJECT, 0)
 
 # the input ends inside a frame
 script.frame("O", OFFER)

@@ -44,7 +44,7 @@ static size_t send(const uint8_t *packet, size_t length, uint8_t *reply)
 static void set_up(void)
 {
     uint8_t list[CFU_LIST_SIZE] = {0};
-    const cfu_listed one = {1, {1, 2, 0}, 0, REGION}, two = {2, {1, 1, 0}, REGION, REGION};
+    const cfu_listed one = {1, {1, 2, 0}, 0, REGION, {0, 0, 0}}, two = {2, {1, 1, 0}, REGION, REGION, {0, 0, 0}};
     cfu_list_put(list, sizeof list, 0, one);
     cfu_list_put(list, sizeof list, 1, two);
     cfu_device_set_up(device, sizeof device, 0x0042, list, sizeof list, 2, staging, sizeof staging);

@@ -32,8 +32,8 @@ impl Bench {
         let mut bench = Bench { device: [0; DEVICE_SIZE], staging: [0x77; 2 * REGION as usize], coming: VecDeque::new(), doubles, packets: 0, copies: 0, waits: 0 };
         let mut list = [0; LIST_SIZE];
         for (place, minor) in [(0, 2), (1, 1)] {
-            let running = CVersion { major: 1, minor, variant: 0 };
-            cfu_list_put(&mut list, place, CListed { id: place as u8 + 1, running, base: REGION * place, length: REGION });
+            let (running, floor) = (CVersion { major: 1, minor, variant: 0 }, CVersion { major: 0, minor: 0, variant: 0 });
+            cfu_list_put(&mut list, place, CListed { id: place as u8 + 1, running, base: REGION * place, length: REGION, floor });
         }
         assert_eq!(cfu_device_set_up(&mut bench.device, 0x0042, &list, 2, &bench.staging), 0);
         bench

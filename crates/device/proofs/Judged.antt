@@ -1,18 +1,17 @@
 -- What is below a floor: an offer is rejected with 0, an image is answered with 0x07, and a record is refused by D1. Assumes nothing.
 use mathlib.Core.Path.{_≡_, refl, sym, ap, subst, _∙_}
 use mathlib.Core.Bool.{Bool, true, false, not, _||_, _&&_, true≢false}
-use mathlib.Core.List.{List, [], _∷_}
+use mathlib.Core.List.{List}
 use mathlib.Core.Logic.{_⊎_, inl, inr}
-use Prim.Native.Nat.{ℕ, zero, suc, _<_}
-use native.Mathlib.Omega.{arith}
+use Prim.Native.Nat.{ℕ}
 use borrow.Author.Tests.{eq-eqb, not-false}
 use lib.Dec.{leb}
-use lib.ListN.{length, take}
-use Rattle.wire.specs.Checks.{firstOf, any}
+use lib.ListN.{length}
+use Rattle.wire.specs.Checks.{firstOf}
 use Rattle.wire.specs.Codes.{SHORT-SIZE, LONG-SIZE, ERROR-VERSION}
 use Rattle.wire.specs.Version.{releaseOf}
 use Rattle.wire.specs.declared.version.Version.{Version}
-use Rattle.wire.proofs.Tests.{neither, both}
+use Rattle.wire.proofs.Tests.{both}
 use Rattle.wire_offer.specs.Kind.{offer, kindIn}
 use Rattle.wire_offer.specs.declared.offer.OfferFields.{OfferFields}
 use Rattle.wire_content.specs.Head.{headIn}
@@ -20,8 +19,6 @@ use Rattle.wire_content.specs.Reply as contentReply
 use Rattle.image.specs.Region.{regionBytes}
 use Rattle.image.specs.Judge.{imageIn}
 use Rattle.image.specs.declared.judge.Image.the-variants.{Bears}
-use Rattle.device_component.specs.Record.{blankComponent}
-use Rattle.device_component.specs.Lists.{componentAt}
 use Rattle.device_component.specs.Setup.{badFloor}
 use Rattle.device_component.specs.Versions.{wrongVariant, isOld, belowFloor, tooLow, imageVersionFits, stagedVersionFits, keepsStaged}
 use Rattle.device_component.specs.declared.record.Component.{Component}
@@ -46,6 +43,7 @@ use Rattle.device.specs.Content.{sessionComponent, contentVerdict, conte
 use Rattle.device.specs.Entries.{versionEntry, resetEntry, serveEntry}
 use Rattle.device.specs.Floors.{onlyRejects, ComesToSeven, FloorBroken, FloorJudged}
 use Rattle.device.proofs.Answers.{served-row, content-served}
+use Rattle.device.proofs.Lists.{none-below}
 
 or-true : (a : Bool) → (a || true) ≡ true
 or-true true = refl
@@ -84,14 +82,6 @@ images d staging report k v e t l m b =
     let image : imageIn (regionBytes (component d k .fixed .region) (written (component d k .fixed .region) report staging)) (component d k .fixed .id) ≡ Bears v
     = rw (r, t, at) at m in
     (rw (r, t, l, at, image, unfit), rw (r, t, l, at, image, unfit, kept (d .components) k))
-
--- what holds of none of the first n, and not of a blank component, holds of none below n
-none-below : (p : Component → Bool) (n : ℕ) (cs : List Component) (k : ℕ) → p blankComponent ≡ false → k < n → any p (take n cs) ≡ false → p (componentAt cs k) ≡ false
-unfolding any
-none-below p zero cs k h l e = absurd (omega arith)
-none-below p (suc n) [] k h l e = h
-none-below p (suc n) (c ∷ cs) zero h l e = neither (p c) _ e .0
-none-below p (suc n) (c ∷ cs) (suc k) h l e = none-below p n cs k h (omega (arith, l)) (neither (p c) _ e .1)
 
 -- D1 leaves no floor broken
 module _ (d : Device) (f : FloorBroken d) where

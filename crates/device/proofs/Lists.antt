@@ -2,11 +2,13 @@
 use mathlib.Core.Path.{_≡_, refl, sym, ap, _∙_}
 use mathlib.Core.Bool.{Bool, false}
 use mathlib.Core.List.{List, [], _∷_, _++_, map, map-map, map-append}
-use Prim.Native.Nat.{ℕ, zero, suc, _≤_}
+use Prim.Native.Nat.{ℕ, zero, suc, _≤_, _<_}
+use native.Mathlib.Nat.{not-suc-le-zero, le-of-suc-le-suc}
 use lib.ListN.{length, take, drop, set, getD, length-map, take-append-drop}
 use lib.Seq.{take-at, length-take-le}
 use Rattle.wire.specs.Checks.{any}
-use Rattle.device_component.specs.Record.{afterReset}
+use Rattle.device_component.specs.Record.{blankComponent, afterReset}
+use Rattle.device_component.specs.Lists.{componentAt}
 use Rattle.device_component.specs.declared.record.Component.{Component}
 use Rattle.device_component.specs.declared.record.Fixed.{Fixed}
 use Rattle.device_component.proofs.setup.Laws.{seen}
@@ -42,6 +44,14 @@ module _ {A : Type 0} where
   each-front P f z g (suc n) [] h k = h k
   each-front P f z g (suc n) (x ∷ l) h zero = g x (h zero)
   each-front P f z g (suc n) (x ∷ l) h (suc k) = each-front P f z g n l (λ j. h (suc j)) k
+
+-- what holds of none of the first n components, nor of the blank one, holds of none below n
+pub none-below : (p : Component → Bool) (n : ℕ) (cs : List Component) (k : ℕ) → p blankComponent ≡ false → k < n → any p (take n cs) ≡ false → p (componentAt cs k) ≡ false
+unfolding any
+none-below p zero cs k h l e = absurd (not-suc-le-zero l)
+none-below p (suc n) [] k h l e = h
+none-below p (suc n) (c ∷ cs) zero h l e = neither (p c) _ e .0
+none-below p (suc n) (c ∷ cs) (suc k) h l e = none-below p n cs k h (le-of-suc-le-suc l) (neither (p c) _ e .1)
 
 -- a reset keeps what set-up looks at
 pub reset-seen : (n : ℕ) (l : List Component) → map seen (resetComponents n l) ≡ map seen l

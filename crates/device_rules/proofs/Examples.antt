@@ -11,11 +11,32 @@ use Rattle.device_component.specs.Lists.{firstFrom, find}
 use Rattle.device_component.specs.Setup.{badIds, badRegions, setupVerdict}
 use Rattle.device_offering.specs.Offer.{needUnmet}
 use Rattle.device_receiving.specs.Content.{takeBlock}
-use Rattle.device_rules.specs.Examples.{A1Differs, A4Differs}
+use Rattle.device_rules.specs.Examples.{A1Differs, A4Differs, A5Differs}
 
 pub a1-differs : A1Differs
 unfolding firstOf any pairs fieldsIn kindIn bitStep bitSteps byteStep crcFrom crcOf within blank put eraseOf writeOf regionBytes imageIn firstFrom find badIds badRegions setupVerdict needUnmet takeBlock
 a1-differs = record { offered01 = (refl, refl); offered = (refl, refl); image01 = (refl, refl); image = (refl, refl); staged01 = refl; staged = refl }
+
+pub a5-differs : A5Differs
+unfolding firstOf any pairs fieldsIn kindIn bitStep bitSteps byteStep crcFrom crcOf within blank put eraseOf writeOf regionBytes imageIn firstFrom find badIds badRegions setupVerdict needUnmet takeBlock
+a5-differs = record {
+  offeredBefore = (refl, refl);
+  offered = (refl, refl);
+  variant = (refl, refl);
+  offeredFloor = (refl, refl);
+  imageBefore = (refl, refl);
+  image = (refl, refl);
+  imageFloor = (refl, refl);
+  stagedBefore = refl;
+  staged = refl;
+  stagedFloor = refl;
+  setUpBefore = refl;
+  setUp = refl;
+  setUpOrder = refl;
+  setUpUnused = refl;
+  setUpFloor = refl;
+  judged = refl;
+}
 
 pub a4-differs : A4Differs
 unfolding same firstOf any pairs badIds badRegions setupVerdict

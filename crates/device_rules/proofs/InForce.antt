@@ -33,10 +33,10 @@ use Rattle.device.specs.Refusals.{served, D}
 use Rattle.device.specs.Offer as offers
 use Rattle.device.specs.Content as contents
 use Rattle.device.specs.Content.{sessionComponent}
-use Rattle.device.specs.Entries.{versionEntry, resetEntry, serveEntry, serveStaging}
-use Rattle.device.specs.Calls.{packet, versions, reset}
+use Rattle.device.specs.Entries.{setUpOf, versionEntry, resetEntry, serveEntry, serveStaging}
+use Rattle.device.specs.Calls.{Call, packet, versions, reset, answerOf}
 use Rattle.device_rules.specs.Rules.{inForce}
-use Rattle.device_rules.specs.Entries.{keepsStagedBy, breaksD1By, refusalBy, onKindBy, judgeBy, onBlockBy, onContentVerdictBy, verdictOnBy}
+use Rattle.device_rules.specs.Entries.{keepsStagedBy, breaksD1By, refusalBy, onKindBy, judgeBy, onBlockBy, onContentVerdictBy, verdictOnBy, answerBy}
 use Rattle.device_rules.specs.Promises.{RulesInForceAnswer}
 use Rattle.device_rules.proofs.Same.{any-same}
 
@@ -45,7 +45,7 @@ staged-as : (c : Component) (s : Staged) → not (rule.keepsStaged c s) ≡ not 
 staged-as c Nothing = refl
 staged-as c (Pending v) = refl
 
-d1-as : (d : Device) → refusals.breaksD1 d ≡ breaksD1By inForce d
+pub d1-as : (d : Device) → refusals.breaksD1 d ≡ breaksD1By inForce d
 unfolding sound.breaksD1
 d1-as d =
     rw (any-same (λ (c : Component). not (rule.keepsStaged c (c .staged))) (λ (c : Component). not (keepsStagedBy inForce c (c .staged))) (d .count) (d .components)
@@ -84,14 +84,18 @@ module _ (c : Component) (session : Session) (report : List ℕ) where
   verdict-as s (Take slot) = block-as slot (receiving.written (c .fixed .region) report s)
 
 -- so is each answer
-pub rules-in-force-answer : RulesInForceAnswer
+answers-as : (d : Device) (staging : List ℕ) (c : Call) → answerOf d staging c ≡ answerBy inForce d staging c
 unfolding serveEntry serveStaging versionEntry resetEntry offers.offerEntry contents.contentEntry contents.contentStaging
-rules-in-force-answer d staging versions = rw (d1-as d) refl
-rules-in-force-answer d staging reset = rw (d1-as d) refl
-rules-in-force-answer d staging (packet Offer report) = rw (refusal-as SHORT-SIZE d (length staging) (length report), kind-as d (kindIn report)) refl
-rules-in-force-answer d staging (packet Content report) =
+answers-as d staging versions = rw (d1-as d) refl
+answers-as d staging reset = rw (d1-as d) refl
+answers-as d staging (packet Offer report) = rw (refusal-as SHORT-SIZE d (length staging) (length report), kind-as d (kindIn report)) refl
+answers-as d staging (packet Content report) =
     rw (
       refusal-as LONG-SIZE d (length staging) (length report),
       checks-as d report,
       verdict-as (sessionComponent d) (d .session) report staging (verdictOnBy inForce d report),
     ) refl
+
+pub rules-in-force-answer : RulesInForceAnswer
+unfolding setUpOf
+rules-in-force-answer = record { calls = answers-as; setUp = λ platform list count n. refl }

@@ -2,4 +2,5 @@ pub mod Same
 pub mod InForce
 pub mod Variants
 pub mod Sequences
+pub mod Floors
 pub mod Examples

@@ -1,4 +1,4 @@
--- Two sets of rules that agree on the versions that a call compares and on the sequence that it brings answer it alike. Assumes nothing.
+-- Two sets of rules that agree on the versions that a call compares, on the sequence that it brings and on the rows of set-up answer it alike. Assumes nothing.
 use mathlib.Core.Path.{_≡_, refl, sym, ap, ap₂, _∙_}
 use mathlib.Core.Bool.{Bool, true, false, not, cond, _||_}
 use mathlib.Core.List.{List, [], _∷_}
@@ -56,9 +56,13 @@ module _ (r r′ : Rules) (d : Device) where
   abbrev pub HeldSame : Type 0
   HeldSame = r .sequences .wrongPrevious (d .session .stage) (d .session .previous) ≡ r′ .sequences .wrongPrevious (d .session .stage) (d .session .previous)
 
+  -- and on the rows of set-up
+  abbrev pub SetupSame : Type 0
+  SetupSame = r .setup (d .«staging_len») (d .count) (d .components) ≡ r′ .setup (d .«staging_len») (d .count) (d .components)
+
   -- D1 then has one answer
-  pub d1-same : StagedSame → HeldSame → breaksD1By r d ≡ breaksD1By r′ d
-  d1-same h p = rw (any-same (λ (c : Component). not (keepsStagedBy r c (c .staged))) (λ (c : Component). not (keepsStagedBy r′ c (c .staged))) (d .count) (d .components) (λ k l. each k l (component d k .staged) refl), p) refl
+  pub d1-same : StagedSame → HeldSame → SetupSame → breaksD1By r d ≡ breaksD1By r′ d
+  d1-same h p s = rw (s, any-same (λ (c : Component). not (keepsStagedBy r c (c .staged))) (λ (c : Component). not (keepsStagedBy r′ c (c .staged))) (d .count) (d .components) (λ k l. each k l (component d k .staged) refl), p) refl
     where
       each : (k : ℕ) → k < d .count → (s : Staged) → component d k .staged ≡ s
           → not (keepsStagedBy r (component d k) (component d k .staged)) ≡ not (keepsStagedBy r′ (component d k) (component d k .staged))

@@ -7,6 +7,9 @@ use lib.Dec.{eqb}
 use Rattle.wire.specs.Checks.{firstOf}
 use Rattle.wire.specs.Codes.{SUCCESS, ERROR-INVALID-ADDR, ERROR-NO-OFFER, ERROR-INVALID}
 use Rattle.wire_content.specs.Head.{headIn}
+use Rattle.device_component.specs.Setup.{setupVerdict}
+use Rattle.device_component.specs.declared.record.Component.{Component}
+use Rattle.device_component.specs.declared.setup.SetupVerdict.{SetupVerdict}
 use Rattle.device_session.specs.Stage.{sequenceVerdict, isAgain, isWrong, atSlot}
 use Rattle.device_session.specs.Sound.{holdsWrong}
 use Rattle.device_session.specs.declared.stage.Stage.{Stage}
@@ -24,10 +27,9 @@ use Rattle.device.specs.Calls.{Call, packet, versions, reset, ofPacket}
 use Rattle.device_rules.specs.Rules as rules
 use Rattle.device_rules.specs.Rules.{VersionRules, Rules, expected}
 use Rattle.device_rules.specs.Entries.{breaksD1By, verdictOnBy, answerBy}
-use Rattle.device_rules.specs.Promises.{BringsNoCopy, NoCopyAsBefore, CopyWasInvalid, AsDocument01}
+use Rattle.device_rules.specs.Promises.{BringsNoCopy, NoCopyAsBefore, CopyWasInvalid}
 use Rattle.device_rules.proofs.Same.{d1-same, offer-same, content-same, staging-same}
 use Rattle.device_rules.proofs.InForce.{rules-in-force-answer, checks-as}
-use Rattle.device_rules.proofs.Variants.{one-variant-as-before}
 
 -- what A4 takes for a block sent again was wrong before
 before : SequenceVerdict → SequenceVerdict
@@ -95,18 +97,18 @@ module _ (d : Device) (report : List ℕ) where
 pub copy-was-invalid : CopyWasInvalid
 copy-was-invalid d report e = by-before d report ∙ success-was _ _ _ (judged d report) _ _ (sym (checks-as d report) ∙ e)
 
--- where no packet is held wrongly and none is a copy, each answer is that of document 01's rules on sequences, whatever the rules on versions
-module _ (x : VersionRules) (d : Device) (staging : List ℕ) (h : holdsWrong (d .session) ≡ false) where
+-- where no packet is held wrongly and none is a copy, each answer is that of document 01's rules on sequences, whatever the rules on versions and the rows of set-up
+module _ (x : VersionRules) (rows : (n count : ℕ) → List Component → SetupVerdict) (d : Device) (staging : List ℕ) (h : holdsWrong (d .session) ≡ false) where
   abbrev withA4 : Rules
-  withA4 = record { versions = x; sequences = rules.sequences }
+  withA4 = record { versions = x; sequences = rules.sequences; setup = rows }
 
   abbrev withoutA4 : Rules
-  withoutA4 = record { versions = x; sequences = rules.sequences01 }
+  withoutA4 = record { versions = x; sequences = rules.sequences01; setup = rows }
 
   d1 : breaksD1By withA4 d ≡ breaksD1By withoutA4 d
-  d1 = d1-same withA4 withoutA4 d (λ k v l e. refl) h
+  d1 = d1-same withA4 withoutA4 d (λ k v l e. refl) h refl
 
-  no-copy-as : (call : Call) → BringsNoCopy d call → answerBy withA4 d staging call ≡ answerBy withoutA4 d staging call
+  pub no-copy-as : (call : Call) → BringsNoCopy d call → answerBy withA4 d staging call ≡ answerBy withoutA4 d staging call
   no-copy-as versions g = rw d1 refl
   no-copy-as reset g = rw d1 refl
   no-copy-as (packet Offer report) g = ap (λ (o : Outcome). ofPacket o staging) (offer-same withA4 withoutA4 d d1 staging report (λ o e k f. (refl, refl)))
@@ -117,7 +119,4 @@ module _ (x : VersionRules) (d : Device) (staging : List ℕ) (h : holdsWrong (d
       verdicts = sym (by-before d report ∙ ap (by d report) (as-it-was (judged d report) g))
 
 pub no-copy-as-before : NoCopyAsBefore
-no-copy-as-before d staging call h g = rules-in-force-answer d staging call ∙ no-copy-as rules.versions d staging h call g
-
-pub as-document01 : AsDocument01
-as-document01 d staging call s b h g = one-variant-as-before d staging call s b ∙ no-copy-as rules.versions01 d staging h call g
+no-copy-as-before d staging call h g = rules-in-force-answer .calls d staging call ∙ no-copy-as rules.versions setupVerdict d staging h call g

@@ -1,6 +1,6 @@
 /*
- * device.c: the device's calls alone, for a microcontroller with 16 KiB of memory, where calls.c does not fit: E13 of document 01, and document 02, A4. The packets
- * are laid out here from E12's bundle, without the library's host.
+ * device.c: the device's calls alone, for a microcontroller with 16 KiB of memory, where calls.c does not fit: E13 of document 01; document 02, A4 and A5. The
+ * packets are laid out here from E12's bundle, without the library's host.
  *
  * usage: device BUNDLE, where BUNDLE is examples/e12.bundle
  */
@@ -99,20 +99,30 @@ static void doubled(unsigned place, const uint8_t *image)
     CHECK(memcmp(staging + REGION * place, image, REGION) == 0);
 }
 
+/* The version 1.MINOR.0, or zero where the minor is. */
+static int is_release(cfu_version v, uint16_t minor)
+{
+    return v.major == (minor != 0) && v.minor == minor && v.variant == 0;
+}
+
+/* The minor of component 2's floor 1.MINOR.0, or 0 where it has none. */
+static uint16_t floor_of_second;
+
 /* A component of the device runs 1.MINOR.0, and 1.PENDING.0 is staged, or nothing. */
 static void has(uint32_t place, uint16_t minor, uint16_t pending)
 {
     cfu_component c = cfu_device_component(device, sizeof device, place);
     CHECK(c.number == CFU_SERVED && c.id == place + 1 && c.base == REGION * place && c.length == REGION);
-    CHECK(c.running.major == 1 && c.running.minor == minor && c.running.variant == 0);
-    CHECK(c.pending == (pending != 0) && c.staged.major == (pending != 0) && c.staged.minor == pending && c.staged.variant == 0);
+    CHECK(is_release(c.running, minor) && is_release(c.floor, place == 1 ? floor_of_second : 0));
+    CHECK(c.pending == (pending != 0) && is_release(c.staged, pending));
 }
 
-/* The bench device of document 01. */
-static void set_up(void)
+/* The bench device of document 01, with that floor. */
+static void set_up(uint16_t floor)
 {
-    const cfu_listed first = {1, {1, 2, 0}, 0, REGION}, second = {2, {1, 1, 0}, REGION, REGION};
+    const cfu_listed first = {1, {1, 2, 0}, 0, REGION, {0, 0, 0}}, second = {2, {1, 1, 0}, REGION, REGION, {floor != 0, floor, 0}};
     uint8_t list[CFU_LIST_SIZE] = {0};
+    floor_of_second = floor;
     memset(staging, 0x77, sizeof staging);
     CHECK(cfu_list_put(list, sizeof list, 0, first) == CFU_SERVED);
     CHECK(cfu_list_put(list, sizeof list, 1, second) == CFU_SERVED);
@@ -131,7 +141,7 @@ int main(int count, char **words)
     size_t length = fread(bundle, 1, sizeof bundle, file);
     fclose(file);
     CHECK(length == E12_SIZE);
-    set_up();
+    set_up(0);
 
     informed(CFU_INFO_START_ENTIRE_TRANSACTION);
     informed(CFU_INFO_START_OFFER_LIST);
@@ -153,10 +163,21 @@ int main(int count, char **words)
 
     /* A4, with the image that E13 left in component 2's region */
     memcpy(image, staging + REGION, sizeof image);
-    set_up();
+    set_up(0);
     offer(1, 0, CFU_OFFER_ACCEPT);
     doubled(1, image);
     has(0, 2, 0), has(1, 1, 2);
+
+    /* A5: 1.2.0 is newer than what runs, and below the floor 1.3.0; with the floor 1.2.0 it is taken, and the reset keeps the floor */
+    set_up(3);
+    offer(1, CFU_REJECT_OLD_FW, CFU_OFFER_REJECT);
+    has(1, 1, 0);
+    set_up(2);
+    offer(1, 0, CFU_OFFER_ACCEPT);
+    contents(1);
+    has(1, 1, 2);
+    CHECK(cfu_device_reset(device, sizeof device) == CFU_SERVED);
+    has(1, 2, 0);
     printf("%u passed, %u failed\n", passed, failed);
     return failed == 0 && passed > 0 ? 0 : 1;
 }

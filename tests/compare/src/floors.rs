@@ -199,7 +199,8 @@ pub fn offered(tally: &mut Tally, before: &DeviceRecord, packet: &[u8], reply: &
     let Some(component) = demand::component_of(before, packet[offer_at::ID]) else { return Ok(()) };
     let version = four(&packet[offer_at::VERSION..]);
     let is_later = version / 256 > component.running / 256;
-    let (need, needed) = (packet[offer_at::NEED], demand::component_of(before, packet[offer_at::NEED]));
+    let needed = demand::component_of(before, packet[offer_at::NEED]);
+    let effective = |own: &Component| own.staged.unwrap_or(own.running);
     match (reply[offer_reply_at::STATUS], reply[offer_reply_at::REASON]) {
         (OFFER_ACCEPT, _) if is_below(version, component) => return Err("an offer below the floor is accepted".to_string()),
         (OFFER_ACCEPT, _) => {
@@ -209,7 +210,7 @@ pub fn offered(tally: &mut Tally, before: &DeviceRecord, packet: &[u8], reply: &
                 (false, _) if component.floor > 0 => tally.one(OFFER_UNDER),
                 _ => {}
             }
-            tally.add(OFFER_NEEDED, needed.is_some_and(|own| is_below(own.staged.unwrap_or(own.running), own)) as u64);
+            tally.add(OFFER_NEEDED, needed.is_some_and(|own| is_below(effective(own), own)) as u64);
         }
         (OFFER_REJECT, REJECT_OLD_FW) if is_later && !is_below(version, component) => {
             return Err("a later offer that is not below the floor is rejected with 0".to_string());
@@ -217,7 +218,8 @@ pub fn offered(tally: &mut Tally, before: &DeviceRecord, packet: &[u8], reply: &
         (OFFER_REJECT, REJECT_OLD_FW) if is_later => {
             tally.one(OFFER_ALONE);
             tally.add(OFFER_JUST_BELOW, is_just_below(version, component) as u64);
-            tally.add(OFFER_NEED, (need != 0 && needed.is_none()) as u64);
+            let least = number(&packet[offer_at::LEAST..][..3]) as u32;
+            tally.add(OFFER_NEED, needed.is_some_and(|own| effective(own) / 256 < least) as u64);
         }
         (OFFER_REJECT, REJECT_WRONG_VARIANT) if is_later && is_below(version, component) => tally.one(OFFER_VARIANT),
         _ => {}

@@ -303,6 +303,7 @@ pub fn ran(tally: &mut Tally, before: &DeviceRecord, entries: &[Entry], set: usi
     let more = demand::smallest(&without, entries).unwrap_or(0) & !set;
     let members = |set: usize| entries.iter().enumerate().filter(move |(place, _)| set >> place & 1 == 1).map(|(_, entry)| entry);
     tally.add(RUN_NEEDED, members(more).any(|entry| demand::is_eligible(before, entry)) as u64);
-    let is_met = |entry: &Entry| component(entry).is_some_and(|own| is_above(own) && four(&entry.offer[offer_at::VERSION..]) / 256 == own.floor / 256);
+    let is_at = |entry: &Entry, own: &Component| four(&entry.offer[offer_at::VERSION..]) / 256 == own.floor / 256;
+    let is_met = |entry: &Entry| component(entry).is_some_and(|own| is_above(own) && is_at(entry, own));
     tally.add(RUN_MET, members(set).any(is_met) as u64);
 }

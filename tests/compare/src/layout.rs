@@ -351,7 +351,8 @@ pub const SESSION_SIZE: usize = device_at::COMPONENTS - device_at::STAGE;
 
 const _: () = assert!(COMPONENT_LIMIT * LISTED_SIZE == LIST_SIZE);
 const _: () = assert!(component_start(COMPONENT_LIMIT) == DEVICE_SIZE);
-const _: () = assert!(component_at::FLOOR == component_at::LENGTH + 4 && component_at::STAGED == component_at::FLOOR + 4 && LISTED_SIZE == component_at::STAGED);
+const _: () = assert!(component_at::LENGTH + 4 == component_at::FLOOR && component_at::FLOOR + 4 == component_at::STAGED);
+const _: () = assert!(component_at::STAGED == LISTED_SIZE);
 const _: () = assert!(device_at::OWED_TOKEN + 1 == device_at::PREVIOUS && device_at::PREVIOUS + LONG_SIZE == device_at::COMPONENTS);
 
 /// The previous packet outside of receiving.

@@ -57,9 +57,9 @@ bench-fits = record {
   slots = refl;
   each =
       all-fit (bench Idle .components) (
-        component-fits 1 0x01000200 0 64 Nothing (omega arith) (omega arith) (omega arith) (omega arith) tt,
+        component-fits 0 1 0x01000200 0 64 Nothing (omega arith) (omega arith) (omega arith) (omega arith) (omega arith) tt,
         (
-          component-fits 2 0x01000100 64 64 Nothing (omega arith) (omega arith) (omega arith) (omega arith) tt,
+          component-fits 0 2 0x01000100 64 64 Nothing (omega arith) (omega arith) (omega arith) (omega arith) (omega arith) tt,
           (blank-fits, (blank-fits, (blank-fits, (blank-fits, (blank-fits, tt))))),
         ),
       );

@@ -1,7 +1,7 @@
 -- The chain of seven, the mixed case, the need cycle, the blocks that arrive twice and the longest run of a host, by computation. Assumes nothing.
 use mathlib.Core.Path.{refl}
 use mathlib.Core.Bool.{true}
-use Prim.Native.Nat.{ℕ, _*_, _-_, _≤_}
+use Prim.Native.Nat.{ℕ, _*_, _-_, _^_, _≤_, _<_}
 use native.Mathlib.Omega.{arith}
 use lib.Dec.{eqb}
 use lib.ListN.{replicate}
@@ -19,11 +19,14 @@ use Rattle.update.proofs.Goodness.{bodies-good}
 use Rattle.update.proofs.Fitting.{blank-fits, all-fit, component-fits}
 use Rattle.wire.specs.Version.{versionOf}
 use Rattle.device_component.specs.declared.record.Staged.the-variants.{Pending}
-use Rattle.update.specs.Cases.{at100, image16, seven, chain, mixed, mixedBundle, ChainReaches, MixedDevice, MixedStaging, MixedRuns, CycleStops, quartered, RunsWith, DoubledRuns, BoundReached}
+use Rattle.update.specs.Cases.{floor100, at100, image16, seven, chain, mixed, mixedBundle, raised, raisedBundle, ChainReaches, MixedDevice, MixedStaging, MixedRuns, RaisedDevice, RaisedStaging, FloorRuns, CycleStops, quartered, RunsWith, DoubledRuns, BoundReached}
 
 -- a component of the cases
+floor100-fits : (floor id : ℕ) → floor < 256 ^ 4 → id ≤ COMPONENT-LIMIT → FitsComponent (floor100 floor id)
+floor100-fits floor id f h = component-fits floor id 16777216 (16 * (id - 1)) 16 Nothing f (omega arith) (omega arith) (omega arith) (omega arith) tt
+
 at100-fits : (id : ℕ) → id ≤ COMPONENT-LIMIT → FitsComponent (at100 id)
-at100-fits id h = component-fits id 16777216 (16 * (id - 1)) 16 Nothing (omega arith) (omega arith) (omega arith) (omega arith) tt
+at100-fits id h = floor100-fits 0 id (omega arith) h
 
 seven-fits : FitsDevice seven
 seven-fits = record {
@@ -59,7 +62,7 @@ mixed-fits = record {
       all-fit (mixed .components) (
         at100-fits 1 (omega arith),
         (
-          component-fits 2 16777216 16 16 (Pending (versionOf 1 1 0)) (omega arith) (omega arith) (omega arith) (omega arith) (omega arith),
+          component-fits 0 2 16777216 16 16 (Pending (versionOf 1 1 0)) (omega arith) (omega arith) (omega arith) (omega arith) (omega arith) (omega arith),
           (at100-fits 3 (omega arith), (at100-fits 4 (omega arith), (blank-fits, (blank-fits, (blank-fits, tt))))),
         ),
       );
@@ -113,6 +116,48 @@ mixed-staging = refl
 pub mixed-runs : MixedRuns
 unfolding computing image16
 mixed-runs = record { premise = mixed-premise; done = refl; says = refl; device = mixed-device; staging = mixed-staging }
+
+raised-fits : FitsDevice raised
+raised-fits = record {
+  platform = omega arith;
+  staging = omega arith;
+  count = omega arith;
+  slots = refl;
+  each =
+      all-fit (raised .components) (
+        floor100-fits 0x01000200 1 (omega arith) (omega arith),
+        (
+          at100-fits 2 (omega arith),
+          (floor100-fits 0x01000100 3 (omega arith) (omega arith), (blank-fits, (blank-fits, (blank-fits, (blank-fits, tt))))),
+        ),
+      );
+  session = idle-fits;
+}
+
+raised-premise : Premise raisedBundle 7 raised (replicate 48 0)
+unfolding computing image16
+raised-premise = record {
+  small = omega arith;
+  fits = raised-fits;
+  bytes = all-bytes (replicate 48 0) refl;
+  bundle = all-bytes raisedBundle refl;
+  d1 = refl;
+  d2 = refl;
+  accepted = refl;
+  good = bodies-good raisedBundle raised refl;
+}
+
+raised-device : RaisedDevice
+unfolding computing image16
+raised-device = refl
+
+raised-staging : RaisedStaging
+unfolding computing image16
+raised-staging = refl
+
+pub floor-runs : FloorRuns
+unfolding computing image16
+floor-runs = record { premise = raised-premise; done = refl; says = refl; device = raised-device; staging = raised-staging }
 
 -- each packet once
 none-twice : RunsWith once 0

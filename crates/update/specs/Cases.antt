@@ -128,7 +128,14 @@ raised = record {
 abbrev pub raisedBundle : List ℕ
 raisedBundle = bundleBytes (alone 1 ∷ needing 2 1 ∷ alone 3 ∷ [])
 
--- 1 is rejected with 0, so that 2 is skipped; only 3 lands
+-- only 3 lands
+abbrev pub RaisedDevice : Type 0
+RaisedDevice = map (λ c. isPending (c .staged)) (comes raisedBundle raised .device .components) ≡ false ∷ false ∷ true ∷ replicate (COMPONENT-LIMIT - 3) false
+
+abbrev pub RaisedStaging : Type 0
+RaisedStaging = comes raisedBundle raised .staging ≡ replicate 32 0 ++ image16 3
+
+-- 1 is rejected with 0, so that 2 is skipped
 pub record FloorRuns : Type 0 where
   pub premise : Premise raisedBundle 7 raised (replicate 48 0)
   pub done : comes raisedBundle raised .host .stage ≡ Ended Done
@@ -137,9 +144,8 @@ pub record FloorRuns : Type 0 where
       ∷ code 1 ∷ offered 1 OFFER-REJECT REJECT-OLD-FW ∷ offered 2 OFFER-SKIP 0 ∷ offered 3 OFFER-ACCEPT 0 ∷ block SUCCESS ∷ block SUCCESS ∷ code 2
       ∷ code 1 ∷ offered 1 OFFER-REJECT REJECT-OLD-FW ∷ offered 2 OFFER-SKIP 0 ∷ offered 3 OFFER-REJECT REJECT-SWAP-PENDING ∷ code 2
       ∷ []
-  pub device : comes raisedBundle raised .device .components
-      ≡ floor100 0x01000200 1 ∷ at100 2 ∷ withStaged (floor100 0x01000100 3) (versionOf 1 1 0) ∷ replicate (COMPONENT-LIMIT - 3) blankComponent
-  pub staging : comes raisedBundle raised .staging ≡ replicate 32 0 ++ image16 3
+  pub device : RaisedDevice
+  pub staging : RaisedStaging
 
 -- a need cycle alone: both offers are skipped, one pass, five packets, nothing staged
 abbrev pub cycle : List ℕ

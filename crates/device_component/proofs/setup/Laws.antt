@@ -143,8 +143,8 @@ module _ (n count : ℕ) (components components′ : List Component) (e : map se
   setup-same =
       ap₂ (verdict (badFloors (take count components))) (row (λ x. badId (x .id)) (λ x y. eqb (x .id) (y .id))) (row (λ x. badRegion n (x .region)) (λ x y. overlap (x .region) (y .region)))
       ∙ ap (λ (f : Bool). verdict f (badIds (take count components′)) (badRegions n (take count components′))) (single (λ x. badFloor (x .floor))) where
-    verdict : (f i r : Bool) → SetupVerdict
-    verdict f i r = firstOf ((stagingTooLong n, S1) ∷ (badCount count, S2) ∷ (i, S3) ∷ (r, S4) ∷ (f, S5) ∷ []) Fine
+        verdict : (f i r : Bool) → SetupVerdict
+        verdict f i r = firstOf ((stagingTooLong n, S1) ∷ (badCount count, S2) ∷ (i, S3) ∷ (r, S4) ∷ (f, S5) ∷ []) Fine
 
 -- a component that becomes pending keeps the verdict
 pub setup-staged : (n count : ℕ) (components : List Component) (slot : ℕ) (v : Version) → setupVerdict n count (set components slot (withStaged (componentAt components slot) v)) ≡ setupVerdict n count components

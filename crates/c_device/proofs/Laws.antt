@@ -12,7 +12,7 @@ use Rattle.wire.specs.Codes.{COMPONENT-LIMIT, LONG-SIZE}
 use Rattle.device_component.specs.Setup as setup
 use Rattle.device_component.specs.declared.record.Listed.{Listed}
 use Rattle.device_component.specs.declared.setup.SetupVerdict.{SetupVerdict}
-use Rattle.device_component.specs.declared.setup.SetupVerdict.the-variants.{Fine, S1, S2, S3, S4}
+use Rattle.device_component.specs.declared.setup.SetupVerdict.the-variants.{Fine, S1, S2, S3, S4, S5}
 use Rattle.device.specs.Refusals.{numberOf, rowOf, keptBy}
 use Rattle.device.specs.Entries.{setUpOf, versionEntry, resetEntry}
 use Rattle.device.specs.declared.answer.Refusal.{Refusal}
@@ -43,6 +43,7 @@ made-by S1 before d e = rw e
 made-by S2 before d e = rw e
 made-by S3 before d e = rw e
 made-by S4 before d e = rw e
+made-by S5 before d e = rw e
 
 kept-by : (r : Refusal) (before after : List ℕ) {n : ℕ} → n ≡ deviceNumber (rowOf r) → cond (eqb n 0) after before ≡ keptBy (rowOf r) before after
 kept-by Served before after e = rw e

@@ -94,10 +94,30 @@ pub fn component_bytes(c: Component) -> [u8; COMPONENT_SIZE]
     let l = listed_bytes(Listed { fixed, running });
     let staged = c.staged;
     let s = staged_bytes(staged);
-    let mut b = [0u8; COMPONENT_SIZE];
-    words::copy(&mut b[0..LISTED_SIZE], &l);
-    words::copy(&mut b[STAGED_AT..COMPONENT_SIZE], &s);
-    b
+    [
+        l[0],
+        l[1],
+        l[2],
+        l[3],
+        l[4],
+        l[5],
+        l[6],
+        l[7],
+        l[8],
+        l[9],
+        l[10],
+        l[11],
+        l[12],
+        l[13],
+        l[14],
+        l[15],
+        l[16],
+        s[0],
+        s[1],
+        s[2],
+        s[3],
+        s[4],
+    ]
 }
 
 // What is fixed of a component.

@@ -1,11 +1,11 @@
--- `fixed_in` meets its contract: its id and its region. Assumes nothing.
+-- `fixed_in` meets its contract: its id, its region and its floor. Assumes nothing.
 use borrow.Author.Needs.{needs}
 use Rattle.device_component_bytes.proofs.fixed_in.Statement.{statement}
 use Rattle.device_component_bytes.proofs.fixed_in.Tie as tie
 
 returns : tie.Need-returns
 returns c =
-    rw (c .byte-at .ensures, c .before .word32-at2 .ensures, c .before .before .new .ensures, c .before .before .before .word32-at .ensures)
+    rw (c .read-at .ensures, c .before .byte-at .ensures, c .before .before .word32-at2 .ensures, c .before .before .before .new .ensures, c .before .before .before .before .word32-at .ensures)
 
 pub fixed-in-spec : {M : Type 1} → statement M
 fixed-in-spec =
@@ -16,5 +16,7 @@ fixed-in-spec =
     (λ c κs. search needs)
     (λ c. search needs)
     (λ c κs. search needs)
+    (λ c κs. search needs)
+    (λ c. search needs)
     (λ c κs. search needs)
     returns)

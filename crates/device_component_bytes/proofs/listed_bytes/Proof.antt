@@ -6,8 +6,10 @@ use Rattle.device_component_bytes.proofs.listed_bytes.Tie as tie
 
 returns : tie.Need-returns
 returns c =
-    let base = rw (c .before .before .number .ensures) at (c .before .bytes32 .ensures) in
-    listed-of (c .before .before .before .before .before .args .l) _ _ _ (c .before .before .before .bytes .ensures) base (c .bytes322 .ensures)
+    let words = c .before .before in
+    let base = rw (words .before .before .number .ensures) at (words .before .bytes32 .ensures) in
+    let version = words .before .before .before in
+    listed-of (version .before .before .args .l) _ _ _ _ (version .bytes .ensures) base (words .bytes322 .ensures) (c .bytes2 .ensures)
 
 pub listed-bytes-spec : {M : Type 1} → statement M
 listed-bytes-spec =
@@ -17,6 +19,11 @@ listed-bytes-spec =
     (λ c κs. search needs)
     (λ c κs. search needs)
     (λ c κs. search needs)
+    (λ c κs. search needs)
+    (λ c. search needs)
+    (λ c. search needs)
+    (λ c. search needs)
+    (λ c. search needs)
     (λ c. search needs)
     (λ c. search needs)
     (λ c. search needs)

@@ -350,7 +350,7 @@ typedef struct cfu_report {
 } cfu_report;
 
 /* A component of the list that set-up takes: id, running version, the region's base and length, and the floor, the lowest version that the component takes,
- * which may stand above the running one. It counts by major and minor, so that its variant is 0; zero is no floor. */
+ * which may stand above the running one. It counts by major and minor, so its variant must be 0 (S5); zero is no floor. */
 typedef struct cfu_listed {
     uint8_t id;
     cfu_version running;
@@ -410,7 +410,8 @@ uint32_t cfu_list_put(uint8_t *list, size_t list_len, uint32_t place, cfu_listed
  * Makes the record of a device that is idle, with nothing staged and nothing owed. list: CFU_COMPONENT_LIMIT times id (1), running version (4), region base
  * (4), region length (4), floor (4), CFU_LIST_SIZE bytes, of which the first `count` are used; all are copied into the record. Of the staging buffer, plain
  * memory, only the length counts, which later calls must lend again. Returns CFU_SERVED, C1 (device), C2 (list) or S1 to S5. A refusal leaves the record as it
- * was. No later call changes a floor: to raise one, reset the device and set it up anew.
+ * was. No call but this one changes a floor: to raise one, reset the device and set it
+ * up anew.
  */
 uint32_t cfu_device_set_up(uint8_t *device, size_t device_len, uint16_t platform, const uint8_t *list, size_t list_len, uint8_t count,
                            const uint8_t *staging, size_t staging_len);

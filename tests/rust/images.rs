@@ -1,5 +1,5 @@
 //! The CRC, a region of the staging buffer, the image in it, a component's versions, and set-up: document 01, "The device", rows S1 to S4, and the
-//! addresses of E8 and E9; document 02, A1 and A2. Written from these documents.
+//! addresses of E8 and E9; document 02, A1 and A2. Written from these documents. The components have no floor; floors.rs has those.
 use cfu_updater::device_component::record::{Component, Fixed, Listed};
 use cfu_updater::device_component::setup::{setup_verdict, SetupVerdict};
 use cfu_updater::crc16::crc16;
@@ -29,7 +29,7 @@ fn image(size: usize, version: Version, id: u8) -> Vec<u8> {
 /// A component as set-up makes it.
 fn component(id: u8, running: Version, region: Region) -> Component {
     Component::listed(Listed {
-        fixed: Fixed { id, region },
+        fixed: Fixed { id, region, floor: Version::new(0, 0, 0) },
         running,
     })
 }
@@ -175,16 +175,16 @@ fn versions_against_the_running_one() {
     let lower = [Version::new(1, 1, 7), Version::new(0, 65535, 7), Version::new(0, 0, 7)];
     let greater = [Version::new(1, 3, 7), Version::new(2, 0, 7), Version::new(255, 65535, 7)];
     for v in lower {
-        assert!(!c.is_wrong_variant(v) && c.is_old(v));
+        assert!(!c.is_wrong_variant(v) && c.is_too_low(v));
         assert!(!c.image_version_fits(v));
         assert!(!c.with_staged(v).keeps_staged());
     }
     for v in greater {
-        assert!(!c.is_wrong_variant(v) && !c.is_old(v));
+        assert!(!c.is_wrong_variant(v) && !c.is_too_low(v));
         assert!(c.image_version_fits(v));
         assert!(c.with_staged(v).keeps_staged());
     }
-    assert!(!c.is_wrong_variant(c.running) && c.is_old(c.running));
+    assert!(!c.is_wrong_variant(c.running) && c.is_too_low(c.running));
     assert!(c.image_version_fits(c.running));
     assert!(c.with_staged(c.running).keeps_staged());
     assert!(c.keeps_staged());
@@ -198,7 +198,7 @@ fn another_variant_than_the_running_one() {
         for (major, minor, old) in [(1, 1, true), (1, 2, true), (1, 3, false), (2, 0, false), (0, 65535, true)] {
             let v = Version::new(major, minor, variant);
             assert!(c.is_wrong_variant(v));
-            assert_eq!(c.is_old(v), old);
+            assert_eq!(c.is_too_low(v), old);
             assert!(!c.image_version_fits(v));
             assert!(!c.with_staged(v).keeps_staged());
         }

@@ -66,7 +66,7 @@ fn region(base: u32, len: u32) -> Region {
 /// Two components, 1 at 1.2.0 and 2 at 1.1.0, with these regions.
 fn listed(one: Region, two: Region) -> [Listed; COMPONENT_LIMIT] {
     let component = |id, minor, region| Listed {
-        fixed: Fixed { id, region },
+        fixed: Fixed { id, region, floor: Version::new(1, 0, 0) },
         running: Version::new(1, minor, 0),
     };
     let mut list = [component(0, 0, region(0, 0)); COMPONENT_LIMIT];

@@ -64,7 +64,8 @@ listedOne = record { id = 1; running = minorOne 2; base = 0; length = 64; floor 
 abbrev pub listedTwo : CListed
 listedTwo = record { id = 2; running = minorOne 1; base = 64; length = 64; floor = noVersion }
 
--- the first with a floor of 1.5.variant, by its numbers and as bytes, alone in a list; and the record that set-up makes of it, with floor 1.5.0 (document 02, A5)
+-- the first with floor 1.5.0, by its numbers; with floor 1.5.variant, as bytes of the list; and the record that set-up makes of the list with it alone, with floor
+-- 1.5.0 (document 02, A5)
 abbrev pub listedRaised : CListed
 listedRaised = record { id = 1; running = minorOne 2; base = 0; length = 64; floor = minorOne 5 }
 

@@ -1,15 +1,15 @@
 -- What is below a floor: an offer is rejected with 0, an image is answered with 0x07, and a record is refused by D1. Assumes nothing.
-use mathlib.Core.Path.{_≡_, refl, sym, ap, subst, _∙_}
+use mathlib.Core.Path.{_≡_, refl, sym, ap, _∙_}
 use mathlib.Core.Bool.{Bool, true, false, not, _||_, _&&_, true≢false}
-use mathlib.Core.List.{List}
+use mathlib.Core.List.{List, _∷_, map}
 use mathlib.Core.Logic.{_⊎_, inl, inr}
 use Prim.Native.Nat.{ℕ}
-use borrow.Author.Tests.{eq-eqb, not-false}
+use borrow.Author.Tests.{eq-eqb, eqb-true, not-false}
 use lib.Dec.{leb}
-use lib.ListN.{length}
+use lib.ListN.{length, take}
 use Rattle.wire.specs.Checks.{firstOf}
-use Rattle.wire.specs.Codes.{SHORT-SIZE, LONG-SIZE, ERROR-VERSION}
-use Rattle.wire.specs.Version.{releaseOf}
+use Rattle.wire.specs.Codes.{SHORT-SIZE, ERROR-VERSION}
+use Rattle.wire.specs.Version.{variantOf, releaseOf}
 use Rattle.wire.specs.declared.version.Version.{Version}
 use Rattle.wire.proofs.Tests.{both}
 use Rattle.wire_offer.specs.Kind.{offer, kindIn}
@@ -19,16 +19,20 @@ use Rattle.wire_content.specs.Reply as contentReply
 use Rattle.image.specs.Region.{regionBytes}
 use Rattle.image.specs.Judge.{imageIn}
 use Rattle.image.specs.declared.judge.Image.the-variants.{Bears}
-use Rattle.device_component.specs.Setup.{badFloor}
+use Rattle.device_component.specs.Record.{listed}
+use Rattle.device_component.specs.Lists.{componentAt}
+use Rattle.device_component.specs.Setup as setup
+use Rattle.device_component.specs.Setup.{stagingTooLong, badCount, badIds, badRegions, badFloor, badFloors, setupVerdict}
 use Rattle.device_component.specs.Versions.{wrongVariant, isOld, belowFloor, tooLow, imageVersionFits, stagedVersionFits, keepsStaged}
 use Rattle.device_component.specs.declared.record.Component.{Component}
+use Rattle.device_component.specs.declared.record.Listed.{Listed}
 use Rattle.device_component.specs.declared.record.Staged.the-variants.{Pending}
 use Rattle.device_component.proofs.setup.Laws.{fine-floors}
 use Rattle.device_session.specs.Stage.{atSlot}
 use Rattle.device_session.proofs.sound.Laws.{passes, setup-fine}
 use Rattle.device_offering.specs.Offer.{offerVerdict, onOffer}
 use Rattle.device_receiving.specs.Content.{isLast, isCopy}
-use Rattle.device_receiving.specs.Finish.{judge, finish}
+use Rattle.device_receiving.specs.Finish.{finish}
 use Rattle.device_receiving.specs.Receive.{onBlock, written}
 use Rattle.device_receiving.specs.declared.checks.ContentVerdict.the-variants.{Take}
 use Rattle.device_receiving.proofs.checks.Laws.{ContentSays, content-says}
@@ -36,12 +40,12 @@ use Rattle.device_receiving.proofs.content.Laws.{kept}
 use Rattle.device.specs.declared.record.Device.{Device}
 use Rattle.device.specs.declared.answer.Channel.{Channel}
 use Rattle.device.specs.declared.answer.Channel.the-variants.{Offer, Content}
-use Rattle.device.specs.Record.{component, toIdle}
-use Rattle.device.specs.Refusals.{served, D, breaksD1, refusalOf, refusedBy}
+use Rattle.device.specs.Record.{component, toIdle, blankDevice}
+use Rattle.device.specs.Refusals.{served, D, breaksD1, refusalOf, refusedBy, readySent}
 use Rattle.device.specs.Offer.{onKind, offerEntry}
 use Rattle.device.specs.Content.{sessionComponent, contentVerdict, contentEntry, contentStaging}
-use Rattle.device.specs.Entries.{versionEntry, resetEntry, serveEntry}
-use Rattle.device.specs.Floors.{onlyRejects, ComesToSeven, FloorBroken, FloorJudged}
+use Rattle.device.specs.Entries.{setUpOf, versionEntry, resetEntry, serveEntry}
+use Rattle.device.specs.Floors.{onlyRejects, ComesToSeven, HasVariant, FloorBroken, FloorJudged}
 use Rattle.device.proofs.Answers.{served-row, content-served}
 use Rattle.device.proofs.Lists.{none-below}
 
@@ -70,7 +74,7 @@ offers d n report o k e x p b =
 images : (d : Device) (staging report : List ℕ) (k : ℕ) (v : Version) → contentEntry d staging report .row ≡ served → contentVerdict d report ≡ Take k
     → isLast (headIn report) ≡ true → imageIn (regionBytes (component d k .fixed .region) (contentStaging d staging report)) (component d k .fixed .id) ≡ Bears v
     → belowFloor (component d k) v ≡ true
-    → (contentEntry d staging report .replies .reply ≡ contentReply.replyBytes (record { sequence = headIn report .sequence; status = ERROR-VERSION }))
+    → (contentEntry d staging report .sent ≡ contentReply.replyBytes (record { sequence = headIn report .sequence; status = ERROR-VERSION }) ∷ readySent (d .session .owed))
     × (contentEntry d staging report .device ≡ toIdle d)
 unfolding contentEntry contentStaging onBlock finish
 images d staging report k v e t l m b =
@@ -83,20 +87,38 @@ images d staging report k v e t l m b =
     = rw (r, t, at) at m in
     (rw (r, t, l, at, image, unfit), rw (r, t, l, at, image, unfit, kept (d .components) k))
 
+-- a floor that is not bad has variant 0
+plain : (floor : Version) → badFloor floor ≡ false → variantOf floor ≡ 0
+plain floor e = eqb-true (variantOf floor) 0 (not-false _ e)
+
+-- set-up
+set-up : (platform : ℕ) (list : List Listed) (count n : ℕ) → stagingTooLong n ≡ false → badCount count ≡ false → badIds (take count (map listed list)) ≡ false
+    → badRegions n (take count (map listed list)) ≡ false → HasVariant count (map listed list)
+    → setUpOf platform list count n ≡ record { row = setup.S 5; device = blankDevice }
+unfolding setUpOf setupVerdict firstOf
+set-up platform list count n one two three four f = go (badFloors (take count (map listed list))) refl
+  where
+    go : (b : Bool) → badFloors (take count (map listed list)) ≡ b → setUpOf platform list count n ≡ record { row = setup.S 5; device = blankDevice }
+    go true e = rw (one, two, three, four, e)
+    go false e =
+        absurd (f .variant (plain (componentAt (map listed list) (f .slot) .fixed .floor)
+        (none-below (λ c. badFloor (c .fixed .floor)) count (map listed list) (f .slot) refl (f .listed) e)))
+
 -- D1 leaves no floor broken
 module _ (d : Device) (f : FloorBroken d) where
   module _ (e : breaksD1 d ≡ false) where
-    floors : badFloor (component d (f .slot) .fixed .floor) ≡ false
+    floors : variantOf (component d (f .slot) .fixed .floor) ≡ 0
     floors =
-        none-below (λ c. badFloor (c .fixed .floor)) (d .count) (d .components) (f .slot) refl (f .listed)
-        (fine-floors (d .«staging_len») (d .count) (d .components) (setup-fine (passes e)))
+        plain (component d (f .slot) .fixed .floor)
+        (none-below (λ c. badFloor (c .fixed .floor)) (d .count) (d .components) (f .slot) refl (f .listed)
+        (fine-floors (d .«staging_len») (d .count) (d .components) (setup-fine (passes e))))
 
     fits : not (keepsStaged (component d (f .slot)) (component d (f .slot) .staged)) ≡ false
     fits = none-below (λ c. not (keepsStaged c (c .staged))) (d .count) (d .components) (f .slot) refl (f .listed) (passes e .staged)
 
-    whole : (badFloor (component d (f .slot) .fixed .floor) ≡ true)
+    whole : (variantOf (component d (f .slot) .fixed .floor) ≡ 0 → ⊥)
         ⊎ ((v : Version) × (component d (f .slot) .staged ≡ Pending v) × (belowFloor (component d (f .slot)) v ≡ true)) → ⊥
-    whole (inl b) = true≢false (sym b ∙ floors)
+    whole (inl b) = b floors
     whole (inr s) =
         let w : stagedVersionFits (component d (f .slot)) (s .0) ≡ true = not-false _ (rw (s .1) at fits) in
         let x : not (belowFloor (component d (f .slot)) (s .0)) ≡ true = both (follows (component d (f .slot)) (s .0)) (not (belowFloor (component d (f .slot)) (s .0))) w .1 in
@@ -111,7 +133,7 @@ module _ (d : Device) (f : FloorBroken d) where
 
 pub floor-judged : FloorJudged
 unfolding serveEntry offerEntry contentEntry versionEntry resetEntry refusalOf firstOf
-floor-judged = record { offers = offers; images = images; packets = packets; versions = λ d f. rw (breaks d f); reset = λ d f. rw (breaks d f) }
+floor-judged = record { setUp = set-up; offers = offers; images = images; packets = packets; versions = λ d f. rw (breaks d f); reset = λ d f. rw (breaks d f) }
   where
     packets : (d : Device) (channel : Channel) (staging report : List ℕ) → FloorBroken d → serveEntry d channel staging report ≡ refusedBy (D 1) d
     packets d Offer staging report f = rw (breaks d f)

@@ -5,9 +5,9 @@ use mathlib.Core.Path.{_≡_}
 use mathlib.Core.Bool.{true, false}
 use mathlib.Core.List.{List, [], _∷_, map}
 use mathlib.Core.Logic.{_⊎_}
-use lib.ListN.{length, replicate}
+use lib.ListN.{length, take, replicate}
 use Rattle.wire.specs.Codes.{PROTOCOL, OFFER-REJECT, REJECT-OLD-FW, ERROR-VERSION}
-use Rattle.wire.specs.Version.{releaseOf}
+use Rattle.wire.specs.Version.{variantOf, releaseOf}
 use Rattle.wire.specs.declared.version.Version.{Version}
 use Rattle.wire_version.specs.Reply.{REPLY-SIZE}
 use Rattle.wire_offer.specs.Kind.{offer, kindIn}
@@ -21,7 +21,7 @@ use Rattle.image.specs.declared.judge.Image.the-variants.{Bears}
 use Rattle.device_component.specs.Record.{listed}
 use Rattle.device_component.specs.Lists.{componentAt}
 use Rattle.device_component.specs.Setup as setup
-use Rattle.device_component.specs.Setup.{badFloor}
+use Rattle.device_component.specs.Setup.{stagingTooLong, badCount, badIds, badRegions}
 use Rattle.device_component.specs.Versions.{wrongVariant, belowFloor}
 use Rattle.device_component.specs.declared.record.Component.{Component}
 use Rattle.device_component.specs.declared.record.Listed.{Listed}
@@ -34,8 +34,8 @@ use Rattle.device_receiving.specs.Content.{isLast}
 use Rattle.device_receiving.specs.declared.checks.ContentVerdict.the-variants.{Take}
 use Rattle.device.specs.declared.record.Device.{Device}
 use Rattle.device.specs.declared.answer.Channel.{Channel}
-use Rattle.device.specs.Record.{find, component, toIdle}
-use Rattle.device.specs.Refusals.{D, Outcome, served, refusedBy}
+use Rattle.device.specs.Record.{find, component, toIdle, blankDevice}
+use Rattle.device.specs.Refusals.{D, Outcome, served, refusedBy, readySent}
 use Rattle.device.specs.Offer.{offerEntry}
 use Rattle.device.specs.Content.{contentVerdict, contentEntry, contentStaging}
 use Rattle.device.specs.Entries.{setUpOf, versionEntry, resetEntry, serveEntry}
@@ -60,22 +60,32 @@ pub record ComesToSeven (d : Device) (o : OfferFields) (k : ℕ) : Type 0 where
   pub free : component d k .staged ≡ Nothing
   pub variant : wrongVariant (component d k) (o .version) ≡ false
 
--- a record with a listed component whose floor has a variant other than 0, or that is pending with a version below its floor
+-- one of the first `count` components has a floor with a variant other than 0
+pub record HasVariant (count : ℕ) (components : List Component) : Type 0 where
+  pub slot : ℕ
+  pub listed : slot < count
+  pub variant : variantOf (componentAt components slot .fixed .floor) ≡ 0 → ⊥
+
+-- a record with a listed component whose floor has such a variant, or that is pending with a version below its floor
 pub record FloorBroken (d : Device) : Type 0 where
   pub slot : ℕ
   pub listed : slot < d .count
-  pub broken : (badFloor (component d slot .fixed .floor) ≡ true)
+  pub broken : (variantOf (component d slot .fixed .floor) ≡ 0 → ⊥)
       ⊎ ((v : Version) × (component d slot .staged ≡ Pending v) × (belowFloor (component d slot) v ≡ true))
 
--- below the floor: an offer that comes as far as check 7 is rejected with 0, whatever its need is; an image that a last block completes, with a right CRC and its
--- component's id, is answered with 0x07, and the device is idle with the components that it had; and every entry refuses by D1 a record whose floor is broken
+-- a list that S1 to S4 let pass and that has a floor with a variant is refused by S5. Below the floor: an offer that comes as far as check 7 is rejected with 0,
+-- whatever its need is; an image that a last block completes, with a right CRC and its component's id, is answered with 0x07, then with the READY that was owed, and the
+-- device is idle with the components that it had; and every entry refuses by D1 a record whose floor is broken
 pub record FloorJudged : Type 0 where
+  pub setUp : (platform : ℕ) (list : List Listed) (count n : ℕ) → stagingTooLong n ≡ false → badCount count ≡ false → badIds (take count (map listed list)) ≡ false
+      → badRegions n (take count (map listed list)) ≡ false → HasVariant count (map listed list)
+      → setUpOf platform list count n ≡ record { row = setup.S 5; device = blankDevice }
   pub offers : (d : Device) (n : ℕ) (report : List ℕ) (o : OfferFields) (k : ℕ) → offerEntry d n report .row ≡ served → kindIn report ≡ offer o
       → ComesToSeven d o k → belowFloor (component d k) (o .version) ≡ true → offerEntry d n report ≡ onlyRejects d (o .token)
   pub images : (d : Device) (staging report : List ℕ) (k : ℕ) (v : Version) → contentEntry d staging report .row ≡ served → contentVerdict d report ≡ Take k
       → isLast (headIn report) ≡ true → imageIn (regionBytes (component d k .fixed .region) (contentStaging d staging report)) (component d k .fixed .id) ≡ Bears v
       → belowFloor (component d k) v ≡ true
-      → (contentEntry d staging report .replies .reply ≡ contentReply.replyBytes (record { sequence = headIn report .sequence; status = ERROR-VERSION }))
+      → (contentEntry d staging report .sent ≡ contentReply.replyBytes (record { sequence = headIn report .sequence; status = ERROR-VERSION }) ∷ readySent (d .session .owed))
       × (contentEntry d staging report .device ≡ toIdle d)
   pub packets : (d : Device) (channel : Channel) (staging report : List ℕ) → FloorBroken d → serveEntry d channel staging report ≡ refusedBy (D 1) d
   pub versions : (d : Device) → FloorBroken d → versionEntry d ≡ record { row = D 1; packet = replicate REPLY-SIZE 0 }

@@ -1,4 +1,4 @@
-// Set-up (document 01, rows S1 to S4): a device that is idle, with nothing staged and nothing owed.
+// Set-up (documents 01 and 02, rows S1 to S5): a device that is idle, with nothing staged and nothing owed.
 use crate::answer::SetupAnswer;
 use crate::record::Device;
 use device_component::record::Listed;

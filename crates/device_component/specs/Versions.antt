@@ -3,6 +3,7 @@
 -- may stand above the running version). Each is given the whole record, and none looks at its `staged`.
 use Prim.Native.Nat.{_≤_, _<_}
 use mathlib.Core.Path.{_≡_}
+use mathlib.Core.Logic.{_↔_}
 use mathlib.Core.Bool.{Bool, true, not, _||_, _&&_}
 use lib.Dec.{ltb, leb, eqb}
 use Rattle.wire.specs.Version.{variantOf, releaseOf}
@@ -49,9 +50,10 @@ abbrev pub keepsStaged : Component → Staged → Bool
 keepsStaged c Nothing = true
 keepsStaged c (Pending v) = stagedVersionFits c v
 
--- how the rules follow from each other: what an offer may bring, an image may; what an image may bring, may be staged; an offer that fits is of a later release
+-- below the floor is a lower release than the floor's; and how the rules follow from each other: what an offer may bring, an image may; what an image may bring, may be staged; an offer that fits is of a later release
 -- than the running one, and nothing that fits is of a release below the floor's; and none of them looks at what is staged
 pub record VersionsFollow : Type 0 where
+  pub below : (c : Component) (v : Version) → (belowFloor c v ≡ true) ↔ (releaseOf v < releaseOf (c .fixed .floor))
   pub offerImage : (c : Component) (v : Version) → offerVersionFits c v ≡ true → imageVersionFits c v ≡ true
   pub imageStaged : (c : Component) (v : Version) → imageVersionFits c v ≡ true → stagedVersionFits c v ≡ true
   pub offerLater : (c : Component) (v : Version) → offerVersionFits c v ≡ true → releaseOf (c .running) < releaseOf v

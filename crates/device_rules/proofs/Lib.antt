@@ -1,5 +1,6 @@
 pub mod Same
 pub mod InForce
+pub mod Alike
 pub mod Variants
 pub mod Sequences
 pub mod Floors

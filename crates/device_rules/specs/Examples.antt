@@ -151,7 +151,7 @@ sendingRaised rules minor high low =
 abbrev pub resettingRaised : Rules → (minor : ℕ) → Reset
 resettingRaised rules minor = resetBy rules (deviceOf (withStaged raised (versionOf 1 minor 0)) idle)
 
--- a list of these two components, with a floor, and with a floor and a region that is too short
+-- a list of two components with these floors, of which the second has a region of `len` bytes behind the first one's 8
 abbrev pub listedWith : (floor len other : ℕ) → List Listed
 listedWith floor len other =
     record { fixed = floored floor 1 0x01000200 0 8 .fixed; running = versionOf 1 2 0 }
@@ -163,22 +163,27 @@ abbrev pub settingUp : Rules → (count floor len other : ℕ) → setup.Row
 settingUp rules count floor len other = setUpBy rules 0x0042 (listedWith floor len other) count 16 .row
 
 -- just below the floor, at 1.4.0: without A5 it is accepted, staged and started; in force it is rejected with 0, or with 0xE2 where its variant is another, its image is
--- answered with 0x07 and not staged, and the record with it is refused by D1. At the floor, at 1.5.0, it is accepted, staged and started, and the floor stays. A floor
--- with a variant is refused by S5, in every slot that is in use, after S4, and makes D1; a floor above the running version does not
+-- answered with 0x07 and not staged, and the record with it is refused by D1. At the floor, at 1.5.0, and above it, at 1.6.0, it is accepted and staged, and what is
+-- staged is started by a reset, and the floor stays. A floor with a variant, 1 or 0x80, in the first slot or the second, is refused by S5, after S4, unless its slot is not
+-- in use, and makes D1; a floor above the running version does not
 pub record A5Differs : Type 0 where
   pub offeredBefore : (offeringRaised withoutA5 4 0 .sent ≡ answer 0 OFFER-ACCEPT) × (offeringRaised withoutA5 4 0 .device ≡ deviceOf raised (inStage idle forOne blankPacket))
   pub offered : (offeringRaised inForce 4 0 .sent ≡ answer REJECT-OLD-FW OFFER-REJECT) × (offeringRaised inForce 4 0 .device ≡ deviceOf raised idle)
   pub variant : (offeringRaised inForce 4 1 .sent ≡ answer REJECT-WRONG-VARIANT OFFER-REJECT) × (offeringRaised inForce 4 1 .device ≡ deviceOf raised idle)
   pub offeredFloor : (offeringRaised inForce 5 0 .sent ≡ answer 0 OFFER-ACCEPT) × (offeringRaised inForce 5 0 .device ≡ deviceOf raised (inStage idle forOne blankPacket))
+  pub offeredAbove : (offeringRaised inForce 6 0 .sent ≡ answer 0 OFFER-ACCEPT) × (offeringRaised inForce 6 0 .device ≡ deviceOf raised (inStage idle forOne blankPacket))
   pub imageBefore : (sendingRaised withoutA5 4 0x8D 0x07 .sent ≡ status SUCCESS) × (sendingRaised withoutA5 4 0x8D 0x07 .device ≡ deviceOf (withStaged raised (versionOf 1 4 0)) idle)
   pub image : (sendingRaised inForce 4 0x8D 0x07 .sent ≡ status ERROR-VERSION) × (sendingRaised inForce 4 0x8D 0x07 .device ≡ deviceOf raised idle)
   pub imageFloor : (sendingRaised inForce 5 0x27 0x56 .sent ≡ status SUCCESS) × (sendingRaised inForce 5 0x27 0x56 .device ≡ deviceOf (withStaged raised (versionOf 1 5 0)) idle)
+  pub imageAbove : (sendingRaised inForce 6 0xC9 0x84 .sent ≡ status SUCCESS) × (sendingRaised inForce 6 0xC9 0x84 .device ≡ deviceOf (withStaged raised (versionOf 1 6 0)) idle)
   pub stagedBefore : resettingRaised withoutA5 4 ≡ record { row = served; device = deviceOf (floored 0x01000500 1 0x01000400 0 8) idle }
   pub staged : resettingRaised inForce 4 ≡ record { row = D 1; device = deviceOf (withStaged raised (versionOf 1 4 0)) idle }
   pub stagedFloor : resettingRaised inForce 5 ≡ record { row = served; device = deviceOf (floored 0x01000500 1 0x01000500 0 8) idle }
+  pub stagedAbove : resettingRaised inForce 6 ≡ record { row = served; device = deviceOf (floored 0x01000500 1 0x01000600 0 8) idle }
   pub setUpBefore : settingUp withoutA5 2 0 8 0x01000501 ≡ setup.served
   pub setUp : settingUp inForce 2 0 8 0x01000501 ≡ setup.S 5
+  pub setUpFirst : settingUp inForce 2 0x01000580 8 0 ≡ setup.S 5
   pub setUpOrder : settingUp inForce 2 0x01000501 7 0 ≡ setup.S 4
   pub setUpUnused : settingUp inForce 1 0 8 0x01000501 ≡ setup.served
   pub setUpFloor : settingUp inForce 2 0x01000500 8 0 ≡ setup.served
-  pub judged : resetBy inForce (deviceOf (floored 0x01000501 1 0x01000200 0 8) idle) .row ≡ D 1
+  pub judged : resetBy inForce (deviceOf (floored 0x01000580 1 0x01000200 0 8) idle) .row ≡ D 1

@@ -1,12 +1,12 @@
 -- What document 02 leaves as it is: where versions have the variant that their component runs, every call answers as by document 01's rules on versions, with the
 -- floors beside them (A1); every call on a record that D1's new clause lets pass, but a block sent again, answers as by document 01's rules on sequences (A4); and
 -- where every floor is 0, set-up and every call answer as without floors (A5).
-use Prim.Native.Nat.{ℕ, _<_}
+use Prim.Native.Nat.{ℕ, _≤_, _<_}
 use mathlib.Core.Path.{_≡_}
 use mathlib.Core.Bool.{true, false}
 use mathlib.Core.List.{List, map}
 use Rattle.wire.specs.Codes.{SUCCESS, ERROR-INVALID}
-use Rattle.wire.specs.Version.{variantOf}
+use Rattle.wire.specs.Version.{variantOf, releaseOf}
 use Rattle.wire.specs.declared.version.Version.{Version}
 use Rattle.wire_offer.specs.Kind.{offer, kindIn}
 use Rattle.wire_offer.specs.declared.offer.OfferFields.{OfferFields}
@@ -42,19 +42,26 @@ pub record RulesInForceAnswer : Type 0 where
 abbrev pub OneVariant : Component → Version → Type 0
 OneVariant c v = variantOf v ≡ variantOf (c .running)
 
--- what is staged of each listed component has the variant of its running version
-abbrev pub StagedOne : Device → Type 0
-StagedOne d = (k : ℕ) (v : Version) → k < d .count → component d k .staged ≡ Pending v → OneVariant (component d k) v
+-- P holds of what is staged of each listed component
+abbrev pub AllStaged : (P : Component → Version → Type 0) → Device → Type 0
+AllStaged P d = (k : ℕ) (v : Version) → k < d .count → component d k .staged ≡ Pending v → P (component d k) v
 
--- what a call brings to a component has the variant of its running version: the version of an offer for a listed component; and that of an image, with a right
--- CRC and the component's id, which a last block, where it is taken, leaves in the region of the session's component
-abbrev pub BroughtOne : Device → (staging : List ℕ) → Call → Type 0
-BroughtOne d staging (packet Offer report) = (o : OfferFields) (k : ℕ) → kindIn report ≡ offer o → find d (o .id) ≡ At k → OneVariant (component d k) (o .version)
-BroughtOne d staging (packet Content report) = (k : ℕ) (v : Version) → contentEntry d staging report .row ≡ served → contentVerdict d report ≡ Take k
+-- P holds of what a call brings to a component: the version of an offer for a listed component; and that of an image, with a right CRC and the component's id,
+-- which a last block, where it is taken, leaves in the region of the session's component
+abbrev pub Brings : (P : Component → Version → Type 0) → Device → (staging : List ℕ) → Call → Type 0
+Brings P d staging (packet Offer report) = (o : OfferFields) (k : ℕ) → kindIn report ≡ offer o → find d (o .id) ≡ At k → P (component d k) (o .version)
+Brings P d staging (packet Content report) = (k : ℕ) (v : Version) → contentEntry d staging report .row ≡ served → contentVerdict d report ≡ Take k
     → isLast (headIn report) ≡ true
-    → imageIn (regionBytes (component d k .fixed .region) (contentStaging d staging report)) (component d k .fixed .id) ≡ Bears v → OneVariant (component d k) v
-BroughtOne d staging versions = Unit {0}
-BroughtOne d staging reset = Unit {0}
+    → imageIn (regionBytes (component d k .fixed .region) (contentStaging d staging report)) (component d k .fixed .id) ≡ Bears v → P (component d k) v
+Brings P d staging versions = Unit {0}
+Brings P d staging reset = Unit {0}
+
+-- what is staged, and what a call brings, has the variant of its component's running version
+abbrev pub StagedOne : Device → Type 0
+StagedOne d = AllStaged OneVariant d
+
+abbrev pub BroughtOne : Device → (staging : List ℕ) → Call → Type 0
+BroughtOne d staging call = Brings OneVariant d staging call
 
 -- A1 changes nothing where what is staged and what a call brings have the running variant, each of its own component: the same row, the same replies, the same
 -- record and the same bytes, of served and of refused calls
@@ -83,12 +90,27 @@ NoCopyAsBefore = (d : Device) (staging : List ℕ) (call : Call) → holdsWrong 
 abbrev pub CopyWasInvalid : Type 0
 CopyWasInvalid = (d : Device) (report : List ℕ) → contentVerdict d report ≡ Answer SUCCESS → verdictOnBy withoutA4 d report ≡ Answer ERROR-INVALID
 
+-- the floors of the first `count` components have variant 0, as S5 asks
+abbrev pub FloorsPlain : (count : ℕ) → List Component → Type 0
+FloorsPlain count components = (k : ℕ) → k < count → variantOf (componentAt components k .fixed .floor) ≡ 0
+
+-- a version is not below the component's floor
+abbrev pub NotBelow : Component → Version → Type 0
+NotBelow c v = releaseOf (c .fixed .floor) ≤ releaseOf v
+
+-- A5 changes nothing where the floors have variant 0 and neither what is staged nor what a call brings is below its component's floor: the same row, the same replies,
+-- the same record and the same bytes; and set-up, for a list with such floors, the same row and the same record
+pub record NotBelowAsBefore : Type 0 where
+  pub calls : (d : Device) (staging : List ℕ) (call : Call) → FloorsPlain (d .count) (d .components) → AllStaged NotBelow d → Brings NotBelow d staging call
+      → answerOf d staging call ≡ answerBy withoutA5 d staging call
+  pub setUp : (platform : ℕ) (list : List Listed) (count n : ℕ) → FloorsPlain count (map listed list)
+      → setUpOf platform list count n ≡ setUpBy withoutA5 platform list count n
+
 -- the floor of each of the first `count` components is 0
 abbrev pub NoFloor : (count : ℕ) → List Component → Type 0
 NoFloor count components = (k : ℕ) → k < count → componentAt components k .fixed .floor ≡ record { 0 = 0 }
 
--- A5 changes nothing where the floors of the listed components are 0: the same row, the same replies, the same record and the same bytes; and set-up, for such
--- a list, the same row and the same record
+-- so it changes nothing where the floors of the listed components are 0, whatever a call brings; and set-up for such a list
 pub record NoFloorAsBefore : Type 0 where
   pub calls : (d : Device) (staging : List ℕ) (call : Call) → NoFloor (d .count) (d .components) → answerOf d staging call ≡ answerBy withoutA5 d staging call
   pub setUp : (platform : ℕ) (list : List Listed) (count n : ℕ) → NoFloor count (map listed list)

@@ -1,6 +1,6 @@
 -- More runs that meet demand 3's premise: a chain of seven needs, which reaches both bounds; one with an open session that owes a READY, a component pending at
--- the start, a need cycle and an offer for a component that the device has not; and runs in which blocks arrive twice (document 02, A4). And a host that takes as
--- many steps as any may.
+-- the start, a need cycle and an offer for a component that the device has not; one with floors (document 02, A5); and runs in which blocks arrive twice (A4). And a
+-- host that takes as many steps as any may.
 use Prim.Native.Nat.{ℕ, zero, suc, _+_, _*_, _-_}
 use mathlib.Core.Path.{_≡_}
 use mathlib.Core.Bool.{true, false}

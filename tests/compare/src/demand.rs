@@ -42,7 +42,7 @@ pub fn is_good(component: &Component, entry: &Entry) -> bool {
     crc(body).to_be_bytes() == held && image[image_at::ID] == component.id && four(&image[image_at::VERSION..]) == version_of(entry)
 }
 
-/// Offer checks 2 to 7, that of the variant among them, pass against the device after code 0.
+/// Offer checks 2 to 7, that of the variant and that of the floor among them, pass against the device after code 0.
 pub fn is_eligible(device: &DeviceRecord, entry: &Entry) -> bool {
     let offer = &entry.offer;
     match component_of(device, offer[offer_at::ID]) {
@@ -54,6 +54,7 @@ pub fn is_eligible(device: &DeviceRecord, entry: &Entry) -> bool {
                 && component.staged.is_none()
                 && version_of(entry) % 256 == component.running % 256
                 && version_of(entry) / 256 > component.running / 256
+                && version_of(entry) / 256 >= component.floor / 256
         }
     }
 }

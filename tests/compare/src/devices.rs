@@ -3,6 +3,7 @@
 use crate::calls::Calls;
 use crate::case::{difference, hex, Case, Outcome};
 use crate::demand;
+use crate::floors;
 use crate::layout::*;
 use crate::lent::Lent;
 use crate::other;
@@ -53,8 +54,11 @@ pub fn valid_device(r: &mut Random) -> DeviceRecord {
         let component = &mut record.components[slot];
         component.id = *id;
         component.running = running;
+        component.floor = floors::floor(r, running);
         if r.percent(20) {
-            component.staged = Some(later(running, r.pick(&[0, 1, 2, 256, 0x1_0000])));
+            // Not below the floor.
+            let first = (component.floor / 256).saturating_sub(running / 256);
+            component.staged = Some(later(running, first + r.pick(&[0, 1, 2, 256, 0x1_0000])));
         }
     }
     // Slots past the count are never looked at.
@@ -65,6 +69,7 @@ pub fn valid_device(r: &mut Random) -> DeviceRecord {
                 running: r.next() as u32,
                 base: r.next() as u32,
                 length: r.next() as u32,
+                floor: r.next() as u32,
                 staged: r.percent(50).then_some(7),
             };
         }
@@ -171,7 +176,7 @@ pub fn count_passed(tally: &mut Tally, given: &[u8], passed: &[Passed]) {
 }
 
 /// What a record is made to break: the clauses of row D1, and the forms of bytes that are no record.
-pub const BROKEN: [&str; 21] = [
+pub const BROKEN: [&str; 23] = [
     "D1: staging over the limit",
     "D1: count 0",
     "D1: count over the limit",
@@ -182,12 +187,14 @@ pub const BROKEN: [&str; 21] = [
     "D1: region past the buffer",
     "D1: region whose end wraps",
     "D1: regions overlap",
+    "D1: floor with a variant",
     "D1: opens on an unlisted component",
     "D1: opens on a pending component",
     "D1: the previous packet is not just before the next",
     "D1: owes while idle",
     "D1: staged of a lower release",
     "D1: staged of another variant",
+    "D1: staged below the floor",
     "D1: no stage",
     "D1: owed neither 0 nor 1",
     "D1: staged neither 0 nor 1",
@@ -229,10 +236,12 @@ pub fn broken_device(r: &mut Random, aim: &'static str) -> Vec<u8> {
             record.components[slot].length = REGION_LEAST as u32;
             record.staging = record.staging.max(other.base + other.length + REGION_LEAST as u32);
         }
+        "D1: floor with a variant" => record.components[slot].floor = floors::with_variant(r, record.components[slot].floor),
         "D1: opens on an unlisted component" => {
             record.session = Session::Offered { slot: r.pick(&[count as u8, COMPONENT_LIMIT as u8, COMPONENT_LIMIT as u8 + 1, 255]), token: 1 }
         }
         "D1: opens on a pending component" => {
+            record.components[slot].floor = 0;
             record.components[slot].staged = Some(record.components[slot].running);
             record.session = session;
         }
@@ -254,13 +263,24 @@ pub fn broken_device(r: &mut Random, aim: &'static str) -> Vec<u8> {
         "D1: staged of a lower release" => {
             record.session = Session::Idle;
             record.owed = None;
+            record.components[slot].floor = 0;
             record.components[slot].running = r.pick(&[0x0100, 0x0100_0001, u32::MAX]);
             record.components[slot].staged = Some(record.components[slot].running - 256);
         }
         "D1: staged of another variant" => {
             record.session = Session::Idle;
             record.owed = None;
+            record.components[slot].floor = 0;
             record.components[slot].staged = Some(other_variant(r, record.components[slot].running));
+        }
+        "D1: staged below the floor" => {
+            record.session = Session::Idle;
+            record.owed = None;
+            let component = &mut record.components[slot];
+            component.running = r.pick(&[0, 0x0100_0007, 0x00FF_FF03, 0xFEFF_FFFF]);
+            let staged = later(component.running, r.pick(&[0, 1, 2]));
+            component.staged = Some(staged);
+            component.floor = later(staged, r.pick(&[1, 1, 2, 256, 0xFFFF])) / 256 * 256;
         }
         _ => {}
     }
@@ -280,7 +300,7 @@ pub fn broken_device(r: &mut Random, aim: &'static str) -> Vec<u8> {
 // ---------------------------------------------------------------- set-up
 
 /// What set-up is made to meet.
-pub const SETUP: [&str; 9] = [
+pub const SETUP: [&str; 12] = [
     "S1: staging over the limit",
     "S2: count 0",
     "S2: count over the limit",
@@ -290,6 +310,9 @@ pub const SETUP: [&str; 9] = [
     "S4: region past the buffer",
     "S4: region whose end wraps",
     "S4: regions overlap",
+    "S5: floor with a variant",
+    "S4: region under the least, and a floor with a variant",
+    "S3: id outside, and a floor with a variant",
 ];
 
 pub fn make_setup(r: &mut Random) -> Case {
@@ -307,9 +330,11 @@ pub fn make_setup(r: &mut Random) -> Case {
         "S1: staging over the limit" => staging = r.pick(&[STAGING_LIMIT + 1, STAGING_LIMIT + 64]),
         "S2: count 0" => record.count = 0,
         "S2: count over the limit" => record.count = r.pick(&[COMPONENT_LIMIT as u8 + 1, COMPONENT_LIMIT as u8 + 2, 255]),
-        "S3: id outside" => record.components[slot].id = r.pick(&[0, ID_LIMIT + 1, 0xFF]),
+        "S3: id outside" | "S3: id outside, and a floor with a variant" => record.components[slot].id = r.pick(&[0, ID_LIMIT + 1, 0xFF]),
         "S3: id repeated" => record.components[slot].id = record.components[next_slot].id,
-        "S4: region under the least" => record.components[slot].length = r.below(REGION_LEAST) as u32,
+        "S4: region under the least" | "S4: region under the least, and a floor with a variant" => {
+            record.components[slot].length = r.below(REGION_LEAST) as u32
+        }
         "S4: region past the buffer" => staging = staging.saturating_sub(r.between(10, 60)),
         "S4: region whose end wraps" => {
             record.components[slot].base = u32::MAX - 3;
@@ -322,6 +347,13 @@ pub fn make_setup(r: &mut Random) -> Case {
             staging = staging.max((other.base + other.length) as usize + REGION_LEAST);
         }
         _ => {}
+    }
+    if aim.ends_with("floor with a variant") {
+        // One, or several.
+        let one = r.below(count);
+        for component in record.components.iter_mut().take(count).skip(one).take(r.pick(&[1, 1, 2, COMPONENT_LIMIT])) {
+            component.floor = floors::with_variant(r, component.floor);
+        }
     }
     let mut list = list_bytes(&record.list()).to_vec();
     let mut device = r.bytes(DEVICE_SIZE);
@@ -366,7 +398,7 @@ pub fn run_setup(case: &Case, tally: &mut Tally) -> Outcome {
     if case.aim.starts_with(&tally::row(answers[0].0)[5..]) {
         tally.one(case.aim);
     }
-    Ok(())
+    floors::set_up(tally, answers[0].0, case.bytes_at("list"), count)
 }
 
 /// Every guard byte stands.
@@ -505,6 +537,9 @@ fn offer(r: &mut Random, record: &DeviceRecord) -> Vec<u8> {
         3 => chosen.running.wrapping_add(0x0100_0000),
         4 => chosen.running.wrapping_add(1),
         5 | 6 => other_variant(r, chosen.running),
+        7..=11 if chosen.floor > 0 => floors::near(r, &chosen),
+        12 if chosen.floor > 0 => other_variant(r, floors::just_below(&chosen)),
+        13..=15 => floors::least(&chosen),
         _ => chosen.running.wrapping_add(256),
     };
     let token = r.byte();
@@ -606,9 +641,11 @@ fn session(r: &mut Random, record: &DeviceRecord) -> Vec<Vec<u8>> {
     if component.length > 2000 || component.running > 0xFFFF_FE00 {
         return Vec::new();
     }
-    let version = component.running + 256;
+    // The least that may be offered; or one near the floor, which may be below it.
+    let version = if r.percent(90) { floors::least(&component) } else { floors::near(r, &component) };
     let mut image = demand::image(r, component.length as usize, version, component.id);
-    match r.below(10) {
+    let below = floors::just_below(&component);
+    match r.below(15) {
         0 => {
             let place = r.below(image.len());
             image[place] ^= 1 << r.below(8);
@@ -618,6 +655,12 @@ fn session(r: &mut Random, record: &DeviceRecord) -> Vec<Vec<u8>> {
         3 => image = demand::image(r, component.length as usize, component.running, component.id),
         4 => {
             let other = other_variant(r, component.running);
+            image = demand::image(r, component.length as usize, other, component.id);
+        }
+        5 | 6 => image = demand::image(r, component.length as usize, below, component.id),
+        7 => image = demand::image(r, component.length as usize, below, component.id ^ 1),
+        8 => {
+            let other = floors::near(r, &component);
             image = demand::image(r, component.length as usize, other, component.id);
         }
         _ => {}
@@ -708,6 +751,7 @@ pub fn run_script(case: &Case, tally: &mut Tally) -> Outcome {
         count_call(tally, *what, answers[0], first.out.bytes());
         let after = DeviceRecord::read(first.device.bytes());
         if let (Some(before), Some(after), SERVED) = (before, after, answers[0].0) {
+            floors_kept(tally, *what, packet, &before, &after, first).map_err(|what| format!("packet {place}: {what}"))?;
             count_previous(tally, *what, packet, &before, &after);
             let reply = &first.out.bytes()[..SHORT_SIZE];
             if let (Some((_, status)), Some(staging_before)) = (repeat, staging_before) {
@@ -736,6 +780,9 @@ pub fn run_script(case: &Case, tally: &mut Tally) -> Outcome {
         if place == 0 && case.aim.starts_with(&tally::row(answers[0].0)[5..]) {
             tally.one(case.aim);
         }
+        if let (0, D1, Some(before)) = (place, answers[0].0, before) {
+            floors::refused(tally, &before);
+        }
         let given = case.bytes_at("device");
         if let (0, SERVED, Some(record)) = (place, answers[0].0, DeviceRecord::read(given)) {
             let passed = record.passed_over();
@@ -744,6 +791,20 @@ pub fn run_script(case: &Case, tally: &mut Tally) -> Outcome {
         }
     }
     parts::components_left(&sides.iter().map(|side| &side.device).collect::<Vec<_>>(), tally)
+}
+
+/// What a served call keeps of the floors (document 02, A5).
+fn floors_kept(tally: &mut Tally, what: u8, packet: &[u8], before: &DeviceRecord, after: &DeviceRecord, left: &Side) -> Outcome {
+    floors::served(tally, before, after)?;
+    match what {
+        OFFER => floors::offered(tally, before, packet, left.out.bytes())?,
+        CONTENT if before.session != Session::Idle && after.session == Session::Idle => {
+            floors::judged(tally, before, left.staging.bytes(), left.out.bytes())?
+        }
+        RESET => floors::reset(tally, before, after),
+        _ => {}
+    }
+    Ok(())
 }
 
 const AGAIN: &str = "block again: all 60 bytes the same";

@@ -132,6 +132,7 @@ pub struct Listed {
     pub running: Version,
     pub base: u32,
     pub length: u32,
+    pub floor: Version,
 }
 
 /// A component of a device, as a call tells it.
@@ -143,6 +144,7 @@ pub struct ToldComponent {
     pub running: Version,
     pub base: u32,
     pub length: u32,
+    pub floor: Version,
     pub pending: u8,
     pub staged: Version,
 }

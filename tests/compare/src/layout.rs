@@ -7,11 +7,11 @@ use std::ops::Range;
 
 // ---------------------------------------------------------------- the header's numbers
 
-pub const INTERFACE_MAJOR: u32 = 2;
+pub const INTERFACE_MAJOR: u32 = 3;
 pub const INTERFACE_MINOR: u32 = 0;
 
-pub const DEVICE_SIZE: usize = 200;
-pub const LIST_SIZE: usize = 91;
+pub const DEVICE_SIZE: usize = 228;
+pub const LIST_SIZE: usize = 119;
 pub const HOST_SIZE: usize = 25;
 pub const CONTENTS_SIZE: usize = 103;
 pub const REPLIES_SIZE: usize = 32;
@@ -25,11 +25,12 @@ pub const DEVICE_SESSION_AT: usize = 7;
 pub const DEVICE_OWED_AT: usize = 12;
 pub const DEVICE_PREVIOUS_AT: usize = 14;
 pub const DEVICE_COMPONENTS_AT: usize = 74;
-pub const COMPONENT_SIZE: usize = 18;
+pub const COMPONENT_SIZE: usize = 22;
 pub const COMPONENT_RUNNING_AT: usize = 1;
 pub const COMPONENT_REGION_AT: usize = 5;
-pub const COMPONENT_STAGED_AT: usize = 13;
-pub const LISTED_SIZE: usize = 13;
+pub const COMPONENT_FLOOR_AT: usize = 13;
+pub const COMPONENT_STAGED_AT: usize = 17;
+pub const LISTED_SIZE: usize = 17;
 pub const RUNNING_SIZE: usize = 7;
 pub const RUNNING_ID_AT: usize = 4;
 pub const BUNDLE_HEAD_SIZE: usize = 8;
@@ -63,6 +64,7 @@ pub const S1: u32 = 0x5301;
 pub const S2: u32 = 0x5302;
 pub const S3: u32 = 0x5303;
 pub const S4: u32 = 0x5304;
+pub const S5: u32 = 0x5305;
 pub const D1: u32 = 0x4401;
 pub const D2: u32 = 0x4402;
 pub const D3: u32 = 0x4403;
@@ -338,6 +340,8 @@ pub mod component_at {
     pub const RUNNING: usize = super::COMPONENT_RUNNING_AT;
     pub const BASE: usize = super::COMPONENT_REGION_AT;
     pub const LENGTH: usize = BASE + 4;
+    /// The lowest version that the component takes.
+    pub const FLOOR: usize = super::COMPONENT_FLOOR_AT;
     pub const STAGED: usize = super::COMPONENT_STAGED_AT;
     pub const STAGED_VERSION: usize = STAGED + 1;
 }
@@ -347,6 +351,8 @@ pub const SESSION_SIZE: usize = device_at::COMPONENTS - device_at::STAGE;
 
 const _: () = assert!(COMPONENT_LIMIT * LISTED_SIZE == LIST_SIZE);
 const _: () = assert!(component_start(COMPONENT_LIMIT) == DEVICE_SIZE);
+const _: () = assert!(component_at::LENGTH + 4 == component_at::FLOOR && component_at::FLOOR + 4 == component_at::STAGED);
+const _: () = assert!(component_at::STAGED == LISTED_SIZE);
 const _: () = assert!(device_at::OWED_TOKEN + 1 == device_at::PREVIOUS && device_at::PREVIOUS + LONG_SIZE == device_at::COMPONENTS);
 
 /// The previous packet outside of receiving.
@@ -364,6 +370,7 @@ pub struct Component {
     pub running: u32,
     pub base: u32,
     pub length: u32,
+    pub floor: u32,
     pub staged: Option<u32>,
 }
 
@@ -539,12 +546,13 @@ pub struct ListedComponent {
     pub running: u32,
     pub base: u32,
     pub length: u32,
+    pub floor: u32,
 }
 
 impl Component {
     /// As it is given to set-up.
     pub fn listed(&self) -> ListedComponent {
-        ListedComponent { id: self.id, running: self.running, base: self.base, length: self.length }
+        ListedComponent { id: self.id, running: self.running, base: self.base, length: self.length, floor: self.floor }
     }
 
     fn bytes(&self) -> [u8; COMPONENT_SIZE] {
@@ -570,7 +578,7 @@ impl Component {
 impl ListedComponent {
     /// As set-up makes it: nothing is staged.
     pub fn component(&self) -> Component {
-        Component { id: self.id, running: self.running, base: self.base, length: self.length, staged: None }
+        Component { id: self.id, running: self.running, base: self.base, length: self.length, floor: self.floor, staged: None }
     }
 
     fn bytes(&self) -> [u8; LISTED_SIZE] {
@@ -579,6 +587,7 @@ impl ListedComponent {
         put(&mut out, component_at::RUNNING, &self.running.to_le_bytes());
         put(&mut out, component_at::BASE, &self.base.to_le_bytes());
         put(&mut out, component_at::LENGTH, &self.length.to_le_bytes());
+        put(&mut out, component_at::FLOOR, &self.floor.to_le_bytes());
         out
     }
 
@@ -588,6 +597,7 @@ impl ListedComponent {
             running: four(&bytes[component_at::RUNNING..]),
             base: four(&bytes[component_at::BASE..]),
             length: four(&bytes[component_at::LENGTH..]),
+            floor: four(&bytes[component_at::FLOOR..]),
         }
     }
 }

@@ -5,6 +5,7 @@ pub mod calls;
 pub mod case;
 pub mod demand;
 pub mod devices;
+pub mod floors;
 pub mod header;
 pub mod hosts;
 pub mod layout;

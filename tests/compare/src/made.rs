@@ -44,14 +44,14 @@ fn version(number: u32) -> MadeVersion {
     MadeVersion::read(bytes[0], bytes[1], bytes[2], bytes[3])
 }
 
-fn fixed(id: u8, base: u32, length: u32) -> Fixed {
-    Fixed { id, region: Region { base: StagingOffset::new(base), len: length } }
+fn fixed(id: u8, base: u32, length: u32, floor: u32) -> Fixed {
+    Fixed { id, region: Region { base: StagingOffset::new(base), len: length }, floor: version(floor) }
 }
 
 /// The crate's device of a record.
 pub fn device_of(record: &DeviceRecord) -> Device {
     let component = |component: &Component| MadeComponent {
-        fixed: fixed(component.id, component.base, component.length),
+        fixed: fixed(component.id, component.base, component.length, component.floor),
         running: version(component.running),
         staged: component.staged.map_or(Staged::Nothing, |staged| Staged::Pending(version(staged))),
     };
@@ -79,6 +79,7 @@ pub fn record_of(device: &Device) -> DeviceRecord {
         running: component.running.number(),
         base: component.fixed.region.base.number(),
         length: component.fixed.region.len,
+        floor: component.fixed.floor.number(),
         staged: match component.staged {
             Staged::Nothing => None,
             Staged::Pending(staged) => Some(staged.number()),
@@ -104,7 +105,7 @@ pub fn record_of(device: &Device) -> DeviceRecord {
 
 /// A component as it is given to the crate's set-up.
 fn listed_of(component: &ListedComponent) -> MadeListed {
-    MadeListed { fixed: fixed(component.id, component.base, component.length), running: version(component.running) }
+    MadeListed { fixed: fixed(component.id, component.base, component.length, component.floor), running: version(component.running) }
 }
 
 /// The device in these bytes; bytes that are no record stand for the blank one, which every entry refuses.
@@ -265,6 +266,10 @@ fn parts(version: MadeVersion) -> Version {
     Version { major: version.major(), minor: version.minor(), variant: version.variant() }
 }
 
+fn given_version(version: Version) -> CVersion {
+    CVersion { major: version.major, minor: version.minor, variant: version.variant }
+}
+
 fn told_version(version: CVersion) -> Version {
     Version { major: version.major, minor: version.minor, variant: version.variant }
 }
@@ -275,9 +280,8 @@ impl Calls for Made {
     }
 
     fn list_put(&self, list: &mut [u8], place: u32, component: Listed) -> u32 {
-        let Version { major, minor, variant } = component.running;
-        let running = CVersion { major, minor, variant };
-        cfu_list_put(list, place, CListed { id: component.id, running, base: component.base, length: component.length })
+        let Listed { id, running, base, length, floor } = component;
+        cfu_list_put(list, place, CListed { id, running: given_version(running), base, length, floor: given_version(floor) })
     }
 
     fn set_up(&self, device: &mut [u8], platform: u16, list: &[u8], count: u8, staging: &[u8]) -> u32 {
@@ -298,6 +302,7 @@ impl Calls for Made {
             SetupVerdict::S2 => S2,
             SetupVerdict::S3 => S3,
             SetupVerdict::S4 => S4,
+            SetupVerdict::S5 => S5,
         }
     }
 
@@ -309,6 +314,7 @@ impl Calls for Made {
             running: told_version(told.running),
             base: told.base,
             length: told.length,
+            floor: told_version(told.floor),
             pending: told.pending,
             staged: told_version(told.staged),
         }

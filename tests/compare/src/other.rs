@@ -31,6 +31,7 @@ pub fn device_of(record: &DeviceRecord) -> Device {
         id: component.id,
         running: SecondVersion(component.running),
         region: region(component.base, component.length),
+        floor: SecondVersion(component.floor),
         staged: component.staged.map(SecondVersion),
     };
     Device {
@@ -55,6 +56,7 @@ pub fn record_of(device: &Device) -> DeviceRecord {
         running: component.running.0,
         base: component.region.base.0,
         length: component.region.length,
+        floor: component.floor.0,
         staged: component.staged.map(|version| version.0),
     };
     DeviceRecord {
@@ -82,6 +84,7 @@ pub fn row_number(row: Refusal) -> u32 {
         Refusal::S2 => S2,
         Refusal::S3 => S3,
         Refusal::S4 => S4,
+        Refusal::S5 => S5,
         Refusal::D1 => D1,
         Refusal::D2 => D2,
         Refusal::D3 => D3,
@@ -237,9 +240,9 @@ impl Calls for Other {
         }
         let mut listed = read_list(list);
         let Some(own) = listed.get_mut(place as usize) else { return C4 };
-        let Version { major, minor, variant } = component.running;
-        let running = SecondVersion::from_parts(major, minor, variant).0;
-        *own = ListedComponent { id: component.id, running, base: component.base, length: component.length };
+        let number = |version: Version| SecondVersion::from_parts(version.major, version.minor, version.variant).0;
+        let Listed { id, running, base, length, floor } = component;
+        *own = ListedComponent { id, running: number(running), base, length, floor: number(floor) };
         list.copy_from_slice(&list_bytes(&listed));
         SERVED
     }
@@ -252,7 +255,12 @@ impl Calls for Other {
             return C2;
         }
         let list = read_list(list);
-        let listed = list.map(|l| SecondListed { id: l.id, running: SecondVersion(l.running), region: region(l.base, l.length) });
+        let listed = list.map(|l| SecondListed {
+            id: l.id,
+            running: SecondVersion(l.running),
+            region: region(l.base, l.length),
+            floor: SecondVersion(l.floor),
+        });
         let answer = set_up(platform, &listed, count, staging);
         if answer.refused.is_none() {
             let mut record = record_of(&answer.value);
@@ -281,6 +289,7 @@ impl Calls for Other {
             running: parts(own.running),
             base: own.region.base.0,
             length: own.region.length,
+            floor: parts(own.floor),
             pending: own.pending() as u8,
             staged: own.staged.map_or(Version::default(), parts),
         }

@@ -5,6 +5,7 @@
 use crate::bundles::any_bundle;
 use crate::case::{hex, Case, Outcome};
 use crate::devices::{any_record, broken_device, guarded, same, valid_device, BROKEN};
+use crate::floors;
 use crate::header::*;
 use crate::hosts::{make_contents, make_host};
 use crate::layout::*;
@@ -94,6 +95,7 @@ fn listed_in(bytes: &[u8]) -> Listed {
         running: Version::of(four(&bytes[component_at::RUNNING..])),
         base: four(&bytes[component_at::BASE..]),
         length: four(&bytes[component_at::LENGTH..]),
+        floor: Version::of(four(&bytes[component_at::FLOOR..])),
     }
 }
 
@@ -185,8 +187,8 @@ fn told_after_setup(case: &Case, lists: &[Lent], tally: &mut Tally) -> Outcome {
             ToldComponent { number: D1, ..Default::default() }
         } else if place < count as u32 {
             tally.one("list_put: told after set-up");
-            let Listed { id, running, base, length } = listed_in(&lists[0].bytes()[LISTED_SIZE * place as usize..]);
-            ToldComponent { id, running, base, length, ..Default::default() }
+            let Listed { id, running, base, length, floor } = listed_in(&lists[0].bytes()[LISTED_SIZE * place as usize..]);
+            ToldComponent { id, running, base, length, floor, ..Default::default() }
         } else {
             ToldComponent { number: C4, ..Default::default() }
         };
@@ -217,6 +219,7 @@ pub fn components(what: &str, devices: &[&Lent], places: &[u32], tally: &mut Tal
         if answers[0].pending == 1 {
             tally.one("device_component: pending told");
         }
+        floors::told(tally, answers[0].floor);
         out.push(answers[0]);
     }
     Ok(out)
@@ -271,7 +274,7 @@ pub fn run_component(case: &Case, tally: &mut Tally) -> Outcome {
         }
         calls.reset(devices[side].lend());
     }
-    // After a reset what was staged runs, and nothing is staged.
+    // After a reset what was staged runs, nothing is staged, and all else, the floor too, is as it was.
     let after = components("after a reset", &devices.each_ref(), &places, tally)?;
     for ((place, before), after) in places.iter().zip(&told).zip(&after) {
         let running = if before.pending == 1 { before.staged } else { before.running };

@@ -13,6 +13,7 @@ use crate::calls::Calls;
 use crate::case::{difference, hex, Case, Outcome};
 use crate::demand::{self, Shown};
 use crate::devices::{any_record, broken_device, guarded, other_variant, valid_device, BROKEN};
+use crate::floors;
 use crate::header::*;
 use crate::layout::*;
 use crate::lent::Lent;
@@ -61,7 +62,7 @@ fn records_for(r: &mut Random, image: &[u8]) -> Vec<(u32, Vec<u8>)> {
 /// The records with a fault.
 fn bad_records(r: &mut Random, component: &Component, version: u32) -> Vec<(u32, Vec<u8>)> {
     let length = component.length as usize;
-    match r.below(7) {
+    match r.below(8) {
         0 => {
             let mut image = demand::image(r, length, version, component.id);
             let place = r.below(length);
@@ -87,6 +88,10 @@ fn bad_records(r: &mut Random, component: &Component, version: u32) -> Vec<(u32,
             records_for(r, &image)
         }
         5 => {
+            let image = demand::image(r, length, floors::just_below(component), component.id);
+            records_for(r, &image)
+        }
+        6 => {
             let image = demand::image(r, length, version, component.id);
             let mut records = records_for(r, &image);
             let place = r.below(records.len() + 1);
@@ -110,8 +115,10 @@ fn offers_for(r: &mut Random, device: &DeviceRecord) -> Vec<[u8; SHORT_SIZE]> {
     let offered: Vec<(u8, u32)> = ids
         .iter()
         .map(|id| {
-            let running = device.listed().iter().find(|component| component.id == *id).map_or(0x0100_0000, |component| component.running);
+            let component = demand::component_of(device, *id);
+            let running = component.map_or(0x0100_0000, |component| component.running);
             let version = match r.below(20) {
+                5..=14 if component.is_some_and(floors::is_above) => floors::near(r, &component.copied().unwrap_or_default()),
                 0 => running,
                 1 => running.wrapping_sub(256),
                 2 | 3 => other_variant(r, running),
@@ -591,6 +598,7 @@ fn run_demand(case: &Case, start: &Start, given: &Given, left: &Left, tally: &mu
     let set = demand_of(start, left, &device, &entries)?;
     copies_change_nothing(start, left, tally)?;
     tally.add("demand 3: images staged", set.count_ones() as u64);
+    floors::ran(tally, &device, &entries, set, left.report.passes);
     if is_fitting(&device, given) {
         staged_as_given(&device, given, set, &left.staging, tally)?;
     }

@@ -48,6 +48,7 @@ pub fn row(number: u32) -> &'static str {
         S2 => "row: S2",
         S3 => "row: S3",
         S4 => "row: S4",
+        S5 => "row: S5",
         D1 => "row: D1",
         D2 => "row: D2",
         D3 => "row: D3",
@@ -118,7 +119,7 @@ pub fn content_status(reply: &[u8]) -> &'static str {
 }
 
 /// What the gate's run has to have met at least once.
-pub const REQUIRED: [&str; 60] = [
+pub const REQUIRED: [&str; 61] = [
     "row: served",
     "row: C1",
     "row: C2",
@@ -128,6 +129,7 @@ pub const REQUIRED: [&str; 60] = [
     "row: S2",
     "row: S3",
     "row: S4",
+    "row: S5",
     "row: D1",
     "row: D2",
     "row: D3",

@@ -114,7 +114,7 @@ fn device(count: usize, staging: usize) -> DeviceRecord {
     let mut record = DeviceRecord { platform: 0x0042, staging: staging as u32, count: count as u8, ..Default::default() };
     let length = (staging / count) as u32;
     for slot in 0..count {
-        record.components[slot] = Component { id: slot as u8 + 1, running: OLD, base: slot as u32 * length, length, staged: None };
+        record.components[slot] = Component { id: slot as u8 + 1, running: OLD, base: slot as u32 * length, length, floor: OLD, staged: None };
     }
     record
 }

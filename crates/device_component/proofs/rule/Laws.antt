@@ -3,7 +3,7 @@ use mathlib.Core.Path.{_≡_, refl}
 use mathlib.Core.Bool.{true, false, not, _&&_}
 use Prim.Native.Nat.{_≤_, _<_}
 use native.Mathlib.Omega.{arith}
-use borrow.Author.Tests.{leb-false, ltb-false, le-leb, not-true}
+use borrow.Author.Tests.{leb-false, ltb-false, ltb-true, lt-ltb, le-leb, not-true}
 use lib.Dec.{leb}
 use Rattle.wire.specs.Version.{releaseOf}
 use Rattle.wire.specs.declared.version.Version.{Version}
@@ -54,6 +54,7 @@ module _ (c : Component) (v : Version) where
 
 pub versions-follow : VersionsFollow
 versions-follow = record {
+  below = λ c v. (ltb-true (releaseOf v) (releaseOf (c .fixed .floor)), lt-ltb (releaseOf v) (releaseOf (c .fixed .floor)));
   offerImage = offer-image;
   imageStaged = image-staged;
   offerLater = offer-release;

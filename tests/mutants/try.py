@@ -4,8 +4,8 @@
 usage: tests/mutants/try.py [NAME ..]
 
 A mutant is a wrong device or host written into the definitions themselves, so that no contract can refuse it: only a statement about the definitions
-can. A copy of the repository is made with the definitions, the declared types and the statements that compute (E1 to E10, A1's case, E13 in both orders,
-the chain of seven, the mixed case, the need cycle), and no function. Each file NAME.mutant changes one line of a definition; the line `breaks:` says
+can. A copy of the repository is made with the definitions, the declared types and the statements that compute (E1 to E10, the cases of A1, A4 and A5, E13 in both
+orders, the chain of seven, the mixed case, the need cycle, a run with floors), and no function. Each file NAME.mutant changes one line of a definition; the line `breaks:` says
 which proof must fail, or `nothing` where no statement that computes fails and docs/WRONG_PROGRAMS.md says what does. Status 1 where the outcome differs."""
 import glob
 import os

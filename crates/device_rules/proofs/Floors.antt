@@ -28,6 +28,7 @@ use Rattle.device.specs.declared.answer.Channel.the-variants.{Offer, Content}
 use Rattle.device.specs.Refusals.{breaksD1}
 use Rattle.device.specs.Content.{sessionComponent}
 use Rattle.device.specs.Entries.{newDevice, setUpBy as setUpOn, setUpOf}
+use Rattle.device.specs.Floors.{Allowed}
 use Rattle.device.specs.Calls.{Call, packet, versions, reset, answerOf}
 use Rattle.device.proofs.Lists.{any-never}
 use Rattle.device.proofs.Passes.{serves}
@@ -35,7 +36,7 @@ use Rattle.device.proofs.Answers.{content-served}
 use Rattle.device_rules.specs.Rules as rules
 use Rattle.device_rules.specs.Rules.{withoutA5, setup01}
 use Rattle.device_rules.specs.Entries.{breaksD1By, answerBy}
-use Rattle.device_rules.specs.Promises.{OneVariant, AllStaged, Brings, FloorsPlain, NotBelow, NotBelowAsBefore, NoFloor, NoFloorAsBefore, AsDocument01}
+use Rattle.device_rules.specs.Promises.{OneVariant, AllStaged, Brings, FloorsPlain, NotBelowAsBefore, NoFloor, NoFloorAsBefore, AsDocument01}
 use Rattle.device_rules.proofs.Same.{any-same}
 use Rattle.device_rules.proofs.InForce.{d1-as, rules-in-force-answer}
 use Rattle.device_rules.proofs.Alike.{Agree, d1-alike, alike}
@@ -51,10 +52,10 @@ and-true true = refl
 and-true false = refl
 
 -- a version that is not below the floor
-not-below : (c : Component) (v : Version) → NotBelow c v → rule.belowFloor c v ≡ false
+not-below : (c : Component) (v : Version) → Allowed c v → rule.belowFloor c v ≡ false
 not-below c v h = le-ltb (releaseOf v) (releaseOf (c .fixed .floor)) h
 
-agree-below : Agree NotBelow rules.versions rules.versionsA1
+agree-below : Agree Allowed rules.versions rules.versionsA1
 agree-below c v h =
     let fits : rule.mayFollow c v ≡ rules.versionsA1 .imageFits c v = rw (not-below c v h) (and-true (rules.versionsA1 .imageFits c v)) in
     (refl, rw (not-below c v h) (or-false (rule.isOld c v)), fits, fits)
@@ -74,18 +75,18 @@ set-up-as : (platform : ℕ) (list : List Listed) (count n : ℕ) → FloorsPlai
 unfolding setUpOf
 set-up-as platform list count n h = rw (setup-as n count (map listed list) h)
 
-module _ (d : Device) (staging : List ℕ) (plain : FloorsPlain (d .count) (d .components)) (staged : AllStaged NotBelow d) where
+module _ (d : Device) (staging : List ℕ) (plain : FloorsPlain (d .count) (d .components)) (staged : AllStaged Allowed d) where
   rows-as : setupVerdict (d .«staging_len») (d .count) (d .components) ≡ setup01 (d .«staging_len») (d .count) (d .components)
   rows-as = setup-as (d .«staging_len») (d .count) (d .components) plain
 
   -- D1 without floors is the entry's
   pub d1-below : breaksD1 d ≡ breaksD1By withoutA5 d
-  d1-below = d1-as d ∙ d1-alike NotBelow rules.versions rules.versionsA1 setupVerdict setup01 agree-below d staging rows-as staged
+  d1-below = d1-as d ∙ d1-alike Allowed rules.versions rules.versionsA1 setupVerdict setup01 agree-below d staging rows-as staged
 
-  pub below-as : (call : Call) → Brings NotBelow d staging call → answerOf d staging call ≡ answerBy withoutA5 d staging call
+  pub below-as : (call : Call) → Brings Allowed d staging call → answerOf d staging call ≡ answerBy withoutA5 d staging call
   below-as call g =
       rules-in-force-answer .calls d staging call
-      ∙ alike NotBelow rules.versions rules.versionsA1 setupVerdict setup01 agree-below d staging rows-as call (d1-as d) staged g
+      ∙ alike Allowed rules.versions rules.versionsA1 setupVerdict setup01 agree-below d staging rows-as call (d1-as d) staged g
 
 pub not-below-as-before : NotBelowAsBefore
 not-below-as-before = record { calls = λ d staging call p s g. below-as d staging p s call g; setUp = set-up-as }
@@ -95,15 +96,15 @@ module _ (count : ℕ) (components : List Component) (h : NoFloor count componen
   zero-plain : FloorsPlain count components
   zero-plain k l = rw (h k l)
 
-  zero-below : (k : ℕ) (v : Version) → k < count → NotBelow (componentAt components k) v
+  zero-below : (k : ℕ) (v : Version) → k < count → Allowed (componentAt components k) v
   zero-below k v l = rw (h k l) (omega arith)
 
 module _ (d : Device) (staging : List ℕ) (h : NoFloor (d .count) (d .components)) where
-  zero-staged : AllStaged NotBelow d
+  zero-staged : AllStaged Allowed d
   zero-staged k v l e = zero-below (d .count) (d .components) h k v l
 
   -- an offer is for a component in use, and so is a block that is taken
-  zero-brings : (call : Call) → Brings NotBelow d staging call
+  zero-brings : (call : Call) → Brings Allowed d staging call
   zero-brings versions = tt
   zero-brings reset = tt
   zero-brings (packet Offer report) = λ o k e f. zero-below (d .count) (d .components) h k (o .version) (find-at (o .id) (d .count) (d .components) k f .0)

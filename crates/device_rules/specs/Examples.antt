@@ -1,5 +1,6 @@
 -- The customer's cases, by the rules in force and without the request that decides them: a debug build of the number that runs as a production build, as an offer,
--- an image and a staged version (document 02, A1); a block that a hub delivers twice (A4); and a floor that stands above the running version (A5).
+-- an image and a staged version (document 02, A1); a block that a hub delivers twice (A4); and a floor that stands above the running version (A5), also in lists of calls
+-- from set-up on.
 use Prim.Native.Nat.{ℕ, _-_}
 use mathlib.Core.Path.{_≡_}
 use mathlib.Core.List.{List, [], _∷_, _++_}
@@ -19,6 +20,7 @@ use Rattle.device.specs.declared.answer.Channel.the-variants.{Offer, Content}
 use Rattle.device.specs.Bench.{forOne, noNeed, answer}
 use Rattle.device.specs.Refusals.{Outcome, served, D}
 use Rattle.device.specs.Entries.{Reset}
+use Rattle.device.specs.Calls.{packet, reset, Event, call, lends, afterEvents, fromSetUp}
 use Rattle.device_rules.specs.Rules.{Rules, inForce, withoutA5, document01}
 use Rattle.device_rules.specs.Entries.{setUpBy, serveBy, serveStagingBy, resetBy}
 
@@ -135,17 +137,19 @@ pub record A4Differs : Type 0 where
 abbrev pub raised : Component
 raised = floored 0x01000500 1 0x01000200 0 8
 
--- what an offer for it comes to, at 1.minor.variant
-abbrev pub offeringRaised : Rules → (minor variant : ℕ) → Outcome
-offeringRaised rules minor variant =
-    serveBy rules (deviceOf raised idle) Offer (replicate 8 0)
-    (0x00 ∷ 0x00 ∷ 0x01 ∷ 0xA5 ∷ variant ∷ minor ∷ 0x00 ∷ 0x01 ∷ noNeed ++ 0x02 ∷ 0x00 ∷ 0x42 ∷ 0x00 ∷ [])
+-- an offer for it, at 1.minor.variant, and what that comes to
+abbrev pub offerRaised : (minor variant : ℕ) → List ℕ
+offerRaised minor variant = 0x00 ∷ 0x00 ∷ 0x01 ∷ 0xA5 ∷ variant ∷ minor ∷ 0x00 ∷ 0x01 ∷ noNeed ++ 0x02 ∷ 0x00 ∷ 0x42 ∷ 0x00 ∷ []
 
--- what its whole image in one block comes to, at 1.minor.0 and with this CRC
+abbrev pub offeringRaised : Rules → (minor variant : ℕ) → Outcome
+offeringRaised rules minor variant = serveBy rules (deviceOf raised idle) Offer (replicate 8 0) (offerRaised minor variant)
+
+-- its whole image in one block, at 1.minor.0 and with this CRC, and what that comes to
+abbrev pub imageRaised : (minor high low : ℕ) → List ℕ
+imageRaised minor high low = 0xC0 ∷ 8 ∷ replicate 6 0x00 ++ (0x00 ∷ minor ∷ 0x00 ∷ 0x01 ∷ 0x01 ∷ 0x00 ∷ high ∷ low ∷ replicate 44 0x00)
+
 abbrev pub sendingRaised : Rules → (minor high low : ℕ) → Outcome
-sendingRaised rules minor high low =
-    serveBy rules (deviceOf raised (inStage idle forOne blankPacket)) Content (replicate 8 0)
-    (0xC0 ∷ 8 ∷ replicate 6 0x00 ++ (0x00 ∷ minor ∷ 0x00 ∷ 0x01 ∷ 0x01 ∷ 0x00 ∷ high ∷ low ∷ replicate 44 0x00))
+sendingRaised rules minor high low = serveBy rules (deviceOf raised (inStage idle forOne blankPacket)) Content (replicate 8 0) (imageRaised minor high low)
 
 -- what a reset comes to where 1.minor.0 is staged
 abbrev pub resettingRaised : Rules → (minor : ℕ) → Reset
@@ -187,3 +191,32 @@ pub record A5Differs : Type 0 where
   pub setUpUnused : settingUp inForce 1 0 8 0x01000501 ≡ setup.served
   pub setUpFloor : settingUp inForce 2 0x01000500 8 0 ≡ setup.served
   pub judged : resetBy inForce (deviceOf (floored 0x01000580 1 0x01000200 0 8) idle) .row ≡ D 1
+
+-- the device that a list of calls leaves, from set-up with that component alone on
+abbrev pub leavesRaised : List Event → Device
+leavesRaised events =
+    afterEvents (
+    fromSetUp 0x0042
+    (record { fixed = raised .fixed; running = raised .running } ∷ replicate (COMPONENT-LIMIT - 1) (record { fixed = blankComponent .fixed; running = blankComponent .running }))
+    1 (replicate 8 0))
+    events
+    .device
+
+-- an offer at 1.minor.0, its image in one block, and a reset; with a staging buffer of so many bytes lent from the image on
+abbrev pub updating : (minor high low n : ℕ) → List Event
+updating minor high low n =
+    call (packet Offer (offerRaised minor 0)) ∷ lends (replicate n 0) ∷ call (packet Content (imageRaised minor high low)) ∷ call reset ∷ []
+
+-- the same component at 1.minor.0
+abbrev pub runs : (minor : ℕ) → Device
+runs minor = deviceOf (floored 0x01000500 1 (versionOf 1 minor 0 .0) 0 8) idle
+
+-- the module that lacks the fix: just below the floor nothing is taken, at the floor and above it the fix is, and what runs 1.6 does not go back to 1.5; with a buffer of
+-- another length the image is refused, and the reset leaves what ran
+pub record ModuleStory : Type 0 where
+  pub before : leavesRaised [] ≡ runs 2
+  pub below : leavesRaised (updating 4 0x8D 0x07 8) ≡ runs 2
+  pub fix : leavesRaised (updating 5 0x27 0x56 8) ≡ runs 5
+  pub later : leavesRaised (updating 6 0xC9 0x84 8) ≡ runs 6
+  pub back : afterEvents (record { device = runs 6; staging = replicate 8 0 }) (updating 5 0x27 0x56 8) .device ≡ runs 6
+  pub lent : leavesRaised (updating 5 0x27 0x56 7) ≡ runs 2

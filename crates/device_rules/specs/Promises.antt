@@ -1,12 +1,12 @@
 -- What document 02 leaves as it is: where versions have the variant that their component runs, every call answers as by document 01's rules on versions, with the
 -- floors beside them (A1); every call on a record that D1's new clause lets pass, but a block sent again, answers as by document 01's rules on sequences (A4); and
 -- where every floor is 0, set-up and every call answer as without floors (A5).
-use Prim.Native.Nat.{ℕ, _≤_, _<_}
+use Prim.Native.Nat.{ℕ, _<_}
 use mathlib.Core.Path.{_≡_}
 use mathlib.Core.Bool.{true, false}
 use mathlib.Core.List.{List, map}
 use Rattle.wire.specs.Codes.{SUCCESS, ERROR-INVALID}
-use Rattle.wire.specs.Version.{variantOf, releaseOf}
+use Rattle.wire.specs.Version.{variantOf}
 use Rattle.wire.specs.declared.version.Version.{Version}
 use Rattle.wire_offer.specs.Kind.{offer, kindIn}
 use Rattle.wire_offer.specs.declared.offer.OfferFields.{OfferFields}
@@ -29,6 +29,7 @@ use Rattle.device.specs.Record.{find, component}
 use Rattle.device.specs.Refusals.{served, breaksD1}
 use Rattle.device.specs.Content.{contentVerdict, contentEntry, contentStaging}
 use Rattle.device.specs.Entries.{setUpOf}
+use Rattle.device.specs.Floors.{Allowed}
 use Rattle.device.specs.Calls.{Call, packet, versions, reset, answerOf}
 use Rattle.device_rules.specs.Rules.{inForce, withoutA5, withoutA4, withoutA1, document01}
 use Rattle.device_rules.specs.Entries.{setUpBy, verdictOnBy, answerBy}
@@ -94,14 +95,10 @@ CopyWasInvalid = (d : Device) (report : List ℕ) → contentVerdict d report �
 abbrev pub FloorsPlain : (count : ℕ) → List Component → Type 0
 FloorsPlain count components = (k : ℕ) → k < count → variantOf (componentAt components k .fixed .floor) ≡ 0
 
--- a version is not below the component's floor
-abbrev pub NotBelow : Component → Version → Type 0
-NotBelow c v = releaseOf (c .fixed .floor) ≤ releaseOf v
-
--- A5 changes nothing where the floors have variant 0 and neither what is staged nor what a call brings is below its component's floor: the same row, the same replies,
+-- A5 changes nothing where the floors have variant 0 and their components allow what is staged and what a call brings: the same row, the same replies,
 -- the same record and the same bytes; and set-up, for a list with such floors, the same row and the same record
 pub record NotBelowAsBefore : Type 0 where
-  pub calls : (d : Device) (staging : List ℕ) (call : Call) → FloorsPlain (d .count) (d .components) → AllStaged NotBelow d → Brings NotBelow d staging call
+  pub calls : (d : Device) (staging : List ℕ) (call : Call) → FloorsPlain (d .count) (d .components) → AllStaged Allowed d → Brings Allowed d staging call
       → answerOf d staging call ≡ answerBy withoutA5 d staging call
   pub setUp : (platform : ℕ) (list : List Listed) (count n : ℕ) → FloorsPlain count (map listed list)
       → setUpOf platform list count n ≡ setUpBy withoutA5 platform list count n

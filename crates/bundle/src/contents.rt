@@ -19,7 +19,7 @@ use wire_offer::kind::{OfferPacket, read_offer_packet};
 use wire_offer::offer::OfferFields;
 
 // The answer of row B8 (an entry, or 0), and the contents table where it is 0.
-#[derive(Drop)]
+#[derive(Clone, Copy)]
 pub struct Filled {
     pub place: u8,
     pub table: [Entry; OFFER_LIMIT],

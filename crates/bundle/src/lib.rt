@@ -1,4 +1,6 @@
 // The bundle: its check, and what an accepted bundle contains.
+#![tactic(auto)]
+
 ghost use Rattle.std.specs.Prelude.{◌≡◌};
 ghost use Rattle.bundle.specs.Contents.{told_checked, check_of};
 

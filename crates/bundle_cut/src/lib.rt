@@ -1,4 +1,6 @@
 // How an image is cut into the records of a body (document 02, A3): a cursor that steps from piece to piece.
+#![tactic(auto)]
+
 ghost use Rattle.std.specs.Prelude.{◌≡◌, ◌+◌, ◌<◌, length, drop};
 ghost use Rattle.bundle_records.specs.Record.{data_limit};
 ghost use Rattle.bundle_cut.specs.Cut.{run_at, reach, piece_at};
@@ -16,7 +18,7 @@ pub const RUN_LEAST: usize = 52;
 pub const CRC_SIZE: usize = 2;
 
 // What stands at a place of the bytes before the CRC, with the place after it.
-#[derive(Drop)]
+#[derive(Clone, Copy)]
 pub enum Piece {
     End,
     // A run that is left out.

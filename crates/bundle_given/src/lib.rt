@@ -1,5 +1,7 @@
 // What the writer is given (document 02, A3): a list of offers, each with where its image stands, in the layout of a bundle's table; and what refuses the list, an
 // entry or its image: rows W1, W2, W4, W5 and W6.
+#![tactic(auto)]
+
 ghost use Rattle.std.specs.Prelude.{◌≡◌};
 ghost use Rattle.image.specs.Judge.{is_right};
 ghost use Rattle.bundle_given.specs.Given.{image_at};
@@ -13,7 +15,7 @@ use wire::version::Version;
 use wire::words::{byte_at, least};
 
 // What refuses one entry or its image: rows W2, W4, W5 and W6.
-#[derive(Drop)]
+#[derive(Clone, Copy)]
 pub enum EntryRule {
     Offer,
     Lent,

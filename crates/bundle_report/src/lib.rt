@@ -1,4 +1,6 @@
 // What a program prints of a check (document 01, E14).
+#![tactic(auto)]
+
 ghost use Rattle.std.specs.Prelude.{◌≡◌};
 ghost use Rattle.bundle.specs.Contents.{told_checked};
 ghost use Rattle.bundle_report.specs.Report.{line_of, input_of};
@@ -8,7 +10,7 @@ use bundle_layout::blank::refused;
 use bundle_layout::{BundleVerdict, Checked, Entry};
 
 // The numbers of an entry's line.
-#[derive(Drop)]
+#[derive(Clone, Copy)]
 pub struct Line {
     pub id: u8,
     pub major: u8,

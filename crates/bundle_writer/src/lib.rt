@@ -1,5 +1,7 @@
 // The bundle's writer (document 02, A3): from up to seven offers and the images of their whole regions, a bundle that the check accepts, or the row that refuses
 // it.
+#![tactic(auto)]
+
 ghost use Rattle.std.specs.Prelude.{◌≡◌};
 ghost use Rattle.bundle_writer.specs.Answer.{told, make_of};
 
@@ -14,7 +16,7 @@ mod body; // body.rt: the body of an image, its length and its bytes
 mod made; // made.rt: the bundle, its length and its bytes
 
 // What the writer answers: the verdict with the entry that it names (from 1, or 0), and the bundle's length, 0 where a row refuses.
-#[derive(Drop)]
+#[derive(Clone, Copy)]
 pub struct WriteAnswer {
     pub verdict: WriteVerdict,
     pub place: u8,

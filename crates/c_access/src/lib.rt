@@ -1,4 +1,6 @@
 // The calls from C for one part of lent bytes: a component of the list, a component of a device, an entry of a checked bundle. A place that is not there is C4.
+#![tactic(auto)]
+
 ghost use Rattle.std.specs.Prelude.{◌≡◌, ◌-◌, ◌^◌, ◌<◌, ◌≤◌};
 ghost use Rattle.c_types.specs.Lent.{leaves};
 ghost use Rattle.c_access.specs.Access.{listed_of, pending_of, staged_of, component_told, no_component, no_entry, body_told, list_call, component_call, entry_call};

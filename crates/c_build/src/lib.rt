@@ -1,4 +1,6 @@
 // Building each packet from C (document 01, "Packets", row P2).
+#![tactic(auto)]
+
 ghost use Rattle.std.specs.Prelude.{◌≡◌, cond, replicate};
 ghost use Rattle.wire.specs.Rows.{row_p};
 ghost use Rattle.wire.specs.Codes.{short_size};

@@ -1,5 +1,7 @@
 // The calls from C for a device's record (document 01, "The device", rows S, D and C): set-up, the version reply, the reset. The record is lent bytes; where a
 // row refuses, it stays as it is.
+#![tactic(auto)]
+
 ghost use Rattle.std.specs.Prelude.{◌≡◌, length};
 ghost use Rattle.device.specs.Refusals.{row_of};
 ghost use Rattle.c_types.specs.Lent.{leaves};

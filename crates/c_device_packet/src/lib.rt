@@ -1,4 +1,6 @@
 // The device's calls from C for packets (document 01, "The device", rows D and C). The record is lent bytes; where a row refuses, it stays as it is.
+#![tactic(auto)]
+
 ghost use Rattle.std.specs.Prelude.{◌≡◌, ◌++◌, length};
 ghost use Rattle.device.specs.Refusals.{sent_with};
 ghost use Rattle.c_device_packet.specs.Packet.{replies_size, answered_by, replies_left, told_replies, offer_call, content_call, content_call_staging};

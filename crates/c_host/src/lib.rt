@@ -1,5 +1,7 @@
 // The bundle's call from C, and the calls for a host's record (document 01, "The bundle" and "The host", rows B and C): a fresh one, and its report. The record
 // is lent bytes.
+#![tactic(auto)]
+
 ghost use Rattle.std.specs.Prelude.{◌≡◌, cond, leb};
 ghost use Rattle.host_record.specs.Fits.{packet_limit};
 ghost use Rattle.host_record.specs.Record.{ending_of, status_of, told_progress};

@@ -1,4 +1,6 @@
 // The host's steps from C (document 01, "The host", rows B, N and C). The record is lent bytes; where a row refuses, it stays as it is.
+#![tactic(auto)]
+
 ghost use Rattle.std.specs.Prelude.{◌≡◌, true, cond, length};
 ghost use Rattle.wire.specs.Codes.{long_size};
 ghost use Rattle.host_packet.specs.Answer.{row_of};

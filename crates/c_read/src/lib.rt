@@ -1,4 +1,6 @@
 // Reading each packet from C (document 01, "Packets", rows P1 and P2).
+#![tactic(auto)]
+
 ghost use Rattle.std.specs.Prelude.{◌≡◌};
 ghost use Rattle.wire_offer.specs.Offer.{blank_offer};
 ghost use Rattle.wire_offer.specs.Kind.{told_read};

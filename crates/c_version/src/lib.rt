@@ -1,4 +1,6 @@
 // The components of a version reply as bytes: version, id and platform of each.
+#![tactic(auto)]
+
 ghost use Rattle.std.specs.Prelude.{◌≡◌, drop};
 ghost use Rattle.wire.specs.Codes.{component_limit};
 ghost use Rattle.c_version.specs.Layout.{running_bytes, components_bytes, running_in, components_in};

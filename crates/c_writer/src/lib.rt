@@ -1,4 +1,6 @@
 // The writer's call from C (document 02, A3, rows W).
+#![tactic(auto)]
+
 ghost use Rattle.std.specs.Prelude.{◌≡◌};
 ghost use Rattle.c_writer.specs.Write.{told_write, write_call};
 

@@ -1,4 +1,6 @@
 // CRC-16/XMODEM: polynomial 0x1021, start 0, no reflection, no final change.
+#![tactic(auto)]
+
 ghost use Rattle.std.specs.Prelude.{◌≡◌};
 ghost use Rattle.crc16.specs.Crc.{byte_step, crc_of};
 ghost use Rattle.crc16.specs.Table.{crc_table, nibble_step};

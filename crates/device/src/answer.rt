@@ -12,7 +12,7 @@ use wire_offer::reply::{OfferReply, build_offer_reply};
 use wire_version::REPLY_SIZE;
 
 // Served, or the row that refuses the call.
-#[derive(Drop)]
+#[derive(Clone, Copy)]
 pub enum Refusal {
     Served,
     D1,
@@ -21,7 +21,7 @@ pub enum Refusal {
 }
 
 // Of an offer or a content packet. Only what is due is sent: a refused call sends nothing.
-#[derive(Drop)]
+#[derive(Clone, Copy)]
 pub struct Answer {
     pub refusal: Refusal,
     pub replies: Replies,
@@ -39,27 +39,27 @@ pub fn ready_reply(token: u8) -> [u8; SHORT_SIZE]
     })
 }
 
-#[derive(Drop)]
+#[derive(Clone, Copy)]
 pub struct VersionAnswer {
     pub refusal: Refusal,
     pub packet: [u8; REPLY_SIZE],
 }
 
-#[derive(Drop)]
+#[derive(Clone, Copy)]
 pub struct ResetAnswer {
     pub refusal: Refusal,
     pub device: Device,
 }
 
 // Of set-up: where a row refuses, the device is the blank one, which no entry serves.
-#[derive(Drop)]
+#[derive(Clone, Copy)]
 pub struct SetupAnswer {
     pub verdict: SetupVerdict,
     pub device: Device,
 }
 
 // Which entry a packet is for.
-#[derive(Drop)]
+#[derive(Clone, Copy)]
 pub enum Channel {
     Offer,
     Content,

@@ -6,7 +6,7 @@ use device_component::record::{Component, blank_component};
 use device_session::effect::Session;
 use wire::codes::COMPONENT_LIMIT;
 
-#[derive(Drop)]
+#[derive(Clone, Copy)]
 pub struct Device {
     pub platform: u16,
     // The length of the staging buffer at set-up.

@@ -1,5 +1,7 @@
 // The device's record as bytes of a fixed length, and the list that set-up takes, as bytes. Nothing else knows where a part of the record stands; where the
 // bytes of a session and of a component stand in theirs is said in device_session_bytes and device_component_bytes.
+#![tactic(auto)]
+
 ghost use Rattle.std.specs.Prelude.{◌≡◌, ◌++◌, length, take, drop};
 ghost use Rattle.wire.specs.Codes.{component_limit};
 ghost use Rattle.device_bytes.specs.Layout.{device_size, components_start, head_bytes, components_bytes, platform_in, staging_len_in, count_in, components_in, device_bytes, fields_in, staged_fit, is_record, read_device, list_in};

@@ -11,7 +11,7 @@ use wire::codes::COMPONENT_LIMIT;
 use wire::words::least;
 
 // A place in the list of components, or none.
-#[derive(Drop)]
+#[derive(Clone, Copy)]
 pub enum Found {
     Nothing,
     At(u8),

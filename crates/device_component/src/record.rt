@@ -5,7 +5,7 @@ ghost use Rattle.device_component.specs.Record.{blank_component, is_pending, eff
 use image::region::{Region, StagingOffset};
 use wire::version::Version;
 
-#[derive(Drop)]
+#[derive(Clone, Copy)]
 pub enum Staged {
     Nothing,
     // A staged version makes the component pending.
@@ -13,7 +13,7 @@ pub enum Staged {
 }
 
 // What set-up fixes of a component; nothing changes it later.
-#[derive(Drop)]
+#[derive(Clone, Copy)]
 pub struct Fixed {
     pub id: u8,
     pub region: Region,
@@ -21,7 +21,7 @@ pub struct Fixed {
     pub floor: Version,
 }
 
-#[derive(Drop)]
+#[derive(Clone, Copy)]
 pub struct Component {
     pub fixed: Fixed,
     pub running: Version,
@@ -29,7 +29,7 @@ pub struct Component {
 }
 
 // A component as it is given to set-up.
-#[derive(Drop)]
+#[derive(Clone, Copy)]
 pub struct Listed {
     pub fixed: Fixed,
     pub running: Version,

@@ -85,7 +85,7 @@ impl Component {
 }
 
 // A test of a component.
-#[derive(Drop)]
+#[derive(Clone, Copy)]
 pub enum Rule {
     // S3: its id lies outside 1-0xDF.
     BadId,
@@ -100,7 +100,7 @@ pub enum Rule {
 }
 
 // A test of two components.
-#[derive(Drop)]
+#[derive(Clone, Copy)]
 pub enum Pair {
     SameId,
     Overlap,

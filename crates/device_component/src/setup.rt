@@ -13,7 +13,7 @@ pub const STAGING_LIMIT: u32 = 65536;
 // The shortest region.
 pub const REGION_LEAST: u32 = 8;
 
-#[derive(Drop)]
+#[derive(Clone, Copy)]
 pub enum SetupVerdict {
     Fine,
     S1,

@@ -1,5 +1,7 @@
 // A component of the device as bytes: one of the list that set-up takes, which is id, running version, region and floor, and behind it what is staged. What is
 // read stands in bytes that start at the component; past their end a byte is 0.
+#![tactic(auto)]
+
 ghost use Rattle.std.specs.Prelude.{◌≡◌, cond, eqb};
 ghost use Rattle.device_component.specs.declared.record.Staged.TheVariants.{Nothing, Pending};
 ghost use Rattle.device_component_bytes.specs.Layout.{staged_bytes, component_bytes, listed_bytes, fixed_in, component_in, listed_in, staged_flag_fits};

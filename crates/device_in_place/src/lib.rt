@@ -1,4 +1,6 @@
 // The device's entries for packets over the bytes of its record: judged where they stand, and changed where a packet changes them.
+#![tactic(auto)]
+
 ghost use Rattle.std.specs.Prelude.{◌≡◌};
 ghost use Rattle.device_in_place.specs.InPlace.{refused_reply, served_reply};
 
@@ -11,7 +13,7 @@ pub mod content; // content.rt: the content entry
 pub mod offer; // offer.rt: the offer entry
 
 // What an entry answers; the record is left in its bytes.
-#[derive(Drop)]
+#[derive(Clone, Copy)]
 pub struct Reply {
     pub refusal: Refusal,
     pub replies: Replies,

@@ -5,7 +5,7 @@ ghost use Rattle.device_offering.specs.Offer.{status_of, reason_of};
 use wire::codes;
 
 // The first check that applies.
-#[derive(Drop)]
+#[derive(Clone, Copy)]
 pub enum OfferVerdict {
     Busy,
     // With its reason.

@@ -11,7 +11,7 @@ use wire_content::content::DATA_LIMIT;
 use wire_content::head::ContentHead;
 
 // The first check that applies.
-#[derive(Drop)]
+#[derive(Clone, Copy)]
 pub enum ContentVerdict {
     // With this status: nothing changes.
     Answer(u8),

@@ -17,7 +17,7 @@ use wire_content::head::{ContentHead, read_head};
 use wire_content::reply::{ContentReply, build_content_reply};
 
 // What a content packet does, and the session's component afterwards.
-#[derive(Drop)]
+#[derive(Clone, Copy)]
 pub struct Taken {
     pub effect: Effect,
     pub component: Component,

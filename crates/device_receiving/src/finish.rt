@@ -7,7 +7,7 @@ use image::judge::Image;
 use wire::codes;
 
 // What a finished image comes to.
-#[derive(Drop)]
+#[derive(Clone, Copy)]
 pub struct Finished {
     pub status: u8,
     pub component: Component,

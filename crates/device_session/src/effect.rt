@@ -6,7 +6,7 @@ use crate::owed::Owed;
 use crate::stage::Stage;
 use wire::codes::{LONG_SIZE, SHORT_SIZE};
 
-#[derive(Drop)]
+#[derive(Clone, Copy)]
 pub struct Session {
     pub stage: Stage,
     pub owed: Owed,
@@ -15,7 +15,7 @@ pub struct Session {
 }
 
 // What is sent after a packet: a reply where one is due (its bytes are zero where none is), then the READY that was owed, with its token.
-#[derive(Drop)]
+#[derive(Clone, Copy)]
 pub struct Replies {
     pub due: bool,
     pub reply: [u8; SHORT_SIZE],
@@ -23,7 +23,7 @@ pub struct Replies {
 }
 
 // Of a packet that no row refuses.
-#[derive(Drop)]
+#[derive(Clone, Copy)]
 pub struct Effect {
     pub replies: Replies,
     pub session: Session,

@@ -5,14 +5,14 @@ ghost use Rattle.device_session.specs.Stage.{is_open, open_slot, at_slot, at_tok
 use device_component::list::Found;
 
 // An offer was accepted for the component in this slot.
-#[derive(Drop)]
+#[derive(Clone, Copy)]
 pub struct Offered {
     pub slot: u8,
     pub token: u8,
 }
 
 // Blocks of its image have come, and this sequence is next.
-#[derive(Drop)]
+#[derive(Clone, Copy)]
 pub struct Receiving {
     pub slot: u8,
     pub token: u8,
@@ -20,7 +20,7 @@ pub struct Receiving {
 }
 
 // Each event writes it anew.
-#[derive(Drop)]
+#[derive(Clone, Copy)]
 pub enum Stage {
     Idle,
     Offered(Offered),
@@ -28,7 +28,7 @@ pub enum Stage {
 }
 
 // Of a block's sequence (document 02, A4): the next one, the block just taken sent again, or wrong.
-#[derive(Drop)]
+#[derive(Clone, Copy)]
 pub enum SequenceVerdict {
     Next,
     Again,

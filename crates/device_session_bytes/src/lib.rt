@@ -1,5 +1,7 @@
 // The session of a device as bytes: the stage, the ready-reply that is owed, and the previous packet. What is read stands in bytes that start at the session;
 // past their end a byte is 0.
+#![tactic(auto)]
+
 ghost use Rattle.std.specs.Prelude.{◌≡◌};
 ghost use Rattle.device_session_bytes.specs.Layout.{stage_bytes, owed_bytes, session_bytes, stage_in, owed_in, previous_in, session_in, session_flags_fit};
 

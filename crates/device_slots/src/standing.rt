@@ -7,7 +7,7 @@ use device_component::list::{Found, find};
 use device_component::record::Component;
 use wire::codes::COMPONENT_LIMIT;
 
-#[derive(Drop)]
+#[derive(Clone, Copy)]
 pub struct Standing {
     pub at: Found,
     // Of an id that none has, the component in slot 0.

@@ -1,4 +1,6 @@
 // The firmware's own entry: the main loop lends its record, which is changed in place.
+#![tactic(auto)]
+
 ghost use Rattle.std.specs.Prelude.{◌≡◌};
 ghost use Rattle.device.specs.Refusals.{told};
 ghost use Rattle.device.specs.Entries.{serve_entry, serve_staging};

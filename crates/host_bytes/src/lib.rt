@@ -1,4 +1,6 @@
 // The host's record as bytes of a fixed length; and what the check of a bundle answers, with the cursor and the block that it is kept for, as bytes.
+#![tactic(auto)]
+
 ghost use Rattle.std.specs.Prelude.{◌≡◌, cond, ◌++◌, eqb, length, get_or, take, ◌+◌, ◌≤◌};
 ghost use Rattle.wire.specs.Bytes.{number, bytes_at};
 ghost use Rattle.bundle.specs.Contents.{told_checked};

@@ -9,7 +9,7 @@ pub(crate) const SENDING: u8 = 5;
 
 pub const ENDED: u8 = 7;
 
-#[derive(Drop)]
+#[derive(Clone, Copy)]
 pub(crate) struct StageWords {
     pub number: u8,
     pub first: u32,

@@ -11,7 +11,7 @@ use bundle_layout::limits::OFFER_LIMIT;
 pub const BUSY_LIMIT: u32 = 8;
 
 // The body of an entry: where it starts and ends, and how many records it has.
-#[derive(Drop)]
+#[derive(Clone, Copy)]
 pub struct Body {
     pub start: usize,
     pub end: u64,

@@ -8,28 +8,28 @@ use crate::report::{Progress, Report};
 pub const PACKET_LIMIT: u32 = 0x80000000;
 
 // The offer in hand, and the BUSY replies that it had in this pass.
-#[derive(Drop)]
+#[derive(Clone, Copy)]
 pub struct Turn {
     pub entry: u32,
     pub busy: u32,
 }
 
 // A block: its entry, and its number in the entry's body.
-#[derive(Drop)]
+#[derive(Clone, Copy)]
 pub struct Place {
     pub entry: u32,
     pub block: u32,
 }
 
 // The block whose reply is awaited, and whether a copy of the reply before it was passed over meanwhile (document 02, A4).
-#[derive(Drop)]
+#[derive(Clone, Copy)]
 pub struct Awaited {
     pub place: Place,
     pub passed: bool,
 }
 
 // How a session ends.
-#[derive(Drop)]
+#[derive(Clone, Copy)]
 pub enum End {
     Done,
     // H1: a content status that is not 0.
@@ -71,7 +71,7 @@ impl End {
 }
 
 // What the host awaits.
-#[derive(Drop)]
+#[derive(Clone, Copy)]
 pub enum HostStage {
     // Nothing was sent yet.
     Fresh,
@@ -90,7 +90,7 @@ pub enum HostStage {
     Ended(End),
 }
 
-#[derive(Drop)]
+#[derive(Clone, Copy)]
 pub struct Host {
     pub token: u8,
     pub stage: HostStage,

@@ -8,7 +8,7 @@ use crc16::crc16;
 use wire::version::Version;
 use wire::words::least;
 
-#[derive(Drop)]
+#[derive(Clone, Copy)]
 pub enum Image {
     // Its CRC is wrong.
     Damaged,

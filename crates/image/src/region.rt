@@ -7,7 +7,7 @@ use wire::address::RegionAddress;
 use wire::words::{copy, fill};
 
 // An offset into the staging buffer.
-#[derive(Drop)]
+#[derive(Clone, Copy)]
 pub struct StagingOffset(u32);
 
 impl StagingOffset {
@@ -26,7 +26,7 @@ impl StagingOffset {
     }
 }
 
-#[derive(Drop)]
+#[derive(Clone, Copy)]
 pub struct Region {
     pub base: StagingOffset,
     pub len: u32,

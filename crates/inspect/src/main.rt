@@ -1,4 +1,6 @@
 // Reads a bundle from standard input and prints what it contains, or the row that refuses it (document 01, E14).
+#![tactic(auto)]
+
 use bundle_layout::Entry;
 use bundle_layout::limits::OFFER_LIMIT;
 use bundle_report::{check_input, line_of};

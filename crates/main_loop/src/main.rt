@@ -1,4 +1,6 @@
 // A firmware's main loop around the device end (document 01, "The device"). Standard input stands for the bus: a frame is a channel, a length and a packet.
+#![tactic(auto)]
+
 ghost use Rattle.std.specs.Prelude.{◌≡◌, true};
 ghost use Rattle.device.specs.Entries.{serve_entry, serve_staging};
 

@@ -1,4 +1,6 @@
 // Runs a script of frames (tests/device/README.md) against the device end. The device's record is kept as its bytes.
+#![tactic(auto)]
+
 use device::answer::Channel;
 use device::record::Device;
 use device::setup::set_up;

@@ -1,5 +1,7 @@
 // Runs a script of frames (tests/host/README.md) against the host end: a line for each record that is set and for each step. The host's record is kept as
 // its bytes.
+#![tactic(auto)]
+
 use host::step::step;
 use host_bytes::{HOST_SIZE, host_bytes, read_host};
 use host_record::record::Host;

@@ -1,6 +1,8 @@
 // Runs a script of frames (tests/packets/cases.py): every kind of packet, built and read, and the CRC.
 // A line for each case says what was asked and what came, or the refusal with its zeroed packet or fields. Bytes, ids, tokens, codes and
 // addresses are hexadecimal; counts, lengths, protocols and the parts of a version are decimal.
+#![tactic(auto)]
+
 use run_print::script::{FRAMES, PAYLOAD_SIZE, next};
 use run_print::{first, line, names};
 use wire::verdict::Verdict;

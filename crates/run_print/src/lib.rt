@@ -1,4 +1,6 @@
 // What the programs read scripts and print lines with: frames, words, numbers, bytes, versions. Nothing here decides anything.
+#![tactic(auto)]
+
 pub mod names; // names.rt: the words of a line, by number
 pub mod line; // line.rt: words and numbers behind them
 pub mod form; // form.rt: texts with places for bytes

@@ -1,4 +1,6 @@
 // Runs the bundle of standard input as often as its argument says, each time against the same fresh device, and prints the last report (tests/time).
+#![tactic(auto)]
+
 use device::setup::set_up;
 use device_component::record::{Fixed, Listed};
 use host_record::record::End;

@@ -1,5 +1,7 @@
 // Runs the cases of a script (tests/update/README.md) against both ends in turn, each packet of the host and its reply a line; then what is left of the
 // device, whose record is changed in place. In a case of kind T some packets arrive twice.
+#![tactic(auto)]
+
 use crate::way::{Way, put_reply};
 use device_bytes::{DEVICE_SIZE, staging_len_in};
 use device_in_place::Reply;

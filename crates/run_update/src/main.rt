@@ -1,4 +1,6 @@
 // Runs the cases of a script (tests/update/README.md) by `run`: what it answers, and what is left of the device.
+#![tactic(auto)]
+
 use device::record::Device;
 use device_bytes::{DEVICE_SIZE, device_bytes, fields_in};
 use run_print::form::form;

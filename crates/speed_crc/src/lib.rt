@@ -1,4 +1,6 @@
 // The CRC both ways, by the table of `crc16` and bit by bit as the base took it, for the measurement of tests/speed: the updater does not call this crate.
+#![tactic(auto)]
+
 ghost use Rattle.std.specs.Prelude.{◌≡◌};
 ghost use Rattle.crc16.specs.Crc.{bit_step, byte_step, crc_of};
 

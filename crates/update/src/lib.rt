@@ -1,4 +1,6 @@
 // Both ends: the run of a fresh host against a device, and what it answers.
+#![tactic(auto)]
+
 ghost use Rattle.std.specs.Prelude.{◌≡◌};
 ghost use Rattle.update.specs.Answer.{row_of, number_of, entry_of, is_refused, refused_by, run_of, told};
 ghost use Rattle.update.specs.Demand.{DemandOf};
@@ -13,7 +15,7 @@ use host_record::report::Report;
 pub mod turn; // turn.rt: one turn, and the turns until the host has ended
 
 // Served, or the row that refuses the run.
-#[derive(Drop)]
+#[derive(Clone, Copy)]
 pub enum RunRefusal {
     Served,
     // The bundle's row, with its entry.
@@ -65,7 +67,7 @@ impl RunRefusal {
 }
 
 // A refused run sends nothing and changes nothing.
-#[derive(Drop)]
+#[derive(Clone, Copy)]
 pub struct RunAnswer {
     pub refusal: RunRefusal,
     pub report: Report,

@@ -21,7 +21,7 @@ use host_record::record::{Host, HostStage};
 use wire::codes::SHORT_SIZE;
 
 // Both ends between two turns.
-#[derive(Drop)]
+#[derive(Clone, Copy)]
 pub struct BothEnds {
     pub host: Host,
     pub device: Device,

@@ -4,7 +4,7 @@ ghost use Rattle.wire.specs.Version.{version_of, read_version, version_at, major
 
 use crate::words::byte_at;
 
-#[derive(Drop)]
+#[derive(Clone, Copy)]
 pub struct Version(u32);
 
 impl Version {

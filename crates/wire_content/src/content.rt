@@ -11,7 +11,7 @@ use wire::words;
 // The most bytes of data, as the length of a packet says it.
 pub const DATA_LIMIT: u8 = DATA_SIZE as u8;
 
-#[derive(Drop)]
+#[derive(Clone, Copy)]
 pub struct ContentFields {
     // Byte 0: 0x80 first block, 0x40 last block.
     pub flags: u8,
@@ -25,13 +25,13 @@ pub struct ContentFields {
     pub data: [u8; DATA_SIZE],
 }
 
-#[derive(Drop)]
+#[derive(Clone, Copy)]
 pub struct BuiltContent {
     pub verdict: Verdict,
     pub packet: [u8; LONG_SIZE],
 }
 
-#[derive(Drop)]
+#[derive(Clone, Copy)]
 pub struct ReadContent {
     pub verdict: Verdict,
     pub content: ContentFields,

@@ -5,7 +5,7 @@ ghost use Rattle.wire_content.specs.Head.{head_in};
 use wire::address::RegionAddress;
 use wire::words;
 
-#[derive(Drop)]
+#[derive(Clone, Copy)]
 pub struct ContentHead {
     // Byte 0: 0x80 first block, 0x40 last block.
     pub flags: u8,

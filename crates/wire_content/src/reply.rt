@@ -6,7 +6,7 @@ use wire::codes::SHORT_SIZE;
 use wire::verdict::Verdict;
 use wire::words;
 
-#[derive(Drop)]
+#[derive(Clone, Copy)]
 pub struct ContentReply {
     // Bytes 0-1.
     pub sequence: u16,
@@ -14,7 +14,7 @@ pub struct ContentReply {
     pub status: u8,
 }
 
-#[derive(Drop)]
+#[derive(Clone, Copy)]
 pub struct ReadContentReply {
     pub verdict: Verdict,
     pub reply: ContentReply,

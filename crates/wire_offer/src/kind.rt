@@ -10,7 +10,7 @@ use wire::codes::SHORT_SIZE;
 use wire::version::Version;
 use wire::{codes, words};
 
-#[derive(Drop)]
+#[derive(Clone, Copy)]
 pub enum OfferPacket {
     // P1: another length than a packet on the offer channel has.
     Refused,

@@ -7,7 +7,7 @@ use wire::verdict::Verdict;
 use wire::version::Version;
 use wire::words;
 
-#[derive(Drop)]
+#[derive(Clone, Copy)]
 pub struct OfferFields {
     // Byte 0.
     pub segment: u8,
@@ -31,7 +31,7 @@ pub struct OfferFields {
     pub platform: u16,
 }
 
-#[derive(Drop)]
+#[derive(Clone, Copy)]
 pub struct BuiltOffer {
     pub verdict: Verdict,
     pub packet: [u8; SHORT_SIZE],

@@ -5,7 +5,7 @@ ghost use Rattle.wire_offer.specs.Reply.{reply_bytes, told_reply, read_reply_of}
 use wire::codes::SHORT_SIZE;
 use wire::verdict::Verdict;
 
-#[derive(Drop)]
+#[derive(Clone, Copy)]
 pub struct OfferReply {
     // Byte 3.
     pub token: u8,
@@ -15,7 +15,7 @@ pub struct OfferReply {
     pub status: u8,
 }
 
-#[derive(Drop)]
+#[derive(Clone, Copy)]
 pub struct ReadOfferReply {
     pub verdict: Verdict,
     pub reply: OfferReply,

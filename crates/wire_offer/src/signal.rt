@@ -5,7 +5,7 @@ ghost use Rattle.wire_offer.specs.Signal.{information_bytes, extended_bytes};
 use wire::codes;
 use wire::codes::SHORT_SIZE;
 
-#[derive(Drop)]
+#[derive(Clone, Copy)]
 pub struct Signal {
     // Byte 0.
     pub code: u8,

@@ -1,4 +1,6 @@
 // The version reply (CFU 5.1): the running version of every component.
+#![tactic(auto)]
+
 ghost use Rattle.std.specs.Prelude.{◌≡◌, ◌≤◌, length};
 ghost use Rattle.wire.specs.Codes.{component_limit};
 ghost use Rattle.wire.specs.Rows.{row_of};
@@ -13,7 +15,7 @@ use wire::{codes, words};
 pub const REPLY_SIZE: usize = 4 + 8 * COMPONENT_LIMIT;
 
 // A component in the reply, eight bytes.
-#[derive(Drop)]
+#[derive(Clone, Copy)]
 pub struct Running {
     // Bytes 0-3; byte 4 is reserved.
     pub version: Version,
@@ -23,7 +25,7 @@ pub struct Running {
     pub platform: u16,
 }
 
-#[derive(Drop)]
+#[derive(Clone, Copy)]
 pub struct VersionReply {
     // Byte 0.
     pub count: u8,
@@ -33,13 +35,13 @@ pub struct VersionReply {
     pub components: [Running; COMPONENT_LIMIT],
 }
 
-#[derive(Drop)]
+#[derive(Clone, Copy)]
 pub struct BuiltVersionReply {
     pub verdict: Verdict,
     pub packet: [u8; REPLY_SIZE],
 }
 
-#[derive(Drop)]
+#[derive(Clone, Copy)]
 pub struct ReadVersionReply {
     pub verdict: Verdict,
     pub reply: VersionReply,

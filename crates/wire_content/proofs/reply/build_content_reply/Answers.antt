@@ -1,0 +1,6 @@
+-- `build_content_reply` meets its contract: the fields, in their order. Assumes nothing.
+use borrow.Author.Rules.{rules}
+use Rattle.wire_content.proofs.reply.build_content_reply.Goals as goal
+
+pub returns : goal.returns
+returns c = simp c.bytes16-s.ensures

@@ -1,11 +1,7 @@
 -- `crc16::crc16` meets its contract: what is left of the message, from the register, gives the CRC of the whole. Assumes nothing.
-use mathlib.Core.Path.{◌≡◌, refl}
-use Prim.Native.Nat.{◌≤◌, ◌<◌, ◌-◌}
-use native.Mathlib.Omega.{arith}
-use native.Mathlib.Numerals.{add-one}
-use borrow.Author.Rules.{rules}
+use mathlib.Core.Path.{◌≡◌}
+use Prim.Native.Nat.{◌≤◌, ◌-◌}
 use lib.ListN.{length, drop}
-use lib.Seq.{drop-cons, drop-length}
 use Rattle.crc16.specs.Crc.{crc_from, crc_of}
 use Rattle.crc16.specs.Table.{crc_table}
 use Rattle.crc16.proofs.crc16.Given as goal

@@ -4,7 +4,6 @@ use native.Mathlib.Omega.{arith}
 use lib.ListN.{get_or-eq_default}
 use Rattle.host_table.specs.Table.{table}
 use Rattle.host_table.proofs.Laws.{class_below}
-use borrow.Author.Rules.{rules}
 use Rattle.host_table.proofs.code_for.Goals as goal
 
 pub bounds-column : goal.bounds-column

@@ -2,7 +2,6 @@
 use mathlib.Core.Path.{sym, ◌∙◌}
 use Rattle.wire_version.specs.Reply.{build_of}
 use Rattle.wire_version.proofs.Laws.{known}
-use borrow.Author.Rules.{rules}
 use Rattle.wire_version.proofs.build_version_reply.Goals as goal
 
 pub packet-p-requires : goal.packet-p-requires

@@ -1,5 +1,4 @@
 -- `entry_bytes` meets its contract: the fields' bytes, in wire order. Assumes nothing.
-use borrow.Author.Rules.{rules}
 use Rattle.wire_version.proofs.entry_bytes.Goals as goal
 
 pub returns : goal.returns

@@ -1,5 +1,4 @@
 -- `entry_in` meets its contract: each field from its bytes. Assumes nothing.
-use borrow.Author.Rules.{rules}
 use Rattle.wire_version.proofs.entry_in.Goals as goal
 
 pub returns : goal.returns

@@ -1,11 +1,11 @@
 -- `packet` meets its contract. After i turns the first i components are written. Assumes nothing.
 use mathlib.Core.Path.{◌≡◌, refl, ap, ◌∙◌}
-use Prim.Native.Nat.{◌+◌, ◌*◌, ◌≤◌, ◌-◌}
+use Prim.Native.Nat.{◌+◌, ◌*◌, ◌-◌}
 use native.Mathlib.Omega.{arith}
 use lib.ListN.{length, take, drop, length-take, length-drop}
 use Rattle.wire.specs.Codes.{component_limit}
 use Rattle.wire.proofs.words.Copies.{copy_same}
-use Rattle.wire_version.specs.Reply.{reply_size, flat, reply_bytes}
+use Rattle.wire_version.specs.Reply.{flat, reply_bytes}
 use Rattle.wire_version.proofs.Entries.{sofar, sofar_more, length_sofar}
 use borrow.Author.Rules.{rules}
 use Rattle.wire_version.proofs.packet.Goals as goal

@@ -1,5 +1,4 @@
 -- `refused` meets its contract: every field zero. Assumes nothing.
-use borrow.Author.Rules.{rules}
 use Rattle.wire_version.proofs.refused.Goals as goal
 
 pub returns : goal.returns

@@ -1,11 +1,8 @@
 -- `table` meets its contract. After i turns the first i components are read. Assumes nothing.
 use mathlib.Core.Path.{◌≡◌, refl, ◌∙◌}
-use mathlib.Core.List.{◌++◌}
-use Prim.Native.Nat.{◌≤◌, ◌-◌}
 use native.Mathlib.Omega.{arith}
-use lib.ListN.{length, drop, replicate, length-set}
-use Rattle.wire.specs.Codes.{component_limit}
-use Rattle.wire_version.specs.Reply.{none, entries, table_in}
+use lib.ListN.{drop, length-set}
+use Rattle.wire_version.specs.Reply.{entries, table_in}
 use Rattle.wire_version.proofs.Entries.{entries_more, entry_part}
 use borrow.Author.Rules.{rules}
 use Rattle.wire_version.proofs.table.Goals as goal

@@ -10,7 +10,6 @@ use lib.Dec.{leb, eqb}
 use lib.ListN.{length, take}
 use Rattle.crc16.specs.Crc.{crc_of}
 use Rattle.image.specs.Judge.{own_crc, held_crc, image_in}
-use borrow.Author.Rules.{rules}
 use Rattle.image.proofs.judge.examine.Goals.{After-crc16-own, Else-m-id, Else-own-held}
 use Rattle.image.proofs.judge.examine.Goals as goal
 

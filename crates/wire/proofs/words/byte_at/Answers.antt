@@ -1,7 +1,6 @@
 -- `words::byte_at` meets its contract: past the end a byte is 0. Assumes nothing.
 use mathlib.Core.Path.{sym}
 use native.Mathlib.Omega.{arith}
-use borrow.Author.Rules.{rules}
 use lib.ListN.{get_or-eq_default}
 use Rattle.wire.proofs.words.byte_at.Goals as goal
 

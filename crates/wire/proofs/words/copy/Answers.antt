@@ -1,11 +1,9 @@
 -- `words::copy` meets its contract. After i turns the first i bytes are the source's. Assumes nothing.
 use mathlib.Core.Path.{◌≡◌, refl, sym, ap, ◌∙◌}
-use mathlib.Core.List.{◌++◌}
-use Prim.Native.Nat.{◌≤◌, ◌-◌}
 use native.Mathlib.Omega.{arith}
 use borrow.Author.Rules.{rules}
 use borrow.Author.Tests.{ne_eqb}
-use lib.ListN.{length, set, get_or, take, drop, length-set}
+use lib.ListN.{length, set, get_or, length-set}
 use Rattle.wire.proofs.words.Copies.{copied, copy_more, copy_same}
 use Rattle.wire.proofs.words.copy.Goals as goal
 

@@ -1,11 +1,8 @@
 -- `words::fill` meets its contract. After i turns the first i bytes are the value. Assumes nothing.
-use mathlib.Core.Path.{◌≡◌, refl, ap, ◌∙◌}
+use mathlib.Core.Path.{◌≡◌}
 use mathlib.Core.List.{◌++◌}
 use Prim.Native.Nat.{◌≤◌, ◌-◌}
-use native.Mathlib.Omega.{arith}
-use borrow.Author.Fill.{fill_more}
-use lib.ListN.{length, set, drop, replicate, length-set}
-use Rattle.wire.proofs.words.Copies.{filled}
+use lib.ListN.{length, drop, replicate}
 use Rattle.wire.proofs.words.fill.Given as goal
 
 abbrev pub invariant-loop-i : goal.invariant-loop-i

@@ -1,9 +1,6 @@
 -- `words::same` meets its contract. After i turns what is left decides. Assumes nothing.
-use mathlib.Core.Path.{◌≡◌, refl, sym, ◌∙◌}
-use Prim.Native.Nat.{◌≤◌, ◌-◌}
+use mathlib.Core.Path.{refl, sym, ◌∙◌}
 use native.Mathlib.Omega.{arith}
-use lib.ListN.{length, drop}
-use Rattle.wire.specs.Bytes.{same}
 use Rattle.wire.proofs.words.Sames.{same_sized, same_on, same_not, same_end}
 use Rattle.wire.proofs.words.same.Goals as goal
 

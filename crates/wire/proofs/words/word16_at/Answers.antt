@@ -1,6 +1,5 @@
 -- `words::word16_at` meets its contract: a word of the bytes from its place on. Assumes nothing.
 use native.Mathlib.Numerals.{add-one}
-use borrow.Author.Rules.{rules}
 use Rattle.wire.proofs.words.word16_at.Goals as goal
 
 pub returns : goal.returns

@@ -1,7 +1,6 @@
 -- `build_content` meets its contract: the test, and each answer. Assumes nothing.
 use mathlib.Core.Path.{sym}
 use Rattle.wire_content.specs.Content.{build_of}
-use borrow.Author.Rules.{rules}
 use Rattle.wire_content.proofs.content.build_content.Goals as goal
 
 pub returns-then-is_allowed : goal.returns-then-is_allowed

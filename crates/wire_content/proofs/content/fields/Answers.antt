@@ -4,7 +4,6 @@ use native.Mathlib.Omega.{arith}
 use lib.ListN.{get_or, drop, length-drop}
 use Rattle.wire_content.specs.Content.{fields_in}
 use Rattle.wire_content.proofs.content.Laws.{used_most, laid}
-use borrow.Author.Rules.{rules}
 use Rattle.wire_content.proofs.content.fields.Goals as goal
 
 pub slice_bounds-data-end : goal.slice_bounds-data-end

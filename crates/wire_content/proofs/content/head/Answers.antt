@@ -1,5 +1,4 @@
 -- `content::head` meets its contract: the fields, in their order. Assumes nothing.
-use borrow.Author.Rules.{rules}
 use Rattle.wire_content.proofs.content.head.Goals as goal
 
 pub returns : goal.returns

@@ -1,7 +1,6 @@
 -- `read_content` meets its contract: the test, and each answer. Assumes nothing.
 use borrow.Author.Tests.{eq-eqb, ne_eqb}
 use Rattle.wire_content.specs.Content.{read_of}
-use borrow.Author.Rules.{rules}
 use Rattle.wire_content.proofs.content.read_content.Goals as goal
 
 pub returns-then-p-eq-LONG_SIZE : goal.returns-then-p-eq-LONG_SIZE

@@ -1,5 +1,4 @@
 -- `head::read_head` meets its contract: each field by its place. Assumes nothing.
-use borrow.Author.Rules.{rules}
 use Rattle.wire_content.proofs.head.read_head.Goals as goal
 
 pub returns : goal.returns

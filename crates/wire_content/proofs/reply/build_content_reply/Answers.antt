@@ -1,5 +1,4 @@
 -- `build_content_reply` meets its contract: the fields, in their order. Assumes nothing.
-use borrow.Author.Rules.{rules}
 use Rattle.wire_content.proofs.reply.build_content_reply.Goals as goal
 
 pub returns : goal.returns

@@ -1,7 +1,6 @@
 -- `read_content_reply` meets its contract: the test, and each answer. Assumes nothing.
 use borrow.Author.Tests.{eq-eqb, ne_eqb}
 use Rattle.wire_content.specs.Reply.{read_reply_of}
-use borrow.Author.Rules.{rules}
 use Rattle.wire_content.proofs.reply.read_content_reply.Goals as goal
 
 pub returns-then-p-eq-SHORT_SIZE : goal.returns-then-p-eq-SHORT_SIZE

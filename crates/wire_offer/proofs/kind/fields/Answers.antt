@@ -1,6 +1,5 @@
 -- `kind::fields` meets its contract: each field from its bytes. Assumes nothing.
 use Rattle.wire_offer.specs.Offer.{fields_in}
-use borrow.Author.Rules.{rules}
 use Rattle.wire_offer.proofs.kind.fields.Goals as goal
 
 pub returns : goal.returns

@@ -1,7 +1,6 @@
 -- `kind::read_offer_packet` meets its contract: each test, and its answer. Assumes nothing.
 use borrow.Author.Tests.{eq-eqb, ne_eqb}
 use Rattle.wire_offer.specs.Kind.{kind_in, read_of}
-use borrow.Author.Rules.{rules}
 use Rattle.wire_offer.proofs.kind.read_offer_packet.Goals as goal
 
 pub returns-then-p-ne-SHORT_SIZE : goal.returns-then-p-ne-SHORT_SIZE

@@ -1,7 +1,6 @@
 -- `offer::build_offer` meets its contract: the test, and each answer. Assumes nothing.
 use mathlib.Core.Path.{sym}
 use Rattle.wire_offer.specs.Offer.{build_of}
-use borrow.Author.Rules.{rules}
 use Rattle.wire_offer.proofs.offer.build_offer.Goals as goal
 
 pub returns-then-is_allowed : goal.returns-then-is_allowed

@@ -1,6 +1,5 @@
 -- `offer::packet` meets its contract: the fields' bytes, in wire order. Assumes nothing.
 use Rattle.wire_offer.specs.Offer.{offer_bytes}
-use borrow.Author.Rules.{rules}
 use Rattle.wire_offer.proofs.offer.packet.Goals as goal
 
 pub returns : goal.returns

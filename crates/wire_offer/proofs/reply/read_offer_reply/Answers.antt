@@ -1,7 +1,6 @@
 -- `reply::read_offer_reply` meets its contract: the test, and each answer. Assumes nothing.
 use borrow.Author.Tests.{eq-eqb, ne_eqb}
 use Rattle.wire_offer.specs.Reply.{read_reply_of}
-use borrow.Author.Rules.{rules}
 use Rattle.wire_offer.proofs.reply.read_offer_reply.Goals as goal
 
 pub returns-then-p-eq-SHORT_SIZE : goal.returns-then-p-eq-SHORT_SIZE

@@ -7,7 +7,6 @@ use lib.ListN.{length}
 use Rattle.image.specs.Region.{is_inside, region_bytes, blank, erase_of}
 use Rattle.image.proofs.region.Lent.{lent}
 use Rattle.image.proofs.region.Within.{inside, region_length, erase_inside}
-use borrow.Author.Rules.{rules}
 use Rattle.image.proofs.region.Region.erase.Goals.{Then-is_inside}
 use Rattle.image.proofs.region.Region.erase.Goals as goal
 

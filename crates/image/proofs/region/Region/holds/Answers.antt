@@ -3,7 +3,6 @@ use Prim.Native.Nat.{◌+◌}
 use native.Mathlib.Omega.{arith}
 use borrow.Author.Tests.{lt-leb}
 use Rattle.image.proofs.region.Lent.{rest}
-use borrow.Author.Rules.{rules}
 use Rattle.image.proofs.region.Region.holds.Goals as goal
 
 pub returns-then-len-n : goal.returns-then-len-n

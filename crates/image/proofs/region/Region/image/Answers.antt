@@ -3,7 +3,6 @@ use mathlib.Core.Path.{ap, ◌∙◌}
 use Rattle.image.specs.Region.{region_bytes}
 use Rattle.image.specs.Judge.{image_in}
 use Rattle.image.proofs.region.Lent.{clamped}
-use borrow.Author.Rules.{rules}
 use Rattle.image.proofs.region.Region.image.Goals as goal
 
 pub returns : goal.returns

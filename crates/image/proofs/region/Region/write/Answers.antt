@@ -8,7 +8,6 @@ use lib.ListN.{length}
 use Rattle.image.specs.Region.{is_inside, holds, write_of}
 use Rattle.wire.proofs.Tests.{both}
 use Rattle.image.proofs.region.Within.{inside_end, write_put, write_fits}
-use borrow.Author.Rules.{rules}
 use Rattle.image.proofs.region.Region.write.Goals.{Then-is_inside-holds}
 use Rattle.image.proofs.region.Region.write.Goals as goal
 

@@ -1,5 +1,4 @@
 -- `Version::bytes` meets its contract: the parts, in their order. Assumes nothing.
-use borrow.Author.Rules.{rules}
 use Rattle.wire.proofs.version.Version.bytes.Goals as goal
 
 pub returns : goal.returns

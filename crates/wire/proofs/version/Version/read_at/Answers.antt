@@ -1,5 +1,4 @@
 -- `Version::read_at` meets its contract: a version of the four bytes from its place on. Assumes nothing.
-use borrow.Author.Rules.{rules}
 use Rattle.wire.proofs.version.Version.read_at.Goals as goal
 
 pub returns : goal.returns

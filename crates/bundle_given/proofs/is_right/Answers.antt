@@ -7,9 +7,7 @@ use lib.Dec.{eqb}
 use Rattle.image.specs.Judge.{is_right, image_in, image_id, image_version}
 use Rattle.image.specs.declared.judge.Image.{Image}
 use Rattle.image.specs.declared.judge.Image.TheVariants.{Damaged, Foreign, Bears}
-use borrow.Author.Rules.{rules}
-use Rattle.bundle_given.proofs.is_right.Statement.{statement}
-use Rattle.bundle_given.proofs.is_right.Tie as tie
+use Rattle.bundle_given.proofs.is_right.Goals as goal
 
 abbrev is_sound : Image → Bool
 is_sound Damaged = false
@@ -24,23 +22,11 @@ sound_right m id = go (is_right m) (eqb (image_id m) id) where
   go true false = refl
   go false own = refl
 
-returns : tie.Need-returns
-returns c = ap is_sound (sym c.enum_told.given.1 ∙ c.before.before.examine.ensures) ∙ sound_right _ 0
+pub returns-in-Damaged : goal.returns-in-Damaged
+returns-in-Damaged c = ap is_sound (sym c.in-Damaged.is ∙ c.examine-i.ensures) ∙ sound_right _ 0
 
-returns_2 : tie.Need-returns-2
-returns_2 c = ap is_sound (sym c.enum-told2.given.1 ∙ c.before.before.examine.ensures) ∙ sound_right _ 0
+pub returns-in-Foreign : goal.returns-in-Foreign
+returns-in-Foreign c = ap is_sound (sym c.in-Foreign.is ∙ c.examine-i.ensures) ∙ sound_right _ 0
 
-returns_3 : tie.Need-returns-3
-returns_3 c = ap is_sound (sym c.enum-told3.given.1 ∙ c.before.before.examine.ensures) ∙ sound_right _ 0
-
-pub is_right_spec : {M : Type 1} → statement M
-is_right_spec =
-    tie.close
-    (tie.spec
-    (λ c κs. search rules)
-    (λ c. search rules)
-    (λ c. search rules)
-    (λ c. search rules)
-    returns
-    returns_2
-    returns_3)
+pub returns-in-Bears : goal.returns-in-Bears
+returns-in-Bears c = ap is_sound (sym c.in-Bears.is ∙ c.examine-i.ensures) ∙ sound_right _ 0

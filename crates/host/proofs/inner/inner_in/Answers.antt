@@ -3,7 +3,6 @@ use mathlib.Core.Path.{◌≡◌, sym, ◌∙◌}
 use Rattle.bundle_layout.specs.Rows.{served, row_b, number_of, row_of}
 use Rattle.bundle_layout.proofs.Numbers.{refused_row, fine_row}
 use Rattle.host.specs.Inner.{inner_of}
-use borrow.Author.Rules.{rules}
 use Rattle.host.proofs.inner.inner_in.Goals.{After-decision-d, Else-is_refused, In-Moves, In-N1, Then-is_refused}
 use Rattle.host.proofs.inner.inner_in.Goals as goal
 

@@ -3,7 +3,6 @@ use mathlib.Core.Path.{ap}
 use mathlib.Core.List.{[]}
 use borrow.Author.Tests.{eq-eqb, ne_eqb}
 use Rattle.host_packet.specs.Made.{InnerStep}
-use borrow.Author.Rules.{rules}
 use Rattle.host.proofs.inner.inner_step.Goals as goal
 
 pub returns-then-packet-eq-PACKET_SIZE : goal.returns-then-packet-eq-PACKET_SIZE

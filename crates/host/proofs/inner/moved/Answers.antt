@@ -1,7 +1,6 @@
 -- `inner::moved`: the step of what is written. Assumes nothing.
 use mathlib.Core.Path.{◌≡◌, ap}
 use Rattle.host_packet.specs.Made.{Laid, laid_by, laid_of, written_of, step_of_laid}
-use borrow.Author.Rules.{rules}
 use Rattle.host.proofs.inner.moved.Goals.{After-written-w}
 use Rattle.host.proofs.inner.moved.Goals as goal
 

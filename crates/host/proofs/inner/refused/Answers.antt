@@ -1,5 +1,4 @@
 -- `inner::refused`: the packet is cleared. Assumes nothing.
-use borrow.Author.Rules.{rules}
 use Rattle.host.proofs.inner.refused.Goals as goal
 
 pub returns : goal.returns

@@ -1,5 +1,4 @@
 -- `step::cursor_for`: by the stage; of a block, a walk past its record. Assumes nothing.
-use borrow.Author.Rules.{rules}
 use Rattle.host.proofs.step.cursor_for.Goals as goal
 
 pub returns-in-Sending : goal.returns-in-Sending

@@ -1,12 +1,7 @@
 -- `step::place_after`: from the place on as many records are left as turns. Assumes nothing.
-use mathlib.Core.Path.{◌≡◌, sym, ◌∙◌}
-use Prim.Native.Nat.{ℕ, suc, ◌+◌, ◌-◌, ◌≤◌}
-use native.Mathlib.Numerals.{unary_clauses}
-use native.Mathlib.Omega.{arith}
-use borrow.Author.Rules.{rules}
-use Rattle.bundle_records.specs.declared.Next.{Next}
-use Rattle.host.specs.Inner.{past_record, place_after}
-use Rattle.host.proofs.step.Laws.{place_by}
+use mathlib.Core.Path.{◌≡◌}
+use Prim.Native.Nat.{◌-◌, ◌≤◌}
+use Rattle.host.specs.Inner.{place_after}
 use Rattle.host.proofs.step.place_after.Given as goal
 
 abbrev pub invariant-loop-i : goal.invariant-loop-i

@@ -7,7 +7,6 @@ use Rattle.host_record.specs.Fits.{body_of, in_hand}
 use Rattle.host_packet.specs.Made.{InnerStep}
 use Rattle.host.specs.Inner.{inner_of, inner_for, cursor_at, cursor_of}
 use Rattle.host.proofs.step.Laws.{step_is_inner}
-use borrow.Author.Rules.{rules}
 use Rattle.host.proofs.step.step.Goals.{After-body_at-hand, After-cursor_for-cursor}
 use Rattle.host.proofs.step.step.Goals as goal
 
@@ -27,4 +26,4 @@ returns c =
     ∙ ap (λ (n : ℕ). (inner_of a.bundle.now r.row r.count g.body_at-hand.result n a.host a.reply.now).step) f.cursor_for-cursor.ensures
     ∙ ap (λ (y : Body). (inner_of a.bundle.now r.row r.count y (cursor_at a.bundle.now y a.host.stage) a.host a.reply.now).step) (hand_is g)
     ∙ ap (λ (x : Contents). (inner_for a.bundle.now x (cursor_of a.bundle.now x a.host.stage) a.host a.reply.now).step) k.check-c.ensures
-    ∙ step_is_inner a.bundle.now a.host a.reply.now (λ i. (k.before.before.shared-slice-known.given i).fits)
+    ∙ step_is_inner a.bundle.now a.host a.reply.now (λ i. (c.type_inv.bundle i).fits)

@@ -11,9 +11,7 @@ use Rattle.device.specs.Record.{component}
 use Rattle.device.specs.Refusals.{Outcome, served_with}
 use Rattle.device.specs.Content.{session_component, received}
 use Rattle.device.specs.declared.record.Device.{Device}
-use borrow.Author.Rules.{rules}
-use Rattle.device.proofs.record.Device.on_content.Statement.{statement}
-use Rattle.device.proofs.record.Device.on_content.Tie as tie
+use Rattle.device.proofs.record.Device.on_content.Goals as goal
 
 -- what is done with the component in a slot, where that is the session's
 stored : (d : Device) (p s s' : List ℕ) (slot : ℕ) (c : Component) (t : Taken) (cs : List Component) (a : Outcome)
@@ -24,22 +22,8 @@ stored : (d : Device) (p s s' : List ℕ) (slot : ℕ) (c : Component) (t : Take
     × (s' ≡ staging_after (session_component d).fixed.region d.session p s)
 stored d p s s' slot c t cs a x y z v w = let h = rw (y, x) at z in (rw (w, v, h.0, x), h.1)
 
-returns : tie.Need-returns
+pub returns : goal.returns
 returns c =
-    let j = c.before.before.before.before.before.before in
-    let k = j.before.before in
-    let a = k.before.before.before.before.before.before.args in
-    stored a.self a.report.now a.staging.now j.on-report.new.1.1.1.0 k.before.slot.result k.component-at.result j.on-report.result c.before.with-component.result _
-    k.before.slot.ensures k.component-at.ensures j.on-report.ensures c.before.with-component.ensures c.served.ensures
-
-pub on_content_spec : {M : Type 1} → statement M
-on_content_spec =
-    tie.close
-    (tie.spec
-    (λ c κs. search rules)
-    (λ c κs. search rules)
-    (λ c κs. search rules)
-    (λ c κs. search rules)
-    (λ c κs. search rules)
-    (λ c. search rules)
-    returns)
+    let a = c.args in
+    stored a.self a.report.now a.staging.now c.on_report-taken.new.staging c.slot-slot.result c.component_at-component.result c.on_report-taken.result c.with_component-next.result _
+    c.slot-slot.ensures c.component_at-component.ensures c.on_report-taken.ensures c.with_component-next.ensures c.served.ensures

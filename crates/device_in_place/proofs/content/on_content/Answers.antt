@@ -15,9 +15,7 @@ use Rattle.device_in_place.specs.InPlace.{outcome_of, served_reply}
 use Rattle.device_in_place.specs.Inside.{content_by, content_stored}
 use Rattle.device_in_place.specs.declared.Reply.{Reply}
 use Rattle.device_bytes.proofs.Fields.{session_read}
-use borrow.Author.Rules.{rules}
-use Rattle.device_in_place.proofs.content.on_content.Statement.{statement}
-use Rattle.device_in_place.proofs.content.on_content.Tie as tie
+use Rattle.device_in_place.proofs.content.on_content.Goals as goal
 
 -- what is done with the session and with the component in a slot, where these are the record's
 stored : (b p s s' : List ℕ) (session : Session) (slot : ℕ) (c : Component) (t : Taken) (b₁ b₂ : List ℕ) (r : Reply) → let d = device_in b in session ≡ session_in b
@@ -35,30 +33,9 @@ stored b p s s' session slot c t b₁ b₂ r e x y z u v w =
       o.1,
     )
 
-returns : tie.Need-returns
+pub returns : goal.returns
 returns c =
-    let m = c.before.before.before in
-    let l = m.before.before.before.before in
-    let k = l.before.before.before.before.before.before.before in
-    let j = k.before.before in
-    let i = j.before.before in
-    let h = i.before in
-    let a = h.before.before.before.before.before.args in
-    stored a.bytes.now a.report.now a.staging.now _ h.session-in.result i.slot.result j.component-at.result k.on-report.result
-    l.store-session.new.0 m.store-component.new.0 _
-    h.session-in.ensures i.slot.ensures j.component-at.ensures k.on-report.ensures l.store-session.ensures m.store-component.ensures c.served.ensures
-
-pub on_content_spec : {M : Type 1} → statement M
-on_content_spec =
-    tie.close
-    (tie.spec
-    (λ c κs. search rules)
-    (λ c κs. search rules)
-    (λ c κs. search rules)
-    (λ c κs. search rules)
-    (λ c κs. search rules)
-    (λ c κs. search rules)
-    (λ c κs. search rules)
-    (λ c. search rules)
-    (λ c. search rules)
-    returns)
+    let a = c.args in
+    stored a.bytes.now a.report.now a.staging.now _ c.session_in-session.result c.slot-slot.result c.component_at-component.result c.on_report-taken.result
+    c.store_session.new.b c.store_component.new.b _
+    c.session_in-session.ensures c.slot-slot.ensures c.component_at-component.ensures c.on_report-taken.ensures c.store_session.ensures c.store_component.ensures c.served.ensures

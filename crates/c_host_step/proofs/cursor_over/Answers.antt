@@ -1,5 +1,4 @@
 -- `cursor_over`: by its test. Assumes nothing.
-use borrow.Author.Rules.{rules}
 use Rattle.c_host_step.proofs.cursor_over.Goals as goal
 
 pub returns-then-is_kept : goal.returns-then-is_kept

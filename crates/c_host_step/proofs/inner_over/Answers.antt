@@ -3,7 +3,6 @@ use mathlib.Core.Path.{ap, ◌∙◌}
 use Rattle.host_packet.specs.Made.{told_inner}
 use Rattle.host_bytes.specs.Layout.{body_read}
 use Rattle.c_host_step.proofs.Laws.{inner_told}
-use borrow.Author.Rules.{rules}
 use Rattle.c_host_step.proofs.inner_over.Goals.{After-count_in-count, After-cursor_over-cursor, After-entry_in-place, After-in_hand, After-inner_step, After-read_body-hand, After-read_host-h, After-row_in, After-verdict_of-verdict}
 use Rattle.c_host_step.proofs.inner_over.Goals as goal
 

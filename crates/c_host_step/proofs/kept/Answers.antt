@@ -2,7 +2,6 @@
 use mathlib.Core.Path.{◌∙◌}
 use Rattle.host_bytes.specs.Layout.{kept_in}
 use Rattle.c_host_step.proofs.Laws.{kept_served, kept_refused}
-use borrow.Author.Rules.{rules}
 use Rattle.c_host_step.proofs.kept.Goals.{After-keep, Then-step-eq-SERVED}
 use Rattle.c_host_step.proofs.kept.Goals as goal
 

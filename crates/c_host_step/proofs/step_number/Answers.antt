@@ -1,5 +1,4 @@
 -- `step_number` meets its contract: by the refusal. Assumes nothing.
-use borrow.Author.Rules.{rules}
 use Rattle.c_host_step.proofs.step_number.Goals as goal
 
 pub returns-in-Bundle : goal.returns-in-Bundle

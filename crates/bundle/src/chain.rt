@@ -1,7 +1,7 @@
 // Row B7: the bodies follow one another from the table's end to the file's end.
 ghost use Rattle.std.specs.Prelude.{◌≡◌, ◌≤◌, length};
-ghost use Rattle.bundle_layout.specs.Layout.{OFFER-LIMIT, countIn, table_end};
-ghost use Rattle.bundle_layout.specs.Rows.{rowB7};
+ghost use Rattle.bundle_layout.specs.Layout.{offer_limit, count_in, table_end};
+ghost use Rattle.bundle_layout.specs.Rows.{row_b7};
 
 use crate::table::entry_at;
 use bundle_layout::head::table_end;
@@ -9,8 +9,8 @@ use bundle_layout::parts::{length_in, offset_in};
 
 // B7: the first entry whose body does not start where the table or the previous body ends; the last entry where the last end is not the file's; or 0.
 pub(crate) fn gap_place(b: &[u8]) -> u8
-    requires { (countIn b.now ≤ OFFER-LIMIT) × (table_end (countIn b.now) ≤ length b.now) }
-    ensures { result ≡ rowB7 b.now }
+    requires { (count_in b.now ≤ offer_limit) × (table_end (count_in b.now) ≤ length b.now) }
+    ensures { result ≡ row_b7 b.now }
 {
     let count = b[0];
     let mut at = table_end(count) as u64;

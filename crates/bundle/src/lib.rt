@@ -1,6 +1,8 @@
 // The bundle: its check, and what an accepted bundle contains.
+#![tactic(auto)]
+
 ghost use Rattle.std.specs.Prelude.{◌≡◌};
-ghost use Rattle.bundle.specs.Contents.{toldChecked, checkOf};
+ghost use Rattle.bundle.specs.Contents.{told_checked, check_of};
 
 use bundle_layout::blank::refused;
 use bundle_layout::{BundleVerdict, Checked, head};
@@ -11,7 +13,7 @@ mod contents; // contents.rt: row B8, and the contents table
 
 // Rows B1 to B8, each over the whole bundle before the next.
 pub fn check(b: &[u8]) -> Checked
-    ensures { toldChecked result ≡ checkOf b.now }
+    ensures { told_checked result ≡ check_of b.now }
 {
     if head::bad_length(b) {
         return refused(BundleVerdict::B1, 0);

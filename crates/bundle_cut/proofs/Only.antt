@@ -7,36 +7,36 @@ use native.Mathlib.Decide.{dec_lt}
 use native.Mathlib.Omega.{arith}
 use lib.ListN.{length}
 use Rattle.wire.specs.Checks.{All}
-use Rattle.bundle_records.specs.Record.{Block, DATA-LIMIT}
+use Rattle.bundle_records.specs.Record.{Block, data_limit}
 use Rattle.bundle_records.specs.Walk.{between}
-use Rattle.bundle_cut.specs.Cut.{recordOf, cut}
+use Rattle.bundle_cut.specs.Cut.{record_of, cut}
 use Rattle.bundle_cut.specs.Rule.{Kept, end_of, Covers, Apart, Full, TakenFrom, CutOnly}
-use Rattle.bundle_cut.proofs.Pieces.{IsGap, IsData, by-pieces}
-use Rattle.bundle_cut.proofs.Longest.{left_out, Clear, clear-start, gap-goes, clear-gap, clear-data, data-stays}
+use Rattle.bundle_cut.proofs.Pieces.{IsGap, IsData, by_pieces}
+use Rattle.bundle_cut.proofs.Longest.{left_out, Clear, clear_start, gap_goes, clear_gap, clear_data, data_stays}
 
 -- the rest of records that are apart, or full where they touch
 
-apart-rest : (r : Block) (rs : List Block) → Apart (r ∷ rs) → Apart rs
+apart_rest : (r : Block) (rs : List Block) → Apart (r ∷ rs) → Apart rs
 unfolding Apart
-apart-rest r [] h = tt
-apart-rest r (s ∷ rs) h = h.1
+apart_rest r [] h = tt
+apart_rest r (s ∷ rs) h = h.1
 
-full-rest : (r : Block) (rs : List Block) → Full (r ∷ rs) → Full rs
+full_rest : (r : Block) (rs : List Block) → Full (r ∷ rs) → Full rs
 unfolding Full
-full-rest r [] h = tt
-full-rest r (s ∷ rs) h = h.1
+full_rest r [] h = tt
+full_rest r (s ∷ rs) h = h.1
 
 -- what the records after one cover stands after it
-covered-after : (r : Block) (rs : List Block) (x : ℕ) → Apart (r ∷ rs) → Covers rs x → end_of r ≤ x
+covered_after : (r : Block) (rs : List Block) (x : ℕ) → Apart (r ∷ rs) → Covers rs x → end_of r ≤ x
 unfolding Apart Covers
-covered-after r (s ∷ rs) x h (inl c) = omega (arith, h.0, c.0)
-covered-after r (s ∷ rs) x h (inr c) = omega (arith, h.0, covered-after s rs x h.1 c)
+covered_after r (s ∷ rs) x h (inl c) = omega (arith, h.0, c.0)
+covered_after r (s ∷ rs) x h (inr c) = omega (arith, h.0, covered_after s rs x h.1 c)
 
 -- a record whose next place is covered is full
-touched : (r : Block) (rs : List Block) → Apart (r ∷ rs) → Full (r ∷ rs) → Covers rs (end_of r) → length r.bytes ≡ DATA-LIMIT
+touched : (r : Block) (rs : List Block) → Apart (r ∷ rs) → Full (r ∷ rs) → Covers rs (end_of r) → length r.bytes ≡ data_limit
 unfolding Apart Full Covers
 touched r (s ∷ rs) h f (inl c) = f.0 (omega (arith, h.0, c.0))
-touched r (s ∷ rs) h f (inr c) = f.0 (omega (arith, h.0, covered-after s rs (end_of r) h.1 c))
+touched r (s ∷ rs) h f (inr c) = f.0 (omega (arith, h.0, covered_after s rs (end_of r) h.1 c))
 
 module _ (d : List ℕ) where
   -- records with the rule from a place on
@@ -55,8 +55,8 @@ module _ (d : List ℕ) where
       absurd (omega (arith, k.0, k.1.0))
 
   -- where a gap stands, they are those from its end on
-  rest-gap : (at to : ℕ) (rs : List Block) → IsGap d at to → Rest at rs → Rest to rs
-  rest-gap at to rs g t =
+  rest_gap : (at to : ℕ) (rs : List Block) → IsGap d at to → Rest at rs → Rest to rs
+  rest_gap at to rs g t =
       record {
         covers = λ x. (λ c. forth x ((t.covers x).0 c) (dec_lt x to), λ h. (t.covers x).1 (omega (arith, g.next, h.0), h.1));
         apart = t.apart;
@@ -65,33 +65,33 @@ module _ (d : List ℕ) where
       }
     where
       forth : (x : ℕ) → (at ≤ x) × Kept d x → Dec (x < to) → (to ≤ x) × Kept d x
-      forth x h (yes k) = absurd (h.1.1 (gap-goes d at to g x h.0 k))
+      forth x h (yes k) = absurd (h.1.1 (gap_goes d at to g x h.0 k))
       forth x h (no k) = (omega arith, h.1)
 
   -- where a record is due, the first is it
 
   module _ (at to : ℕ) (c : Clear d at) (g : IsData d at to) where
     due : (x : ℕ) → at ≤ x → x < to → Kept d x
-    due x h k = (omega (arith, g.inside), data-stays d at to c g x h k)
+    due x h k = (omega (arith, g.inside), data_stays d at to c g x h k)
 
     module _ (r : Block) (rs : List Block) (t : Rest at (r ∷ rs)) where
-      begins-there : r.address.0 ≡ at
+      begins_there : r.address.0 ≡ at
       unfolding Covers
-      begins-there = go ((t.covers at).1 (omega arith, due at (omega arith) g.some)) where
+      begins_there = go ((t.covers at).1 (omega arith, due at (omega arith) g.some)) where
         k : at ≤ r.address.0
         k = ((t.covers r.address.0).0 (inl (omega arith, omega (arith, t.parts.0.some)))).0
 
         go : ((r.address.0 ≤ at) × (at < end_of r)) ⊎ Covers rs at → r.address.0 ≡ at
         go (inl h) = omega (arith, h.0, k)
-        go (inr h) = absurd (omega (arith, k, covered-after r rs at t.apart h, t.parts.0.some))
+        go (inr h) = absurd (omega (arith, k, covered_after r rs at t.apart h, t.parts.0.some))
 
       ends_there : end_of r ≡ to
       unfolding Covers
       ends_there = go (dec_lt to (end_of r)) (dec_lt (end_of r) to) where
         b : r.address.0 ≡ at
-        b = begins-there
+        b = begins_there
 
-        few : end_of r ≤ at + DATA-LIMIT
+        few : end_of r ≤ at + data_limit
         few = omega (arith, b, t.parts.0.few)
 
         -- it would go on over what is left out
@@ -113,23 +113,23 @@ module _ (d : List ℕ) where
             absurd (under l ((t.covers (end_of r)).1 (m, due (end_of r) m l)))
         go (no k) (no l) = omega arith
 
-      first-is : r ≡ recordOf d at to
-      first-is =
-          ap₂ (λ (a : ℕ) (b : List ℕ). record { address = record { 0 = a }; bytes = b }) begins-there
-          (t.parts.0.bytes ∙ ap₂ (between d) begins-there ends_there)
+      first_is : r ≡ record_of d at to
+      first_is =
+          ap₂ (λ (a : ℕ) (b : List ℕ). record { address = record { 0 = a }; bytes = b }) begins_there
+          (t.parts.0.bytes ∙ ap₂ (between d) begins_there ends_there)
 
-      rest-data : Rest to rs
+      rest_data : Rest to rs
       unfolding Covers
-      rest-data =
+      rest_data =
           record {
             covers = λ x. (forth x, λ h. back x h ((t.covers x).1 (omega (arith, g.some, h.0), h.1)));
-            apart = apart-rest r rs t.apart;
-            full = full-rest r rs t.full;
+            apart = apart_rest r rs t.apart;
+            full = full_rest r rs t.full;
             parts = t.parts.1;
           }
         where
           forth : (x : ℕ) → Covers rs x → (to ≤ x) × Kept d x
-          forth x h = (omega (arith, ends_there, covered-after r rs x t.apart h), ((t.covers x).0 (inr h)).1)
+          forth x h = (omega (arith, ends_there, covered_after r rs x t.apart h), ((t.covers x).0 (inr h)).1)
 
           back : (x : ℕ) → (to ≤ x) × Kept d x → ((r.address.0 ≤ x) × (x < end_of r)) ⊎ Covers rs x → Covers rs x
           back x h (inl k) = absurd (omega (arith, h.0, k.1, ends_there))
@@ -139,16 +139,16 @@ module _ (d : List ℕ) where
   abbrev Only : (at : ℕ) → List Block → Type 0
   Only at cs = Clear d at → (rs : List Block) → Rest at rs → rs ≡ cs
 
-  only-data : (at to : ℕ) (cs : List Block) → IsData d at to → Only to cs → Only at (recordOf d at to ∷ cs)
+  only_data : (at to : ℕ) (cs : List Block) → IsData d at to → Only to cs → Only at (record_of d at to ∷ cs)
   unfolding Covers
-  only-data at to cs g ih c [] t = absurd ((t.covers at).1 (omega arith, due at to c g at (omega arith) g.some))
-  only-data at to cs g ih c (r ∷ rs) t =
-      ap₂ (λ (x : Block) (xs : List Block). x ∷ xs) (first-is at to c g r rs t) (ih (clear-data d at to c g) rs (rest-data at to c g r rs t))
+  only_data at to cs g ih c [] t = absurd ((t.covers at).1 (omega arith, due at to c g at (omega arith) g.some))
+  only_data at to cs g ih c (r ∷ rs) t =
+      ap₂ (λ (x : Block) (xs : List Block). x ∷ xs) (first_is at to c g r rs t) (ih (clear_data d at to c g) rs (rest_data at to c g r rs t))
 
   only : Only 0 (cut d)
-  only = by-pieces d Only (λ at e c rs t. only_none at rs e t) (λ at to cs g ih c rs t. ih (clear-gap d at to g) rs (rest-gap at to rs g t)) only-data
+  only = by_pieces d Only (λ at e c rs t. only_none at rs e t) (λ at to cs g ih c rs t. ih (clear_gap d at to g) rs (rest_gap at to rs g t)) only_data
 
-pub cut-only : CutOnly
-cut-only d rs c =
-    only d (clear-start d) rs
+pub cut_only : CutOnly
+cut_only d rs c =
+    only d (clear_start d) rs
     (record { covers = λ x. (λ k. (omega arith, (c.covers x).0 k), λ k. (c.covers x).1 k.1); apart = c.apart; full = c.full; parts = c.parts })

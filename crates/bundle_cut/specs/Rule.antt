@@ -2,23 +2,23 @@
 use Rattle.std.specs.Prelude.{ℕ, suc, ◌+◌, ◌-◌, ◌*◌, ◌/◌, ◌^◌, ◌≤◌, ◌<◌, ◌≡◌, ◌⊎◌, ◌↔◌, List, [], ◌∷◌, ◌++◌, length, get_or}
 use Rattle.wire.specs.Bytes.{Bytes}
 use Rattle.wire.specs.Checks.{All}
-use Rattle.bundle_records.specs.Record.{Block, Sound, DATA-LIMIT}
+use Rattle.bundle_records.specs.Record.{Block, Sound, data_limit}
 use Rattle.bundle_records.specs.Walk.{between}
-use Rattle.bundle_cut.specs.Cut.{ERASED, RUN-LEAST, CRC-SIZE, cut, beforeCrc, imageRecords, imageBody}
+use Rattle.bundle_cut.specs.Cut.{erased_byte, run_least, crc_size, cut, before_crc, image_records, image_body}
 
 -- a longest run: n bytes 0xFF from place a on, with none just before and none just after
 pub record LongestRun (d : List ℕ) (a n : ℕ) : Type 0 where
   pub inside : a + n ≤ length d
-  pub erased : (x : ℕ) → a ≤ x → x < a + n → get_or d x 0 ≡ ERASED
-  pub begins : (x : ℕ) → suc x ≡ a → get_or d x 0 ≡ ERASED → ⊥
-  pub ends : a + n < length d → get_or d (a + n) 0 ≡ ERASED → ⊥
+  pub erased : (x : ℕ) → a ≤ x → x < a + n → get_or d x 0 ≡ erased_byte
+  pub begins : (x : ℕ) → suc x ≡ a → get_or d x 0 ≡ erased_byte → ⊥
+  pub ends : a + n < length d → get_or d (a + n) 0 ≡ erased_byte → ⊥
 
 -- place x is left out: it stands in a longest run of 52 or more
 pub record LeftOut (d : List ℕ) (x : ℕ) : Type 0 where
   pub start : ℕ
   pub size : ℕ
   pub run : LongestRun d start size
-  pub long : RUN-LEAST ≤ size
+  pub long : run_least ≤ size
   pub from : start ≤ x
   pub below : x < start + size
 
@@ -45,12 +45,12 @@ Apart (r ∷ s ∷ rs) = (end_of r ≤ s.address.0) × Apart (s ∷ rs)
 unfoldable pub Full : List Block → Type 0
 Full [] = Unit {0}
 Full (r ∷ []) = Unit {0}
-Full (r ∷ s ∷ rs) = (end_of r ≡ s.address.0 → length r.bytes ≡ DATA-LIMIT) × Full (s ∷ rs)
+Full (r ∷ s ∷ rs) = (end_of r ≡ s.address.0 → length r.bytes ≡ data_limit) × Full (s ∷ rs)
 
 -- a record has from 1 to 52 bytes, and they are those of d at its address
 pub record TakenFrom (d : List ℕ) (r : Block) : Type 0 where
   pub some : 1 ≤ length r.bytes
-  pub few : length r.bytes ≤ DATA-LIMIT
+  pub few : length r.bytes ≤ data_limit
   pub bytes : r.bytes ≡ between d r.address.0 (end_of r)
 
 -- the rule: the records cover exactly the places that are kept, in rising address, cut at 52 bytes. The count starts anew after each run that is left out, so
@@ -74,21 +74,21 @@ pub record ImageBy (m : List ℕ) (rs : List Block) : Type 0 where
   pub front : List Block
   pub last : Block
   pub whole : rs ≡ front ++ (last ∷ [])
-  pub before : CutBy (beforeCrc m) front
-  pub size : length (beforeCrc m) + 2 ≡ length m
+  pub before : CutBy (before_crc m) front
+  pub size : length (before_crc m) + 2 ≡ length m
   pub place : last.address.0 + 2 ≡ length m
   pub crc : last.bytes ≡ get_or m (length m - 2) 0 ∷ get_or m (length m - 1) 0 ∷ []
 
 abbrev pub ImageRule : Type 0
-ImageRule = (m : List ℕ) → 2 ≤ length m → ImageBy m (imageRecords m)
+ImageRule = (m : List ℕ) → 2 ≤ length m → ImageBy m (image_records m)
 
 -- the records of an image are in rising address, the CRC's among them, and do not overlap
 abbrev pub ImageApart : Type 0
-ImageApart = (m : List ℕ) → Apart (imageRecords m)
+ImageApart = (m : List ℕ) → Apart (image_records m)
 
 -- they can be written
 abbrev pub ImageSound : Type 0
-ImageSound = (m : List ℕ) → Bytes m → CRC-SIZE ≤ length m → length m ≤ 256 ^ 4 → All Sound (imageRecords m)
+ImageSound = (m : List ℕ) → Bytes m → crc_size ≤ length m → length m ≤ 256 ^ 4 → All Sound (image_records m)
 
 -- n bytes in parts of 52, the last of which may be shorter
 abbrev pub parts52 : (n : ℕ) → ℕ
@@ -96,16 +96,16 @@ parts52 n = (n + 51) / 52
 
 -- how many records an image has at most, and how long its body is at most
 pub record BodyAtMost (m : List ℕ) : Type 0 where
-  pub records : length (imageRecords m) ≤ parts52 (length (beforeCrc m)) + 1
-  pub body : length (imageBody m) ≤ length (beforeCrc m) + 5 * parts52 (length (beforeCrc m)) + 7
+  pub records : length (image_records m) ≤ parts52 (length (before_crc m)) + 1
+  pub body : length (image_body m) ≤ length (before_crc m) + 5 * parts52 (length (before_crc m)) + 7
 
 abbrev pub BodyBound : Type 0
-BodyBound = (m : List ℕ) → CRC-SIZE ≤ length m → BodyAtMost m
+BodyBound = (m : List ℕ) → crc_size ≤ length m → BodyAtMost m
 
 -- where no run is left out, that is how many and how long
 pub record BodyExactly (m : List ℕ) : Type 0 where
-  pub records : length (imageRecords m) ≡ parts52 (length (beforeCrc m)) + 1
-  pub body : length (imageBody m) ≡ length (beforeCrc m) + 5 * parts52 (length (beforeCrc m)) + 7
+  pub records : length (image_records m) ≡ parts52 (length (before_crc m)) + 1
+  pub body : length (image_body m) ≡ length (before_crc m) + 5 * parts52 (length (before_crc m)) + 7
 
 abbrev pub BodySize : Type 0
-BodySize = (m : List ℕ) → CRC-SIZE ≤ length m → ((x : ℕ) → LeftOut (beforeCrc m) x → ⊥) → BodyExactly m
+BodySize = (m : List ℕ) → crc_size ≤ length m → ((x : ℕ) → LeftOut (before_crc m) x → ⊥) → BodyExactly m

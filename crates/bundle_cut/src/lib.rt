@@ -1,6 +1,8 @@
 // How an image is cut into the records of a body (document 02, A3): a cursor that steps from piece to piece.
+#![tactic(auto)]
+
 ghost use Rattle.std.specs.Prelude.{◌≡◌, ◌+◌, ◌<◌, length, drop};
-ghost use Rattle.bundle_records.specs.Record.{DATA-LIMIT};
+ghost use Rattle.bundle_records.specs.Record.{data_limit};
 ghost use Rattle.bundle_cut.specs.Cut.{run_at, reach, piece_at};
 
 use bundle_records::DATA_LIMIT;
@@ -16,7 +18,7 @@ pub const RUN_LEAST: usize = 52;
 pub const CRC_SIZE: usize = 2;
 
 // What stands at a place of the bytes before the CRC, with the place after it.
-#[derive(Drop)]
+#[derive(Clone, Copy)]
 pub enum Piece {
     End,
     // A run that is left out.
@@ -43,7 +45,7 @@ fn run_at(d: &[u8], x: usize) -> usize
 // byte after it.
 fn record_end(d: &[u8], at: usize) -> usize
     requires { at < length d.now }
-    ensures { result ≡ at + reach DATA-LIMIT (drop at d.now) }
+    ensures { result ≡ at + reach data_limit (drop at d.now) }
 {
     let end = at + least(DATA_LIMIT as usize, d.len() - at);
     let mut x = at;

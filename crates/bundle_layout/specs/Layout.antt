@@ -2,57 +2,57 @@
 -- and its length (4); then the bodies.
 use Rattle.std.specs.Prelude.{ℕ, zero, suc, ◌+◌, ◌*◌, List, [], ◌∷◌, length, get_or, take, drop}
 use Rattle.wire.specs.Bytes.{number, bytes_at}
-use Rattle.wire.specs.Codes.{SHORT-SIZE}
-use Rattle.wire_offer.specs.Offer.{blankOffer}
+use Rattle.wire.specs.Codes.{short_size}
+use Rattle.wire_offer.specs.Offer.{blank_offer}
 use Rattle.bundle_layout.specs.declared.Entry.{Entry}
 
 -- the largest bundle, the most offers
-abbrev pub BUNDLE-LIMIT : ℕ
-BUNDLE-LIMIT = 65536
+abbrev pub bundle_limit : ℕ
+bundle_limit = 65536
 
-abbrev pub OFFER-LIMIT : ℕ
-OFFER-LIMIT = 7
+abbrev pub offer_limit : ℕ
+offer_limit = 7
 
 -- the lengths of the head and of an entry of the table
-abbrev pub HEAD : ℕ
-HEAD = 8
+abbrev pub head_size : ℕ
+head_size = 8
 
-abbrev pub ENTRY : ℕ
-ENTRY = 24
+abbrev pub entry_size : ℕ
+entry_size = 24
 
-abbrev pub countIn : List ℕ → ℕ
-countIn b = get_or b 0 0
+abbrev pub count_in : List ℕ → ℕ
+count_in b = get_or b 0 0
 
 -- where the table of n offers ends
 abbrev pub table_end : ℕ → ℕ
-table_end n = HEAD + ENTRY * n
+table_end n = head_size + entry_size * n
 
 -- n entries of a table, ENTRY bytes each
-unfoldable pub entriesFrom : ℕ → List ℕ → List (List ℕ)
-entriesFrom zero q = []
-entriesFrom (suc n) q = take ENTRY q ∷ entriesFrom n (drop ENTRY q)
+unfoldable pub entries_from : ℕ → List ℕ → List (List ℕ)
+entries_from zero q = []
+entries_from (suc n) q = take entry_size q ∷ entries_from n (drop entry_size q)
 
 -- the entries of a bundle
-unfoldable pub entriesIn : List ℕ → List (List ℕ)
-entriesIn b = entriesFrom (countIn b) (drop HEAD b)
+unfoldable pub entries_in : List ℕ → List (List ℕ)
+entries_in b = entries_from (count_in b) (drop head_size b)
 
 -- of an entry: the 16 bytes of its offer, the offer's id, its body's offset and length
-abbrev pub offerIn : List ℕ → List ℕ
-offerIn e = take SHORT-SIZE e
+abbrev pub offer_in : List ℕ → List ℕ
+offer_in e = take short_size e
 
-abbrev pub idIn : List ℕ → ℕ
-idIn e = get_or e 2 0
+abbrev pub id_in : List ℕ → ℕ
+id_in e = get_or e 2 0
 
-abbrev pub offsetIn : List ℕ → ℕ
-offsetIn e = number (bytes_at 4 SHORT-SIZE e)
+abbrev pub offset_in : List ℕ → ℕ
+offset_in e = number (bytes_at 4 short_size e)
 
-abbrev pub lengthIn : List ℕ → ℕ
-lengthIn e = number (bytes_at 4 20 e)
+abbrev pub length_in : List ℕ → ℕ
+length_in e = number (bytes_at 4 20 e)
 
 -- the body of an entry
-unfoldable pub bodyIn : (b e : List ℕ) → List ℕ
-bodyIn b e = take (lengthIn e) (drop (offsetIn e) b)
+unfoldable pub body_in : (b e : List ℕ) → List ℕ
+body_in b e = take (length_in e) (drop (offset_in e) b)
 
 -- no entry
-abbrev pub blankEntry : Entry
-blankEntry = record { offer = blankOffer; offset = 0; length = 0; records = 0 }
+abbrev pub blank_entry : Entry
+blank_entry = record { offer = blank_offer; offset = 0; length = 0; records = 0 }

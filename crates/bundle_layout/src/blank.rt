@@ -1,7 +1,7 @@
 // No offer, no entry, no contents.
 ghost use Rattle.std.specs.Prelude.{◌≡◌, replicate};
-ghost use Rattle.wire_offer.specs.Offer.{blankOffer};
-ghost use Rattle.bundle_layout.specs.Layout.{OFFER-LIMIT, blankEntry};
+ghost use Rattle.wire_offer.specs.Offer.{blank_offer};
+ghost use Rattle.bundle_layout.specs.Layout.{offer_limit, blank_entry};
 
 use crate::limits::OFFER_LIMIT;
 use crate::{BundleVerdict, Checked, Entry};
@@ -9,7 +9,7 @@ use wire::version::Version;
 use wire_offer::offer::OfferFields;
 
 pub fn no_offer() -> OfferFields
-    ensures { result ≡ blankOffer }
+    ensures { result ≡ blank_offer }
 {
     OfferFields {
         segment: 0,
@@ -26,7 +26,7 @@ pub fn no_offer() -> OfferFields
 }
 
 fn no_entry() -> Entry
-    ensures { result ≡ blankEntry }
+    ensures { result ≡ blank_entry }
 {
     let offer = no_offer();
     Entry {
@@ -38,7 +38,7 @@ fn no_entry() -> Entry
 }
 
 pub fn no_entries() -> [Entry; OFFER_LIMIT]
-    ensures { result ≡ replicate OFFER-LIMIT blankEntry }
+    ensures { result ≡ replicate offer_limit blank_entry }
 {
     let none = no_entry();
     [none; OFFER_LIMIT]
@@ -46,7 +46,7 @@ pub fn no_entries() -> [Entry; OFFER_LIMIT]
 
 // A refusal: its row and entry, with no contents.
 pub fn refused(verdict: BundleVerdict, place: u8) -> Checked
-    ensures { result ≡ record { verdict = verdict; place = place; count = 0; table = replicate OFFER-LIMIT blankEntry } }
+    ensures { result ≡ record { verdict = verdict; place = place; count = 0; table = replicate offer_limit blank_entry } }
 {
     let none = no_entries();
     Checked {

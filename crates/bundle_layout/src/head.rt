@@ -1,21 +1,21 @@
 // Rows B1 to B4: what is wrong with the length and the first eight bytes.
 ghost use Rattle.std.specs.Prelude.{◌≡◌};
 ghost use Rattle.bundle_layout.specs.Layout.{table_end};
-ghost use Rattle.bundle_layout.specs.Rows.{badLength, badHead, badCount, cutTable};
+ghost use Rattle.bundle_layout.specs.Rows.{bad_length, bad_head, bad_count, cut_table};
 
 use crate::limits::{BUNDLE_LIMIT, ENTRY, HEAD, OFFER_LIMIT};
 use wire::words::byte_at;
 
 // B1: under 8 or over 65,536 bytes.
 pub fn bad_length(b: &[u8]) -> bool
-    ensures { result ≡ badLength b.now }
+    ensures { result ≡ bad_length b.now }
 {
     (b.len() < HEAD) | (BUNDLE_LIMIT < b.len())
 }
 
 // B2: byte 1 not 1, or bytes 2-7 not zero.
 pub fn bad_head(b: &[u8]) -> bool
-    ensures { result ≡ badHead b.now }
+    ensures { result ≡ bad_head b.now }
 {
     (byte_at(b, 1) != 1)
         | (byte_at(b, 2) != 0)
@@ -28,7 +28,7 @@ pub fn bad_head(b: &[u8]) -> bool
 
 // B3: count not 1 to the limit.
 pub fn bad_count(b: &[u8]) -> bool
-    ensures { result ≡ badCount b.now }
+    ensures { result ≡ bad_count b.now }
 {
     let count = byte_at(b, 0);
     (count < 1) | (OFFER_LIMIT < count as usize)
@@ -43,7 +43,7 @@ pub fn table_end(n: u8) -> usize
 
 // B4: table past the end.
 pub fn cut_table(b: &[u8]) -> bool
-    ensures { result ≡ cutTable b.now }
+    ensures { result ≡ cut_table b.now }
 {
     b.len() < table_end(byte_at(b, 0))
 }

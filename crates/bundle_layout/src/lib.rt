@@ -1,6 +1,8 @@
 // The bundle's layout: its limits, its parts and their rows, and what the check answers (document 01, "The bundle" and "Numbered refusals").
+#![tactic(auto)]
+
 ghost use Rattle.std.specs.Prelude.{◌≡◌};
-ghost use Rattle.bundle_layout.specs.Rows.{number_of, is_refused, verdictOf};
+ghost use Rattle.bundle_layout.specs.Rows.{number_of, is_refused, verdict_of};
 
 use crate::limits::OFFER_LIMIT;
 use wire_offer::offer::OfferFields;
@@ -11,7 +13,7 @@ pub mod parts; // parts.rt: the parts of an entry, row B5 of an entry
 pub mod blank; // blank.rt: no entry, and a refusal
 
 // The verdict of the check on a bundle (document 01, "Numbered refusals").
-#[derive(Drop)]
+#[derive(Clone, Copy)]
 pub enum BundleVerdict {
     Fine,
     B1,
@@ -28,7 +30,7 @@ pub enum BundleVerdict {
 pub const LAST_ROW: u8 = 8;
 
 // An offer of the bundle with its body.
-#[derive(Drop)]
+#[derive(Clone, Copy)]
 pub struct Entry {
     pub offer: OfferFields,
     // Where the body starts, and how long it is.
@@ -39,7 +41,7 @@ pub struct Entry {
 }
 
 // What the check answers: the verdict with the entry that it names (from 1, or 0), and the contents, which are zero where a row refuses.
-#[derive(Drop)]
+#[derive(Clone, Copy)]
 pub struct Checked {
     pub verdict: BundleVerdict,
     pub place: u8,
@@ -75,7 +77,7 @@ impl BundleVerdict {
 
 // The verdict of a number; from the last row's on it is B8.
 pub fn verdict_of(number: u8) -> BundleVerdict
-    ensures { result ≡ verdictOf number }
+    ensures { result ≡ verdict_of number }
 {
     match number {
         0 => BundleVerdict::Fine,

@@ -6,7 +6,7 @@ use Rattle.bundle_records.specs.declared.Head.{Head}
 use Rattle.bundle_records.specs.declared.Head.TheVariants.{Empty, Cut, Whole}
 use Rattle.bundle_records.specs.declared.Tally.{Tally}
 use Rattle.bundle_records.specs.declared.Tally.TheVariants.{Broken, Records}
-use Rattle.bundle_records.specs.Record.{Block, Sound, blockBytes, headIn, blockIn, rest_of}
+use Rattle.bundle_records.specs.Record.{Block, Sound, block_bytes, head_in, block_in, rest_of}
 
 -- a body is a list of records, or broken: a cut record, or a length of 0 or over 52
 pub data Parsed : Type 0 where
@@ -22,36 +22,36 @@ more r broken = broken
 abbrev pub after : (List ℕ → Parsed) → List ℕ → Head → Parsed
 after next body Empty = whole []
 after next body Cut = broken
-after next body (Whole address size) = more (blockIn address size body) (next (rest_of size body))
+after next body (Whole address size) = more (block_in address size body) (next (rest_of size body))
 
 -- the records of a body of at most `fuel` bytes
 unfoldable pub parse : ℕ → List ℕ → Parsed
 parse zero body = whole []
-parse (suc fuel) body = after (parse fuel) body (headIn body)
+parse (suc fuel) body = after (parse fuel) body (head_in body)
 
 -- the records of a body
-abbrev pub recordsOf : List ℕ → Parsed
-recordsOf body = parse (length body) body
+abbrev pub records_of : List ℕ → Parsed
+records_of body = parse (length body) body
 
 -- how many records, after n
-abbrev pub tallyFrom : ℕ → Parsed → Tally
-tallyFrom n (whole rs) = Records (n + length rs)
-tallyFrom n broken = Broken
+abbrev pub tally_from : ℕ → Parsed → Tally
+tally_from n (whole rs) = Records (n + length rs)
+tally_from n broken = Broken
 
 -- the records that there are, and none where the body is broken
-abbrev pub blocksOf : Parsed → List Block
-blocksOf (whole rs) = rs
-blocksOf broken = []
+abbrev pub blocks_of : Parsed → List Block
+blocks_of (whole rs) = rs
+blocks_of broken = []
 
 -- records written out, one after the other
 unfoldable pub written : List Block → List ℕ
 written [] = []
-written (r ∷ rs) = blockBytes r ++ written rs
+written (r ∷ rs) = block_bytes r ++ written rs
 
 -- what is written out is read back
 abbrev pub WrittenReads : Type 0
-WrittenReads = (rs : List Block) → All Sound rs → recordsOf (written rs) ≡ whole rs
+WrittenReads = (rs : List Block) → All Sound rs → records_of (written rs) ≡ whole rs
 
 -- a body that reads as records is those records written out
 abbrev pub ReadsWritten : Type 0
-ReadsWritten = (body : List ℕ) (rs : List Block) → Bytes body → recordsOf body ≡ whole rs → (All Sound rs) × (written rs ≡ body)
+ReadsWritten = (body : List ℕ) (rs : List Block) → Bytes body → records_of body ≡ whole rs → (All Sound rs) × (written rs ≡ body)

@@ -6,8 +6,8 @@ use Rattle.bundle_records.specs.declared.Next.{Next}
 use Rattle.bundle_records.specs.declared.Next.TheVariants.{End, Bad, Record}
 use Rattle.bundle_records.specs.declared.Tally.{Tally}
 use Rattle.bundle_records.specs.declared.Tally.TheVariants.{Broken}
-use Rattle.bundle_records.specs.Record.{headIn}
-use Rattle.bundle_records.specs.Parse.{recordsOf, tallyFrom}
+use Rattle.bundle_records.specs.Record.{head_in}
+use Rattle.bundle_records.specs.Parse.{records_of, tally_from}
 
 -- the bytes from place `at` to place `end`
 abbrev pub between : List ℕ → (at end : ℕ) → List ℕ
@@ -21,8 +21,8 @@ placed at (Whole address size) = Record address (at + 5) size (at + 5 + size)
 
 -- what stands at place `at` of a body that ends at `end`; places that the bytes do not have are bad
 unfoldable pub next_of : List ℕ → (at end : ℕ) → Next
-next_of bytes at end = cond (leb at end && leb end (length bytes)) (placed at (headIn (between bytes at end))) Bad
+next_of bytes at end = cond (leb at end && leb end (length bytes)) (placed at (head_in (between bytes at end))) Bad
 
 -- how many records stand from place `at` to place `end`
 unfoldable pub tally_of : List ℕ → (at end : ℕ) → Tally
-tally_of bytes at end = cond (leb at end && leb end (length bytes)) (tallyFrom 0 (recordsOf (between bytes at end))) Broken
+tally_of bytes at end = cond (leb at end && leb end (length bytes)) (tally_from 0 (records_of (between bytes at end))) Broken

@@ -1,4 +1,6 @@
 // The body of a bundle's offer: records of an address (4), a length (1) and data, one after the other.
+#![tactic(auto)]
+
 use wire::address::RegionAddress;
 use wire::codes::DATA_SIZE;
 
@@ -8,7 +10,7 @@ pub mod walk; // walk.rt: a walker that steps from record to record, and the num
 pub const DATA_LIMIT: u8 = DATA_SIZE as u8;
 
 // What stands at the start of some bytes.
-#[derive(Drop)]
+#[derive(Clone, Copy)]
 pub enum Head {
     // Nothing.
     Empty,
@@ -18,7 +20,7 @@ pub enum Head {
 }
 
 // What stands at a place of a body.
-#[derive(Drop)]
+#[derive(Clone, Copy)]
 pub enum Next {
     End,
     Bad,
@@ -32,7 +34,7 @@ pub enum Next {
 }
 
 // How many records a body has.
-#[derive(Drop)]
+#[derive(Clone, Copy)]
 pub enum Tally {
     Broken,
     Records(usize),

@@ -1,6 +1,6 @@
 // A walker over the records of a body, and how many there are.
 ghost use Rattle.std.specs.Prelude.{◌≡◌};
-ghost use Rattle.bundle_records.specs.Record.{isSound, headIn};
+ghost use Rattle.bundle_records.specs.Record.{is_sound, head_in};
 ghost use Rattle.bundle_records.specs.Walk.{next_of, tally_of};
 
 use crate::{DATA_LIMIT, Head, Next, Tally};
@@ -9,14 +9,14 @@ use wire::words;
 
 // A length from 1 to 52 with as many bytes in the rest.
 fn is_sound(size: u8, rest: usize) -> bool
-    ensures { result ≡ isSound size rest }
+    ensures { result ≡ is_sound size rest }
 {
     (1 <= size) & (size <= DATA_LIMIT) & (size as usize <= rest)
 }
 
 // What stands at the start of s.
 fn first(s: &[u8]) -> Head
-    ensures { result ≡ headIn s.now }
+    ensures { result ≡ head_in s.now }
 {
     let n = s.len();
     if n == 0 {

@@ -1,6 +1,8 @@
 // What a program prints of a check (document 01, E14).
+#![tactic(auto)]
+
 ghost use Rattle.std.specs.Prelude.{◌≡◌};
-ghost use Rattle.bundle.specs.Contents.{toldChecked};
+ghost use Rattle.bundle.specs.Contents.{told_checked};
 ghost use Rattle.bundle_report.specs.Report.{line_of, input_of};
 
 use bundle::check;
@@ -8,7 +10,7 @@ use bundle_layout::blank::refused;
 use bundle_layout::{BundleVerdict, Checked, Entry};
 
 // The numbers of an entry's line.
-#[derive(Drop)]
+#[derive(Clone, Copy)]
 pub struct Line {
     pub id: u8,
     pub major: u8,
@@ -19,7 +21,7 @@ pub struct Line {
 
 // The check of an input: what was read of it, and whether there is more than the buffer holds.
 pub fn check_input(buffer: &[u8], more: bool) -> Checked
-    ensures { toldChecked result ≡ input_of more buffer.now }
+    ensures { told_checked result ≡ input_of more buffer.now }
 {
     if more {
         return refused(BundleVerdict::B1, 0);

@@ -1,8 +1,8 @@
 -- What the writer answers, and what it leaves of the output: untouched by a refusal, and otherwise the bundle, with every byte past it as it was.
 use Rattle.std.specs.Prelude.{ℕ, List, ◌++◌, length, drop}
 use Rattle.bundle_writer.specs.declared.WriteAnswer.{WriteAnswer}
-use Rattle.bundle_writer.specs.Bundle.{madeBundle}
-use Rattle.bundle_writer.specs.Rows.{Row, served, W, row_of, writeRow}
+use Rattle.bundle_writer.specs.Bundle.{made_bundle}
+use Rattle.bundle_writer.specs.Rows.{Row, served, row_w, row_of, write_row}
 
 -- l with `bytes` for its first ones
 abbrev pub over : (bytes l : List ℕ) → List ℕ
@@ -15,18 +15,18 @@ pub record Made : Type 0 where
   pub length : ℕ
   pub out : List ℕ
 
-abbrev pub madeBy : Row → (list images out : List ℕ) → Made
-madeBy served list images out = record {
+abbrev pub made_by : Row → (list images out : List ℕ) → Made
+made_by served list images out = record {
   row = served;
   place = 0;
-  length = length (madeBundle list images);
-  out = over (madeBundle list images) out;
+  length = length (made_bundle list images);
+  out = over (made_bundle list images) out;
 }
-madeBy (W k entry) list images out = record { row = W k entry; place = entry; length = 0; out = out }
+made_by (row_w k entry) list images out = record { row = row_w k entry; place = entry; length = 0; out = out }
 
 -- the writer
-unfoldable pub makeOf : (list images out : List ℕ) → Made
-makeOf list images out = madeBy (writeRow list images (length out)) list images out
+unfoldable pub make_of : (list images out : List ℕ) → Made
+make_of list images out = made_by (write_row list images (length out)) list images out
 
 -- an answer of the code in these terms, with the output as it was left
 abbrev pub told : WriteAnswer → (out : List ℕ) → Made

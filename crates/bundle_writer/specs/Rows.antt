@@ -2,20 +2,20 @@
 -- the entry that they name, counted from 1, or 0 where they refuse nothing; W1, W7 and W8 name no entry.
 use Rattle.std.specs.Prelude.{ℕ, Bool, not, cond, List, [], ◌∷◌, ltb, eqb, length}
 use Rattle.wire.specs.Checks.{first_of}
-use Rattle.bundle_layout.specs.Layout.{BUNDLE-LIMIT}
-use Rattle.bundle_layout.specs.Rows.{firstEntry, repeated, named}
+use Rattle.bundle_layout.specs.Layout.{bundle_limit}
+use Rattle.bundle_layout.specs.Rows.{first_entry, repeated, named}
 use Rattle.bundle_writer.specs.declared.rows.WriteVerdict.{WriteVerdict}
 use Rattle.bundle_writer.specs.declared.rows.WriteVerdict.TheVariants.{Fine, W1, W2, W3, W4, W5, W6, W7, W8}
 use Rattle.bundle_given.specs.declared.EntryRule.{EntryRule}
 use Rattle.bundle_given.specs.declared.EntryRule.TheVariants.{Offer, Lent, Crc, Bears}
-use Rattle.bundle_given.specs.Given.{entriesOf}
-use Rattle.bundle_given.specs.Entry.{badList, breaks}
-use Rattle.bundle_writer.specs.Bundle.{madeBundle}
+use Rattle.bundle_given.specs.Given.{entries_of}
+use Rattle.bundle_given.specs.Entry.{bad_list, breaks}
+use Rattle.bundle_writer.specs.Bundle.{made_bundle}
 
 -- the rows of document 02 that the writer gives out, with the entry
 pub data Row : Type 0 where
   served : Row
-  W : (number entry : ℕ) → Row
+  row_w : (number entry : ℕ) → Row
 
 -- the number of each verdict's row, and 0 where none refuses
 abbrev pub number_of : WriteVerdict → ℕ
@@ -35,30 +35,30 @@ is_refused v = not (eqb (number_of v) 0)
 
 -- the row of a number, with its entry
 abbrev pub row_at : (number entry : ℕ) → Row
-row_at number entry = cond (eqb number 0) served (W number entry)
+row_at number entry = cond (eqb number 0) served (row_w number entry)
 
 abbrev pub row_of : WriteVerdict → ℕ → Row
 row_of v entry = row_at (number_of v) entry
 
 -- the first entry that breaks a rule, or 0
-unfoldable pub firstBreaking : EntryRule → (list images : List ℕ) → ℕ
-firstBreaking rule list images = firstEntry (breaks rule images) 1 (entriesOf list)
+unfoldable pub first_breaking : EntryRule → (list images : List ℕ) → ℕ
+first_breaking rule list images = first_entry (breaks rule images) 1 (entries_of list)
 
 -- W3: id already used earlier, B6's rule on the list; the later entry
-unfoldable pub rowW3 : List ℕ → ℕ
-rowW3 list = repeated [] 1 (entriesOf list)
+unfoldable pub row_w3 : List ℕ → ℕ
+row_w3 list = repeated [] 1 (entries_of list)
 
 -- the rows, in checking order; `room` is the output's length
-unfoldable pub writeRow : (list images : List ℕ) → (room : ℕ) → Row
-writeRow list images room =
+unfoldable pub write_row : (list images : List ℕ) → (room : ℕ) → Row
+write_row list images room =
     first_of (
-    (badList list, W 1 0)
-    ∷ (named (firstBreaking Offer list images), W 2 (firstBreaking Offer list images))
-    ∷ (named (rowW3 list), W 3 (rowW3 list))
-    ∷ (named (firstBreaking Lent list images), W 4 (firstBreaking Lent list images))
-    ∷ (named (firstBreaking Crc list images), W 5 (firstBreaking Crc list images))
-    ∷ (named (firstBreaking Bears list images), W 6 (firstBreaking Bears list images))
-    ∷ (ltb BUNDLE-LIMIT (length (madeBundle list images)), W 7 0)
-    ∷ (ltb room (length (madeBundle list images)), W 8 0)
+    (bad_list list, row_w 1 0)
+    ∷ (named (first_breaking Offer list images), row_w 2 (first_breaking Offer list images))
+    ∷ (named (row_w3 list), row_w 3 (row_w3 list))
+    ∷ (named (first_breaking Lent list images), row_w 4 (first_breaking Lent list images))
+    ∷ (named (first_breaking Crc list images), row_w 5 (first_breaking Crc list images))
+    ∷ (named (first_breaking Bears list images), row_w 6 (first_breaking Bears list images))
+    ∷ (ltb bundle_limit (length (made_bundle list images)), row_w 7 0)
+    ∷ (ltb room (length (made_bundle list images)), row_w 8 0)
     ∷ [])
     served

@@ -1,9 +1,9 @@
 // The body of an image: its length and its bytes, by one walk each over the pieces of the image.
 ghost use Rattle.std.specs.Prelude.{◌≡◌, ◌+◌, ◌≤◌, length};
 ghost use Rattle.image.specs.Region.{put};
-ghost use Rattle.device_component.specs.Setup.{STAGING-LIMIT};
-ghost use Rattle.bundle_records.specs.Record.{DATA-LIMIT, blockBytes};
-ghost use Rattle.bundle_cut.specs.Cut.{crcPlace, imageBody};
+ghost use Rattle.device_component.specs.Setup.{staging_limit};
+ghost use Rattle.bundle_records.specs.Record.{data_limit, block_bytes};
+ghost use Rattle.bundle_cut.specs.Cut.{crc_place, image_body};
 
 use crate::out::put_at;
 use bundle_cut::{CRC_SIZE, Piece, next_piece};
@@ -14,15 +14,15 @@ const RECORD_HEAD: usize = 5;
 
 // The place of an image's CRC.
 fn crc_place(m: &[u8]) -> usize
-    ensures { result ≡ crcPlace m.now }
+    ensures { result ≡ crc_place m.now }
 {
     m.len() - least(CRC_SIZE, m.len())
 }
 
 // How long the body of an image is.
 pub(crate) fn body_length(m: &[u8]) -> usize
-    requires { length m.now ≤ STAGING-LIMIT }
-    ensures { result ≡ length (imageBody m.now) }
+    requires { length m.now ≤ staging_limit }
+    ensures { result ≡ length (image_body m.now) }
 {
     let crc = crc_place(m);
     let mut at: usize = 0;
@@ -42,8 +42,8 @@ pub(crate) fn body_length(m: &[u8]) -> usize
 
 // A record goes into the output.
 fn put_record(out: &mut [u8], at: usize, address: u32, bytes: &[u8])
-    requires { (length bytes.now ≤ DATA-LIMIT) × (at + (5 + length bytes.now) ≤ length out.old) }
-    ensures { out.new ≡ put at (blockBytes (record { address = record { 0 = address }; bytes = bytes.now })) out.old }
+    requires { (length bytes.now ≤ data_limit) × (at + (5 + length bytes.now) ≤ length out.old) }
+    ensures { out.new ≡ put at (block_bytes (record { address = record { 0 = address }; bytes = bytes.now })) out.old }
 {
     put_at(out, at, &bytes32(address));
     put_at(out, at + 4, &[bytes.len() as u8]);
@@ -52,8 +52,8 @@ fn put_record(out: &mut [u8], at: usize, address: u32, bytes: &[u8])
 
 // The body of an image goes into the output; gives the place after it.
 pub(crate) fn put_body(out: &mut [u8], start: usize, m: &[u8]) -> usize
-    requires { (length m.now ≤ STAGING-LIMIT) × (start + length (imageBody m.now) ≤ length out.old) }
-    ensures { (result ≡ start + length (imageBody m.now)) × (out.new ≡ put start (imageBody m.now) out.old) }
+    requires { (length m.now ≤ staging_limit) × (start + length (image_body m.now) ≤ length out.old) }
+    ensures { (result ≡ start + length (image_body m.now)) × (out.new ≡ put start (image_body m.now) out.old) }
 {
     let crc = crc_place(m);
     let mut at: usize = 0;

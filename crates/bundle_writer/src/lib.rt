@@ -1,7 +1,9 @@
 // The bundle's writer (document 02, A3): from up to seven offers and the images of their whole regions, a bundle that the check accepts, or the row that refuses
 // it.
+#![tactic(auto)]
+
 ghost use Rattle.std.specs.Prelude.{◌≡◌};
-ghost use Rattle.bundle_writer.specs.Answer.{told, makeOf};
+ghost use Rattle.bundle_writer.specs.Answer.{told, make_of};
 
 use crate::rows::WriteVerdict;
 use bundle_given::{EntryRule, bad_list};
@@ -14,7 +16,7 @@ mod body; // body.rt: the body of an image, its length and its bytes
 mod made; // made.rt: the bundle, its length and its bytes
 
 // What the writer answers: the verdict with the entry that it names (from 1, or 0), and the bundle's length, 0 where a row refuses.
-#[derive(Drop)]
+#[derive(Clone, Copy)]
 pub struct WriteAnswer {
     pub verdict: WriteVerdict,
     pub place: u8,
@@ -34,7 +36,7 @@ fn refused(verdict: WriteVerdict, place: u8) -> WriteAnswer
 
 // Rows W1 to W8, each over the whole list before the next; or the bundle at the start of `out`. Nothing is written before the last row is known.
 pub fn write(out: &mut [u8], list: &[u8], images: &[u8]) -> WriteAnswer
-    ensures { told result out.new ≡ makeOf list.now images.now out.old }
+    ensures { told result out.new ≡ make_of list.now images.now out.old }
 {
     if bad_list(list) {
         return refused(WriteVerdict::W1, 0);

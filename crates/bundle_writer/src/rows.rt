@@ -3,7 +3,7 @@ ghost use Rattle.std.specs.Prelude.{◌≡◌};
 ghost use Rattle.bundle_writer.specs.Rows.{number_of, is_refused};
 
 // The verdict of the writer (document 02, A3).
-#[derive(Drop)]
+#[derive(Clone, Copy)]
 pub enum WriteVerdict {
     Fine,
     W1,

@@ -1,7 +1,9 @@
 // The calls from C for one part of lent bytes: a component of the list, a component of a device, an entry of a checked bundle. A place that is not there is C4.
+#![tactic(auto)]
+
 ghost use Rattle.std.specs.Prelude.{◌≡◌, ◌-◌, ◌^◌, ◌<◌, ◌≤◌};
 ghost use Rattle.c_types.specs.Lent.{leaves};
-ghost use Rattle.c_access.specs.Access.{listed_of, pendingOf, stagedOf, componentTold, noComponent, noEntry, bodyTold, listCall, componentCall, entryCall};
+ghost use Rattle.c_access.specs.Access.{listed_of, pending_of, staged_of, component_told, no_component, no_entry, body_told, list_call, component_call, entry_call};
 
 use c_device::device_number;
 use c_types::numbers::{ROW_B, SERVED, WRONG_LIST, WRONG_PLACE, WRONG_RECORD};
@@ -40,7 +42,7 @@ fn listed(c: CListed) -> Listed
 // A component goes into the list that set-up takes, at a place counted from 0; a refusal leaves the list as it was.
 #[unsafe(no_mangle)]
 pub extern "C" fn cfu_list_put(list: &mut [u8], place: u32, component: CListed) -> u32
-    ensures { leaves result list.new ≡ listCall list.old place component }
+    ensures { leaves result list.new ≡ list_call list.old place component }
 {
     if list.len() != LIST_SIZE {
         return WRONG_LIST;
@@ -54,7 +56,7 @@ pub extern "C" fn cfu_list_put(list: &mut [u8], place: u32, component: CListed) 
 
 // A refused call tells of no component.
 fn no_component(number: u32) -> CComponent
-    ensures { result ≡ noComponent number }
+    ensures { result ≡ no_component number }
 {
     let none = CVersion {
         major: 0,
@@ -74,7 +76,7 @@ fn no_component(number: u32) -> CComponent
 }
 
 fn pending(staged: Staged) -> u8
-    ensures { result ≡ pendingOf staged }
+    ensures { result ≡ pending_of staged }
 {
     match staged {
         Staged::Nothing => 0,
@@ -83,7 +85,7 @@ fn pending(staged: Staged) -> u8
 }
 
 fn staged_parts(staged: Staged) -> CVersion
-    ensures { result ≡ stagedOf staged }
+    ensures { result ≡ staged_of staged }
 {
     match staged {
         Staged::Nothing => CVersion {
@@ -96,7 +98,7 @@ fn staged_parts(staged: Staged) -> CVersion
 }
 
 fn told(c: Component) -> CComponent
-    ensures { result ≡ componentTold c }
+    ensures { result ≡ component_told c }
 {
     let fixed = c.fixed;
     let region = fixed.region;
@@ -118,7 +120,7 @@ fn told(c: Component) -> CComponent
 // The component of a device at a place counted from 0.
 #[unsafe(no_mangle)]
 pub extern "C" fn cfu_device_component(device: &[u8], place: u32) -> CComponent
-    ensures { result ≡ componentCall device.now place }
+    ensures { result ≡ component_call device.now place }
 {
     if device.len() != DEVICE_SIZE {
         return no_component(WRONG_RECORD);
@@ -135,7 +137,7 @@ pub extern "C" fn cfu_device_component(device: &[u8], place: u32) -> CComponent
 
 // A refused call tells of no body.
 fn no_entry(number: u32, entry: u32) -> CEntry
-    ensures { result ≡ noEntry number entry }
+    ensures { result ≡ no_entry number entry }
 {
     CEntry {
         number,
@@ -148,7 +150,7 @@ fn no_entry(number: u32, entry: u32) -> CEntry
 
 fn body_told(body: Body) -> CEntry
     requires { (body.start ≤ body.end) × (body.start < 2 ^ 32) × (body.end - body.start < 2 ^ 32) }
-    ensures { result ≡ bodyTold body }
+    ensures { result ≡ body_told body }
 {
     CEntry {
         number: SERVED,
@@ -162,7 +164,7 @@ fn body_told(body: Body) -> CEntry
 // The entry of a checked bundle at a place counted from 0, by the contents that the check left.
 #[unsafe(no_mangle)]
 pub extern "C" fn cfu_contents_entry(contents: &[u8], place: u32) -> CEntry
-    ensures { result ≡ entryCall contents.now place }
+    ensures { result ≡ entry_call contents.now place }
 {
     if !are_contents(contents) {
         return no_entry(WRONG_RECORD, 0);

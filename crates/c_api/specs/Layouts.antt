@@ -1,36 +1,36 @@
 -- The layouts of include/cfu.h in literal bytes. Every byte of every number and of the previous packet differs from every other, and the flags of two records
 -- differ in each pair of places, so that no other layout that reads back can take their place.
 use Rattle.std.specs.Prelude.{ℕ, ◌*◌, ◌-◌, ◌≡◌, true, false, List, [], ◌∷◌, ◌++◌, map, length, replicate}
-use Rattle.wire.specs.Codes.{COMPONENT-LIMIT}
-use Rattle.wire_offer.specs.Offer.{blankOffer}
-use Rattle.bundle_layout.specs.Layout.{OFFER-LIMIT, blankEntry}
+use Rattle.wire.specs.Codes.{component_limit}
+use Rattle.wire_offer.specs.Offer.{blank_offer}
+use Rattle.bundle_layout.specs.Layout.{offer_limit, blank_entry}
 use Rattle.bundle_layout.specs.Rows.{served}
 use Rattle.bundle_layout.specs.declared.Entry.{Entry}
 use Rattle.bundle.specs.Contents.{Contents}
-use Rattle.device_component.specs.Record.{blankComponent}
+use Rattle.device_component.specs.Record.{blank_component}
 use Rattle.device_component.specs.declared.record.Component.{Component}
 use Rattle.device_component.specs.declared.record.Fixed.{Fixed}
 use Rattle.device_component.specs.declared.record.Listed.{Listed}
 use Rattle.device_component.specs.declared.record.Staged.TheVariants.{Pending}
-use Rattle.device_session.specs.Effect.{blankPacket, noReplies}
+use Rattle.device_session.specs.Effect.{blank_packet, no_replies}
 use Rattle.device_session.specs.declared.effect.Replies.{Replies}
 use Rattle.device_session.specs.declared.effect.Session.{Session}
 use Rattle.device_session.specs.declared.owed.Owed.TheVariants.{Nothing, Token}
 use Rattle.device_session.specs.declared.stage.Stage.TheVariants.{Offered, Receiving}
-use Rattle.device.specs.Refusals.{sentWith}
+use Rattle.device.specs.Refusals.{sent_with}
 use Rattle.device.specs.declared.record.Device.{Device}
-use Rattle.device_component_bytes.specs.Layout.{COMPONENT-SIZE, componentBytes, listedIn}
-use Rattle.device_session_bytes.specs.Layout.{sessionBytes}
-use Rattle.device_bytes.specs.Layout.{deviceBytes}
-use Rattle.host_record.specs.Record.{sentAt, passed_at, freshHost}
+use Rattle.device_component_bytes.specs.Layout.{component_size, component_bytes, listed_in}
+use Rattle.device_session_bytes.specs.Layout.{session_bytes}
+use Rattle.device_bytes.specs.Layout.{device_bytes}
+use Rattle.host_record.specs.Record.{sent_at, passed_at, fresh_host}
 use Rattle.host_record.specs.declared.record.Host.{Host}
 use Rattle.host_record.specs.declared.record.Place.{Place}
 use Rattle.host_record.specs.declared.record.Turn.{Turn}
 use Rattle.host_record.specs.declared.record.HostStage.{HostStage}
 use Rattle.host_record.specs.declared.record.HostStage.TheVariants.{Fresh, Opening, Listing, Offering, Waiting, Sending, Closing, Ended}
 use Rattle.host_record.specs.declared.record.End.TheVariants as end
-use Rattle.host_bytes.specs.Layout.{HOST-SIZE, BODY-SIZE, stageBytes, hostBytes, contentsBytes}
-use Rattle.c_device_packet.specs.Packet.{REPLIES-SIZE, repliesLeft}
+use Rattle.host_bytes.specs.Layout.{host_size, body_part_size, stage_bytes, host_bytes, contents_bytes}
+use Rattle.c_device_packet.specs.Packet.{replies_size, replies_left}
 
 -- what set-up fixes of a component
 abbrev pub fixed : Fixed
@@ -50,7 +50,7 @@ packet =
 
 -- two sessions: offered, owing nothing and holding no packet; receiving, owing a READY and holding one
 abbrev pub offered : Session
-offered = record { stage = Offered (record { slot = 3; token = 4 }); owed = Nothing; previous = blankPacket }
+offered = record { stage = Offered (record { slot = 3; token = 4 }); owed = Nothing; previous = blank_packet }
 
 abbrev pub receiving : Session
 receiving = record { stage = Receiving (record { slot = 3; token = 4; next = 0x0605 }); owed = Token 8; previous = packet }
@@ -61,7 +61,7 @@ device = record {
   platform = 0x0201;
   staging_len = 0x06050403;
   count = 7;
-  components = pending ∷ replicate (COMPONENT-LIMIT - 1) blankComponent;
+  components = pending ∷ replicate (component_limit - 1) blank_component;
   session = receiving;
 }
 
@@ -79,7 +79,7 @@ stages =
     ∷ Listing
     ∷ Offering turn
     ∷ Waiting turn
-    ∷ Sending (sentAt place)
+    ∷ Sending (sent_at place)
     ∷ Sending (passed_at place)
     ∷ Closing
     ∷ Ended end.Done
@@ -101,8 +101,8 @@ host = record {
 }
 
 -- the same with the flags of the pass exchanged
-abbrev pub otherFlags : Host
-otherFlags = record {
+abbrev pub other_flags : Host
+other_flags = record {
   token = host.token;
   stage = host.stage;
   mask = host.mask;
@@ -114,10 +114,10 @@ otherFlags = record {
 
 -- the contents of a bundle of one body, and the block that the cursor is kept for
 abbrev pub body : Entry
-body = record { offer = blankOffer; offset = 0x04030201; length = 0x08070605; records = 0x0C0B0A09 }
+body = record { offer = blank_offer; offset = 0x04030201; length = 0x08070605; records = 0x0C0B0A09 }
 
 abbrev pub contents : Contents
-contents = record { row = served; place = 0; count = 1; table = body ∷ replicate (OFFER-LIMIT - 1) blankEntry }
+contents = record { row = served; place = 0; count = 1; table = body ∷ replicate (offer_limit - 1) blank_entry }
 
 abbrev pub hand : Place
 hand = record { entry = 0x100F0E0D; block = 0x14131211 }
@@ -126,23 +126,23 @@ hand = record { entry = 0x100F0E0D; block = 0x14131211 }
 abbrev pub reply : List ℕ
 reply = 1 ∷ 2 ∷ 3 ∷ 4 ∷ 5 ∷ 6 ∷ 7 ∷ 8 ∷ 9 ∷ 10 ∷ 11 ∷ 12 ∷ 13 ∷ 14 ∷ 15 ∷ 16 ∷ []
 
-abbrev pub dueAlone : Replies
-dueAlone = record { due = true; reply = reply; ready = Nothing }
+abbrev pub due_alone : Replies
+due_alone = record { due = true; reply = reply; ready = Nothing }
 
-abbrev pub dueThenReady : Replies
-dueThenReady = record { due = true; reply = reply; ready = Token 0x5A }
+abbrev pub due_then_ready : Replies
+due_then_ready = record { due = true; reply = reply; ready = Token 0x5A }
 
 pub record LayoutsHold : Type 0 where
   -- a component of the device's record, and one of set-up's list
-  pub component : componentBytes pending ≡ 0x16 ∷ 2 ∷ 3 ∷ 4 ∷ 5 ∷ 6 ∷ 7 ∷ 8 ∷ 9 ∷ 10 ∷ 11 ∷ 12 ∷ 13 ∷ 14 ∷ 15 ∷ 16 ∷ 17 ∷ 1 ∷ 18 ∷ 19 ∷ 20 ∷ 21 ∷ []
-  pub listed : listedIn (0x16 ∷ 2 ∷ 3 ∷ 4 ∷ 5 ∷ 6 ∷ 7 ∷ 8 ∷ 9 ∷ 10 ∷ 11 ∷ 12 ∷ 13 ∷ 14 ∷ 15 ∷ 16 ∷ 17 ∷ []) ≡ record { fixed = fixed; running = record { 0 = 0x05040302 } }
+  pub component : component_bytes pending ≡ 0x16 ∷ 2 ∷ 3 ∷ 4 ∷ 5 ∷ 6 ∷ 7 ∷ 8 ∷ 9 ∷ 10 ∷ 11 ∷ 12 ∷ 13 ∷ 14 ∷ 15 ∷ 16 ∷ 17 ∷ 1 ∷ 18 ∷ 19 ∷ 20 ∷ 21 ∷ []
+  pub listed : listed_in (0x16 ∷ 2 ∷ 3 ∷ 4 ∷ 5 ∷ 6 ∷ 7 ∷ 8 ∷ 9 ∷ 10 ∷ 11 ∷ 12 ∷ 13 ∷ 14 ∷ 15 ∷ 16 ∷ 17 ∷ []) ≡ record { fixed = fixed; running = record { 0 = 0x05040302 } }
   -- the session, and the device's record around both
-  pub offering : sessionBytes offered ≡ 1 ∷ 3 ∷ 4 ∷ 0 ∷ 0 ∷ 0 ∷ 0 ∷ replicate 60 0
-  pub receives : sessionBytes receiving ≡ 2 ∷ 3 ∷ 4 ∷ 5 ∷ 6 ∷ 1 ∷ 8 ∷ packet
-  pub records : deviceBytes device
-      ≡ 1 ∷ 2 ∷ 3 ∷ 4 ∷ 5 ∷ 6 ∷ 7 ∷ sessionBytes receiving ++ (componentBytes pending ++ replicate ((COMPONENT-LIMIT - 1) * COMPONENT-SIZE) 0)
+  pub offering : session_bytes offered ≡ 1 ∷ 3 ∷ 4 ∷ 0 ∷ 0 ∷ 0 ∷ 0 ∷ replicate 60 0
+  pub receives : session_bytes receiving ≡ 2 ∷ 3 ∷ 4 ∷ 5 ∷ 6 ∷ 1 ∷ 8 ∷ packet
+  pub records : device_bytes device
+      ≡ 1 ∷ 2 ∷ 3 ∷ 4 ∷ 5 ∷ 6 ∷ 7 ∷ session_bytes receiving ++ (component_bytes pending ++ replicate ((component_limit - 1) * component_size) 0)
   -- the stages and ends of a host, its record, and the fresh one with token 0
-  pub awaits : map stageBytes stages
+  pub awaits : map stage_bytes stages
       ≡ (0 ∷ 0 ∷ 0 ∷ 0 ∷ 0 ∷ 0 ∷ 0 ∷ 0 ∷ 0 ∷ [])
       ∷ (1 ∷ 0 ∷ 0 ∷ 0 ∷ 0 ∷ 0 ∷ 0 ∷ 0 ∷ 0 ∷ [])
       ∷ (2 ∷ 0 ∷ 0 ∷ 0 ∷ 0 ∷ 0 ∷ 0 ∷ 0 ∷ 0 ∷ [])
@@ -157,18 +157,18 @@ pub record LayoutsHold : Type 0 where
       ∷ (7 ∷ 3 ∷ 0 ∷ 0 ∷ 0 ∷ 0 ∷ 0 ∷ 0 ∷ 0 ∷ [])
       ∷ (7 ∷ 4 ∷ 0 ∷ 0 ∷ 0 ∷ 0 ∷ 0 ∷ 0 ∷ 0 ∷ [])
       ∷ []
-  pub hosts : hostBytes host
+  pub hosts : host_bytes host
       ≡ 1 ∷ 5 ∷ 2 ∷ 3 ∷ 4 ∷ 5 ∷ 6 ∷ 7 ∷ 8 ∷ 9 ∷ 10 ∷ 11 ∷ 12 ∷ 13 ∷ 14 ∷ 15 ∷ 16 ∷ 17 ∷ 18 ∷ 19 ∷ 20 ∷ 21 ∷ 1 ∷ 0 ∷ 1 ∷ []
-  pub flags : hostBytes otherFlags
+  pub flags : host_bytes other_flags
       ≡ 1 ∷ 5 ∷ 2 ∷ 3 ∷ 4 ∷ 5 ∷ 6 ∷ 7 ∷ 8 ∷ 9 ∷ 10 ∷ 11 ∷ 12 ∷ 13 ∷ 14 ∷ 15 ∷ 16 ∷ 17 ∷ 18 ∷ 19 ∷ 20 ∷ 21 ∷ 0 ∷ 1 ∷ 1 ∷ []
-  pub fresh : hostBytes (freshHost 0) ≡ replicate HOST-SIZE 0
+  pub fresh : host_bytes (fresh_host 0) ≡ replicate host_size 0
   -- the contents of a checked bundle: row, entry, count, bodies, the block in hand, the cursor
-  pub keeps : contentsBytes contents hand 0x1C1B1A1918171615
+  pub keeps : contents_bytes contents hand 0x1C1B1A1918171615
       ≡ 0 ∷ 0 ∷ 1 ∷ 1 ∷ 2 ∷ 3 ∷ 4 ∷ 5 ∷ 6 ∷ 7 ∷ 8 ∷ 9 ∷ 10 ∷ 11 ∷ 12
-      ∷ replicate ((OFFER-LIMIT - 1) * BODY-SIZE) 0
+      ∷ replicate ((offer_limit - 1) * body_part_size) 0
       ++ 13 ∷ 14 ∷ 15 ∷ 16 ∷ 17 ∷ 18 ∷ 19 ∷ 20 ∷ 21 ∷ 22 ∷ 23 ∷ 24 ∷ 25 ∷ 26 ∷ 27 ∷ 28 ∷ []
   -- the replies of the device: none, one, or one and the READY behind it
-  pub silent : repliesLeft noReplies ≡ replicate REPLIES-SIZE 0
-  pub single : repliesLeft dueAlone ≡ reply ++ replicate 16 0
-  pub double : repliesLeft dueThenReady ≡ reply ++ (0 ∷ 0 ∷ 0 ∷ 0x5A ∷ 0 ∷ 0 ∷ 0 ∷ 0 ∷ 0 ∷ 0 ∷ 0 ∷ 0 ∷ 4 ∷ 0 ∷ 0 ∷ 0 ∷ [])
-  pub counts : map (λ (r : Replies). length (sentWith r)) (noReplies ∷ dueAlone ∷ dueThenReady ∷ []) ≡ 0 ∷ 1 ∷ 2 ∷ []
+  pub silent : replies_left no_replies ≡ replicate replies_size 0
+  pub single : replies_left due_alone ≡ reply ++ replicate 16 0
+  pub double : replies_left due_then_ready ≡ reply ++ (0 ∷ 0 ∷ 0 ∷ 0x5A ∷ 0 ∷ 0 ∷ 0 ∷ 0 ∷ 0 ∷ 0 ∷ 0 ∷ 0 ∷ 4 ∷ 0 ∷ 0 ∷ 0 ∷ [])
+  pub counts : map (λ (r : Replies). length (sent_with r)) (no_replies ∷ due_alone ∷ due_then_ready ∷ []) ≡ 0 ∷ 1 ∷ 2 ∷ []

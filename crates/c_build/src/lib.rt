@@ -1,10 +1,12 @@
 // Building each packet from C (document 01, "Packets", row P2).
+#![tactic(auto)]
+
 ghost use Rattle.std.specs.Prelude.{◌≡◌, cond, replicate};
-ghost use Rattle.wire.specs.Rows.{P};
-ghost use Rattle.wire.specs.Codes.{SHORT-SIZE};
-ghost use Rattle.wire_offer.specs.Offer.{toldBuilt, buildOf};
+ghost use Rattle.wire.specs.Rows.{row_p};
+ghost use Rattle.wire.specs.Codes.{short_size};
+ghost use Rattle.wire_offer.specs.Offer.{told_built, build_of};
 ghost use Rattle.c_types.specs.Lent.{leaves};
-ghost use Rattle.c_build.specs.Build.{buildVersionReplyCall, fields_of, flagsFit, buildOfferCall, buildInformationCall, buildExtendedCall, buildOfferReplyCall, buildContentCall, buildContentReplyCall};
+ghost use Rattle.c_build.specs.Build.{build_version_reply_call, fields_of, flags_fit, build_offer_call, build_information_call, build_extended_call, build_offer_reply_call, build_content_call, build_content_reply_call};
 
 use c_types::lent::leave;
 use c_types::numbers::{SERVED, WRONG_LIST, packet_number};
@@ -42,7 +44,7 @@ fn fields(o: COffer) -> OfferFields
 
 // P2 where a flag does not fit its bit, or what building the offer tells.
 fn built_offer(o: COffer) -> BuiltOffer
-    ensures { toldBuilt result ≡ cond (flagsFit o) (buildOf (fields_of o)) (record { row = P 2; value = replicate SHORT-SIZE 0 }) }
+    ensures { told_built result ≡ cond (flags_fit o) (build_of (fields_of o)) (record { row = row_p 2; value = replicate short_size 0 }) }
 {
     if (o.force_immediate_reset <= 1) & (o.force_ignore_version <= 1) {
         build_offer(fields(o))
@@ -61,7 +63,7 @@ pub extern "C" fn cfu_build_version_reply(
     components: &[u8],
     packet: &mut [u8],
 ) -> u32
-    ensures { leaves result packet.new ≡ buildVersionReplyCall count protocol components.now packet.old }
+    ensures { leaves result packet.new ≡ build_version_reply_call count protocol components.now packet.old }
 {
     if components.len() != COMPONENTS_SIZE {
         return WRONG_LIST;
@@ -79,7 +81,7 @@ pub extern "C" fn cfu_build_version_reply(
 
 #[unsafe(no_mangle)]
 pub extern "C" fn cfu_build_offer(offer: COffer, packet: &mut [u8]) -> u32
-    ensures { leaves result packet.new ≡ buildOfferCall offer packet.old }
+    ensures { leaves result packet.new ≡ build_offer_call offer packet.old }
 {
     let built = built_offer(offer);
     let p = built.packet;
@@ -89,7 +91,7 @@ pub extern "C" fn cfu_build_offer(offer: COffer, packet: &mut [u8]) -> u32
 
 #[unsafe(no_mangle)]
 pub extern "C" fn cfu_build_information(code: u8, token: u8, packet: &mut [u8]) -> u32
-    ensures { leaves result packet.new ≡ buildInformationCall code token packet.old }
+    ensures { leaves result packet.new ≡ build_information_call code token packet.old }
 {
     let p = build_information(Signal { code, token });
     leave(packet, SERVED, &p)
@@ -97,7 +99,7 @@ pub extern "C" fn cfu_build_information(code: u8, token: u8, packet: &mut [u8]) 
 
 #[unsafe(no_mangle)]
 pub extern "C" fn cfu_build_extended(code: u8, token: u8, packet: &mut [u8]) -> u32
-    ensures { leaves result packet.new ≡ buildExtendedCall code token packet.old }
+    ensures { leaves result packet.new ≡ build_extended_call code token packet.old }
 {
     let p = build_extended(Signal { code, token });
     leave(packet, SERVED, &p)
@@ -105,7 +107,7 @@ pub extern "C" fn cfu_build_extended(code: u8, token: u8, packet: &mut [u8]) -> 
 
 #[unsafe(no_mangle)]
 pub extern "C" fn cfu_build_offer_reply(token: u8, reason: u8, status: u8, packet: &mut [u8]) -> u32
-    ensures { leaves result packet.new ≡ buildOfferReplyCall token reason status packet.old }
+    ensures { leaves result packet.new ≡ build_offer_reply_call token reason status packet.old }
 {
     let p = build_offer_reply(OfferReply {
         token,
@@ -124,7 +126,7 @@ pub extern "C" fn cfu_build_content(
     bytes: &[u8],
     packet: &mut [u8],
 ) -> u32
-    ensures { leaves result packet.new ≡ buildContentCall flags length sequence address bytes.now packet.old }
+    ensures { leaves result packet.new ≡ build_content_call flags length sequence address bytes.now packet.old }
 {
     if bytes.len() != DATA_SIZE {
         return WRONG_LIST;
@@ -145,7 +147,7 @@ pub extern "C" fn cfu_build_content(
 
 #[unsafe(no_mangle)]
 pub extern "C" fn cfu_build_content_reply(sequence: u16, status: u8, packet: &mut [u8]) -> u32
-    ensures { leaves result packet.new ≡ buildContentReplyCall sequence status packet.old }
+    ensures { leaves result packet.new ≡ build_content_reply_call sequence status packet.old }
 {
     let p = build_content_reply(ContentReply { sequence, status });
     leave(packet, SERVED, &p)

@@ -2,12 +2,12 @@
 use Rattle.std.specs.Prelude.{ℕ, ◌+◌}
 use Rattle.device_component.specs.Setup as setup
 use Rattle.device.specs.Refusals as device
-use Rattle.c_types.specs.Numbers.{SERVED, ROW-S, ROW-D}
+use Rattle.c_types.specs.Numbers.{served_number, letter_s, letter_d}
 
-abbrev pub setupNumber : setup.Row → ℕ
-setupNumber setup.served = SERVED
-setupNumber (setup.S k) = ROW-S + k
+abbrev pub setup_number : setup.Row → ℕ
+setup_number setup.served = served_number
+setup_number (setup.row_s k) = letter_s + k
 
-abbrev pub deviceNumber : device.Row → ℕ
-deviceNumber device.served = SERVED
-deviceNumber (device.D k) = ROW-D + k
+abbrev pub device_number : device.Row → ℕ
+device_number device.served = served_number
+device_number (device.row_d k) = letter_d + k

@@ -1,10 +1,12 @@
 // The calls from C for a device's record (document 01, "The device", rows S, D and C): set-up, the version reply, the reset. The record is lent bytes; where a
 // row refuses, it stays as it is.
+#![tactic(auto)]
+
 ghost use Rattle.std.specs.Prelude.{◌≡◌, length};
 ghost use Rattle.device.specs.Refusals.{row_of};
 ghost use Rattle.c_types.specs.Lent.{leaves};
-ghost use Rattle.c_device.specs.Numbers.{deviceNumber};
-ghost use Rattle.c_device.specs.Device.{setUpCall, versionsCall, resetCall};
+ghost use Rattle.c_device.specs.Numbers.{device_number};
+ghost use Rattle.c_device.specs.Device.{set_up_call, versions_call, reset_call};
 
 use c_types::lent::{leave, lent_number, store};
 use c_types::numbers::{ROW_D, ROW_S, SERVED, WRONG_LIST, WRONG_RECORD, lettered};
@@ -14,7 +16,7 @@ use device_bytes::{DEVICE_SIZE, LIST_SIZE, device_bytes, read_device, read_list}
 
 // The number of a row of the device.
 pub fn device_number(refusal: Refusal) -> u32
-    ensures { result ≡ deviceNumber (row_of refusal) }
+    ensures { result ≡ device_number (row_of refusal) }
 {
     lettered(ROW_D, refusal.number())
 }
@@ -28,7 +30,7 @@ pub extern "C" fn cfu_device_set_up(
     count: u8,
     staging: &[u8],
 ) -> u32
-    ensures { leaves result device.new ≡ setUpCall device.old platform list.now count (length staging.now) }
+    ensures { leaves result device.new ≡ set_up_call device.old platform list.now count (length staging.now) }
 {
     let number = lent_number(
         device.len() == DEVICE_SIZE,
@@ -47,7 +49,7 @@ pub extern "C" fn cfu_device_set_up(
 
 #[unsafe(no_mangle)]
 pub extern "C" fn cfu_device_version_reply(device: &[u8], packet: &mut [u8]) -> u32
-    ensures { leaves result packet.new ≡ versionsCall device.now packet.old }
+    ensures { leaves result packet.new ≡ versions_call device.now packet.old }
 {
     if device.len() != DEVICE_SIZE {
         return WRONG_RECORD;
@@ -61,7 +63,7 @@ pub extern "C" fn cfu_device_version_reply(device: &[u8], packet: &mut [u8]) -> 
 
 #[unsafe(no_mangle)]
 pub extern "C" fn cfu_device_reset(device: &mut [u8]) -> u32
-    ensures { leaves result device.new ≡ resetCall device.old }
+    ensures { leaves result device.new ≡ reset_call device.old }
 {
     if device.len() != DEVICE_SIZE {
         return WRONG_RECORD;

@@ -9,33 +9,33 @@ use lib.Dec.{eqb}
 use lib.ListN.{length, take, drop, replicate, length-append}
 use lib.Seq.{take_all}
 use Rattle.wire.specs.Bytes.{copy_of}
-use Rattle.wire.proofs.Pieces.{put-more}
+use Rattle.wire.proofs.Pieces.{put_more}
 use Rattle.device.specs.Refusals.{Outcome}
-use Rattle.device.specs.Offer.{offerEntry}
-use Rattle.device.specs.Content.{contentEntry, contentStaging}
+use Rattle.device.specs.Offer.{offer_entry}
+use Rattle.device.specs.Content.{content_entry, content_staging}
 use Rattle.device.specs.declared.record.Device.{Device}
-use Rattle.device_bytes.specs.Layout.{DEVICE-SIZE, readDevice}
+use Rattle.device_bytes.specs.Layout.{device_size, read_device}
 use Rattle.device_in_place.specs.declared.Reply.{Reply}
-use Rattle.device_in_place.specs.InPlace.{outcomeOf, offerLeaves, contentLeaves}
+use Rattle.device_in_place.specs.InPlace.{outcome_of, offer_leaves, content_leaves}
 use Rattle.c_types.specs.declared.types.CReplies.{CReplies}
-use Rattle.c_types.specs.Numbers.{SERVED, WRONG-RECORD, WRONG-OUTPUT, sized, lentNumber, filledTo}
-use Rattle.c_types.proofs.lent.Laws.{lent-refused, lent-served}
-use Rattle.c_device_packet.specs.Packet.{REPLIES-SIZE, Replied, answeredBy, repliesLeft, toldReplies, refusedReplies, repliedBy, offerCall, contentCall, contentCallStaging}
+use Rattle.c_types.specs.Numbers.{served_number, wrong_record, wrong_output, sized, lent_number, filled_to}
+use Rattle.c_types.proofs.lent.Laws.{lent_refused, lent_served}
+use Rattle.c_device_packet.specs.Packet.{replies_size, Replied, answered_by, replies_left, told_replies, refused_replies, replied_by, offer_call, content_call, content_call_staging}
 
 -- no reply: zeros
-pub none-sent : replicate 16 0 ++ replicate 16 0 ≡ filledTo REPLIES-SIZE (flatten [])
+pub none_sent : replicate 16 0 ++ replicate 16 0 ≡ filled_to replies_size (flatten [])
 unfolding flatten
-none-sent = refl
+none_sent = refl
 
 -- one reply, and zeros behind it
-pub one-sent : (p : List ℕ) → length p ≡ 16 → p ++ replicate 16 0 ≡ filledTo REPLIES-SIZE (flatten (p ∷ []))
+pub one_sent : (p : List ℕ) → length p ≡ 16 → p ++ replicate 16 0 ≡ filled_to replies_size (flatten (p ∷ []))
 unfolding flatten
-one-sent p h = rw (append-nil p, h)
+one_sent p h = rw (append-nil p, h)
 
 -- two replies fill the buffer
-pub two-sent : (p q : List ℕ) → length p ≡ 16 → length q ≡ 16 → p ++ q ≡ filledTo REPLIES-SIZE (flatten (p ∷ q ∷ []))
+pub two_sent : (p q : List ℕ) → length p ≡ 16 → length q ≡ 16 → p ++ q ≡ filled_to replies_size (flatten (p ∷ q ∷ []))
 unfolding flatten
-two-sent p q h k =
+two_sent p q h k =
     let e : 32 - length (p ++ q) ≡ 0 = simp length-append (omega arith) in
     rw (append-nil q, e) (sym (append-nil (p ++ q)))
 
@@ -44,55 +44,55 @@ pub joined_as : (out first second last last2 : List ℕ) (k k2 : ℕ) → k ≡ 
     → last ≡ copy_of (take k (drop 0 out)) first → last2 ≡ copy_of (take k2 (drop 16 (take 0 out ++ (last ++ drop k (drop 0 out))))) second
     → take 16 (take 0 out ++ (last ++ drop k (drop 0 out))) ++ (last2 ++ drop k2 (drop 16 (take 0 out ++ (last ++ drop k (drop 0 out))))) ≡ first ++ second
 joined_as out first second last last2 k k2 e e2 whole h h2 f f2 =
-    let a = put-more out first last 0 16 k e h (omega arith) f in
+    let a = put_more out first last 0 16 k e h (omega arith) f in
     let mid = take 0 out ++ (last ++ drop k (drop 0 out)) in
     let n : length mid ≡ 32 = a.0 ∙ whole in
-    let b = put-more mid second last2 16 16 k2 e2 h2 (omega arith) f2 in
+    let b = put_more mid second last2 16 16 k2 e2 h2 (omega arith) f2 in
     let m : length (take 16 mid ++ (last2 ++ drop k2 (drop 16 mid))) ≡ 32 = b.0 ∙ n in
     sym (take_all 32 (take 16 mid ++ (last2 ++ drop k2 (drop 16 mid))) (omega arith)) ∙ b.1 ∙ ap (λ (t : List ℕ). t ++ second) a.1
 
 -- an answer tells its outcome
-pub answers : (r : CReplies) (a : Reply) (d : Device) (left replies : List ℕ) {x : Outcome} → outcomeOf a d ≡ x → r ≡ answeredBy a → replies ≡ repliesLeft a.replies
-    → toldReplies r left replies ≡ repliedBy left x
-answers r a d left replies e f g = (rw (f, g)) ∙ ap (repliedBy left) e
+pub answers : (r : CReplies) (a : Reply) (d : Device) (left replies : List ℕ) {x : Outcome} → outcome_of a d ≡ x → r ≡ answered_by a → replies ≡ replies_left a.replies
+    → told_replies r left replies ≡ replied_by left x
+answers r a d left replies e f g = (rw (f, g)) ∙ ap (replied_by left) e
 
 -- a call over a record and a buffer for replies
-module _ (device replies : List ℕ) (n : ℕ) (e : n ≡ lentNumber (eqb (length device) DEVICE-SIZE) (eqb (length replies) REPLIES-SIZE) WRONG-OUTPUT) where
+module _ (device replies : List ℕ) (n : ℕ) (e : n ≡ lent_number (eqb (length device) device_size) (eqb (length replies) replies_size) wrong_output) where
   -- where one does not fit it is refused
-  refused : (right : Replied) → (n ≡ SERVED → ⊥)
-      → refusedReplies n device replies ≡ sized device DEVICE-SIZE (refusedReplies WRONG-RECORD device replies) (sized replies REPLIES-SIZE (refusedReplies WRONG-OUTPUT device replies) right)
-  refused right = lent-refused (eqb (length device) DEVICE-SIZE) (eqb (length replies) REPLIES-SIZE) WRONG-OUTPUT n (λ (m : ℕ). refusedReplies m device replies) right e
+  refused : (right : Replied) → (n ≡ served_number → ⊥)
+      → refused_replies n device replies ≡ sized device device_size (refused_replies wrong_record device replies) (sized replies replies_size (refused_replies wrong_output device replies) right)
+  refused right = lent_refused (eqb (length device) device_size) (eqb (length replies) replies_size) wrong_output n (λ (m : ℕ). refused_replies m device replies) right e
 
-  pub offer-refused : (m : ℕ) (report : List ℕ) → (n ≡ SERVED → ⊥) → refusedReplies n device replies ≡ offerCall device m report replies
-  unfolding offerCall
-  offer-refused m report = refused _
+  pub offer_refused : (m : ℕ) (report : List ℕ) → (n ≡ served_number → ⊥) → refused_replies n device replies ≡ offer_call device m report replies
+  unfolding offer_call
+  offer_refused m report = refused _
 
-  pub content-refused : (staging report : List ℕ) → (n ≡ SERVED → ⊥)
-      → (refusedReplies n device replies ≡ contentCall device staging report replies) × (staging ≡ contentCallStaging device staging report replies)
-  unfolding contentCall contentCallStaging
-  content-refused staging report h =
-      (refused _ h, lent-refused (eqb (length device) DEVICE-SIZE) (eqb (length replies) REPLIES-SIZE) WRONG-OUTPUT n (λ (m : ℕ). staging) _ e h)
+  pub content_refused : (staging report : List ℕ) → (n ≡ served_number → ⊥)
+      → (refused_replies n device replies ≡ content_call device staging report replies) × (staging ≡ content_call_staging device staging report replies)
+  unfolding content_call content_call_staging
+  content_refused staging report h =
+      (refused _ h, lent_refused (eqb (length device) device_size) (eqb (length replies) replies_size) wrong_output n (λ (m : ℕ). staging) _ e h)
 
   -- otherwise both fit
-  fit : n ≡ SERVED → (eqb (length device) DEVICE-SIZE ≡ true) × (eqb (length replies) REPLIES-SIZE ≡ true)
-  fit = lent-served (eqb (length device) DEVICE-SIZE) (eqb (length replies) REPLIES-SIZE) WRONG-OUTPUT n (omega arith) e
+  fit : n ≡ served_number → (eqb (length device) device_size ≡ true) × (eqb (length replies) replies_size ≡ true)
+  fit = lent_served (eqb (length device) device_size) (eqb (length replies) replies_size) wrong_output n (omega arith) e
 
-  pub replies-fit : n ≡ SERVED → length replies ≡ REPLIES-SIZE
-  replies-fit h = eqb-true (length replies) REPLIES-SIZE (fit h).1
+  pub replies_fit : n ≡ served_number → length replies ≡ replies_size
+  replies_fit h = eqb-true (length replies) replies_size (fit h).1
 
-  pub offer-served : (m : ℕ) (report : List ℕ) (r : CReplies) (a : Reply) (left out : List ℕ) → n ≡ SERVED
-      → outcomeOf a (offerEntry (readDevice device) m report).device ≡ offerEntry (readDevice device) m report → left ≡ offerLeaves device (offerEntry (readDevice device) m report)
-      → r ≡ answeredBy a → out ≡ repliesLeft a.replies → toldReplies r left out ≡ offerCall device m report replies
-  unfolding offerCall
-  offer-served m report r a left out h f g i j = rw ((fit h).0, (fit h).1, g) (answers r a _ _ out f i j)
+  pub offer_served : (m : ℕ) (report : List ℕ) (r : CReplies) (a : Reply) (left out : List ℕ) → n ≡ served_number
+      → outcome_of a (offer_entry (read_device device) m report).device ≡ offer_entry (read_device device) m report → left ≡ offer_leaves device (offer_entry (read_device device) m report)
+      → r ≡ answered_by a → out ≡ replies_left a.replies → told_replies r left out ≡ offer_call device m report replies
+  unfolding offer_call
+  offer_served m report r a left out h f g i j = rw ((fit h).0, (fit h).1, g) (answers r a _ _ out f i j)
 
-  pub content-served : (staging report : List ℕ) (r : CReplies) (a : Reply) (left out : List ℕ) → n ≡ SERVED
-      → outcomeOf a (contentEntry (readDevice device) staging report).device ≡ contentEntry (readDevice device) staging report
-      → left ≡ contentLeaves device (contentEntry (readDevice device) staging report) → r ≡ answeredBy a → out ≡ repliesLeft a.replies
-      → toldReplies r left out ≡ contentCall device staging report replies
-  unfolding contentCall
-  content-served staging report r a left out h f g i j = rw ((fit h).0, (fit h).1, g) (answers r a _ _ out f i j)
+  pub content_served : (staging report : List ℕ) (r : CReplies) (a : Reply) (left out : List ℕ) → n ≡ served_number
+      → outcome_of a (content_entry (read_device device) staging report).device ≡ content_entry (read_device device) staging report
+      → left ≡ content_leaves device (content_entry (read_device device) staging report) → r ≡ answered_by a → out ≡ replies_left a.replies
+      → told_replies r left out ≡ content_call device staging report replies
+  unfolding content_call
+  content_served staging report r a left out h f g i j = rw ((fit h).0, (fit h).1, g) (answers r a _ _ out f i j)
 
-  pub staging-served : (staging report left : List ℕ) → n ≡ SERVED → left ≡ contentStaging (readDevice device) staging report → left ≡ contentCallStaging device staging report replies
-  unfolding contentCallStaging
-  staging-served staging report left h f = rw ((fit h).0, (fit h).1) f
+  pub staging_served : (staging report left : List ℕ) → n ≡ served_number → left ≡ content_staging (read_device device) staging report → left ≡ content_call_staging device staging report replies
+  unfolding content_call_staging
+  staging_served staging report left h f = rw ((fit h).0, (fit h).1) f

@@ -1,21 +1,21 @@
 -- The device's calls from C for packets: what each answers and leaves in each lent buffer. A refused call leaves the record as it is.
 use Rattle.std.specs.Prelude.{ℕ, ◌*◌, length}
 use mathlib.Core.List.{List, flatten}
-use Rattle.wire.specs.Codes.{SHORT-SIZE}
+use Rattle.wire.specs.Codes.{short_size}
 use Rattle.device_session.specs.declared.effect.Replies.{Replies}
-use Rattle.device.specs.Refusals.{row_of, sentWith, Outcome}
-use Rattle.device.specs.Offer.{offerEntry}
-use Rattle.device.specs.Content.{contentEntry, contentStaging}
-use Rattle.device_bytes.specs.Layout.{DEVICE-SIZE, readDevice}
+use Rattle.device.specs.Refusals.{row_of, sent_with, Outcome}
+use Rattle.device.specs.Offer.{offer_entry}
+use Rattle.device.specs.Content.{content_entry, content_staging}
+use Rattle.device_bytes.specs.Layout.{device_size, read_device}
 use Rattle.device_in_place.specs.declared.Reply.{Reply}
-use Rattle.device_in_place.specs.InPlace.{offerLeaves, contentLeaves}
+use Rattle.device_in_place.specs.InPlace.{offer_leaves, content_leaves}
 use Rattle.c_types.specs.declared.types.CReplies.{CReplies}
-use Rattle.c_types.specs.Numbers.{WRONG-RECORD, WRONG-OUTPUT, sized, filledTo}
-use Rattle.c_device.specs.Numbers.{deviceNumber}
+use Rattle.c_types.specs.Numbers.{wrong_record, wrong_output, sized, filled_to}
+use Rattle.c_device.specs.Numbers.{device_number}
 
 -- the size of a buffer for replies: two at the most
-abbrev pub REPLIES-SIZE : ℕ
-REPLIES-SIZE = 2 * SHORT-SIZE
+abbrev pub replies_size : ℕ
+replies_size = 2 * short_size
 
 -- what an offer or a content packet leaves: the record, and the replies one after the other, zeros behind them
 pub record Replied : Type 0 where
@@ -24,40 +24,40 @@ pub record Replied : Type 0 where
   pub device : List ℕ
   pub replies : List ℕ
 
-abbrev pub toldReplies : CReplies → (device replies : List ℕ) → Replied
-toldReplies r device replies = record { number = r.number; count = r.count; device = device; replies = replies }
+abbrev pub told_replies : CReplies → (device replies : List ℕ) → Replied
+told_replies r device replies = record { number = r.number; count = r.count; device = device; replies = replies }
 
-abbrev pub refusedReplies : (number : ℕ) → (device replies : List ℕ) → Replied
-refusedReplies number device replies = record { number = number; count = 0; device = device; replies = replies }
+abbrev pub refused_replies : (number : ℕ) → (device replies : List ℕ) → Replied
+refused_replies number device replies = record { number = number; count = 0; device = device; replies = replies }
 
 -- what an answer tells, and the replies that it leaves: one after the other, zeros behind them
-abbrev pub answeredBy : Reply → CReplies
-answeredBy a = record { number = deviceNumber (row_of a.refusal); count = length (sentWith a.replies) }
+abbrev pub answered_by : Reply → CReplies
+answered_by a = record { number = device_number (row_of a.refusal); count = length (sent_with a.replies) }
 
-abbrev pub repliesLeft : Replies → List ℕ
-repliesLeft replies = filledTo REPLIES-SIZE (flatten (sentWith replies))
+abbrev pub replies_left : Replies → List ℕ
+replies_left replies = filled_to replies_size (flatten (sent_with replies))
 
-abbrev pub repliedBy : (left : List ℕ) → Outcome → Replied
-repliedBy left o = record {
-  number = deviceNumber o.row;
+abbrev pub replied_by : (left : List ℕ) → Outcome → Replied
+replied_by left o = record {
+  number = device_number o.row;
   count = length o.sent;
   device = left;
-  replies = filledTo REPLIES-SIZE (flatten o.sent);
+  replies = filled_to replies_size (flatten o.sent);
 }
 
-unfoldable pub offerCall : (device : List ℕ) → (n : ℕ) → (report replies : List ℕ) → Replied
-offerCall device n report replies =
-    sized device DEVICE-SIZE (refusedReplies WRONG-RECORD device replies)
-    (sized replies REPLIES-SIZE (refusedReplies WRONG-OUTPUT device replies)
-    (repliedBy (offerLeaves device (offerEntry (readDevice device) n report)) (offerEntry (readDevice device) n report)))
+unfoldable pub offer_call : (device : List ℕ) → (n : ℕ) → (report replies : List ℕ) → Replied
+offer_call device n report replies =
+    sized device device_size (refused_replies wrong_record device replies)
+    (sized replies replies_size (refused_replies wrong_output device replies)
+    (replied_by (offer_leaves device (offer_entry (read_device device) n report)) (offer_entry (read_device device) n report)))
 
-unfoldable pub contentCall : (device staging report replies : List ℕ) → Replied
-contentCall device staging report replies =
-    sized device DEVICE-SIZE (refusedReplies WRONG-RECORD device replies)
-    (sized replies REPLIES-SIZE (refusedReplies WRONG-OUTPUT device replies)
-    (repliedBy (contentLeaves device (contentEntry (readDevice device) staging report)) (contentEntry (readDevice device) staging report)))
+unfoldable pub content_call : (device staging report replies : List ℕ) → Replied
+content_call device staging report replies =
+    sized device device_size (refused_replies wrong_record device replies)
+    (sized replies replies_size (refused_replies wrong_output device replies)
+    (replied_by (content_leaves device (content_entry (read_device device) staging report)) (content_entry (read_device device) staging report)))
 
 -- the staging buffer after a content packet
-unfoldable pub contentCallStaging : (device staging report replies : List ℕ) → List ℕ
-contentCallStaging device staging report replies =
-    sized device DEVICE-SIZE staging (sized replies REPLIES-SIZE staging (contentStaging (readDevice device) staging report))
+unfoldable pub content_call_staging : (device staging report replies : List ℕ) → List ℕ
+content_call_staging device staging report replies =
+    sized device device_size staging (sized replies replies_size staging (content_staging (read_device device) staging report))

@@ -1,7 +1,9 @@
 // The device's calls from C for packets (document 01, "The device", rows D and C). The record is lent bytes; where a row refuses, it stays as it is.
+#![tactic(auto)]
+
 ghost use Rattle.std.specs.Prelude.{◌≡◌, ◌++◌, length};
-ghost use Rattle.device.specs.Refusals.{sentWith};
-ghost use Rattle.c_device_packet.specs.Packet.{REPLIES-SIZE, answeredBy, repliesLeft, toldReplies, offerCall, contentCall, contentCallStaging};
+ghost use Rattle.device.specs.Refusals.{sent_with};
+ghost use Rattle.c_device_packet.specs.Packet.{replies_size, answered_by, replies_left, told_replies, offer_call, content_call, content_call_staging};
 
 use c_device::device_number;
 use c_types::lent::lent_number;
@@ -32,7 +34,7 @@ fn joined(first: [u8; SHORT_SIZE], second: [u8; SHORT_SIZE]) -> [u8; REPLIES_SIZ
 
 // The replies that are sent: the one that is due and the READY that was owed, zeros behind them.
 fn replies_of(replies: Replies) -> [u8; REPLIES_SIZE]
-    ensures { result ≡ repliesLeft replies }
+    ensures { result ≡ replies_left replies }
 {
     let none = [0u8; SHORT_SIZE];
     let reply = replies.reply;
@@ -58,7 +60,7 @@ fn replies_of(replies: Replies) -> [u8; REPLIES_SIZE]
 
 // How many they are.
 fn count_of(replies: Replies) -> u32
-    ensures { result ≡ length (sentWith replies) }
+    ensures { result ≡ length (sent_with replies) }
 {
     let ready = replies.ready;
     match ready {
@@ -69,8 +71,8 @@ fn count_of(replies: Replies) -> u32
 
 // What an answer leaves; the record is left already.
 fn answered(a: Reply, replies: &mut [u8]) -> CReplies
-    requires { length replies.old ≡ REPLIES-SIZE }
-    ensures { (result ≡ answeredBy a) × (replies.new ≡ repliesLeft a.replies) }
+    requires { length replies.old ≡ replies_size }
+    ensures { (result ≡ answered_by a) × (replies.new ≡ replies_left a.replies) }
 {
     let refusal = a.refusal;
     let out = replies_of(a.replies);
@@ -89,7 +91,7 @@ pub extern "C" fn cfu_device_offer(
     report: &[u8],
     replies: &mut [u8],
 ) -> CReplies
-    ensures { toldReplies result device.new replies.new ≡ offerCall device.old (length staging.now) report.now replies.old }
+    ensures { told_replies result device.new replies.new ≡ offer_call device.old (length staging.now) report.now replies.old }
 {
     let number = lent_number(
         device.len() == DEVICE_SIZE,
@@ -110,8 +112,8 @@ pub extern "C" fn cfu_device_content(
     report: &[u8],
     replies: &mut [u8],
 ) -> CReplies
-    ensures { (toldReplies result device.new replies.new ≡ contentCall device.old staging.old report.now replies.old)
-        × (staging.new ≡ contentCallStaging device.old staging.old report.now replies.old) }
+    ensures { (told_replies result device.new replies.new ≡ content_call device.old staging.old report.now replies.old)
+        × (staging.new ≡ content_call_staging device.old staging.old report.now replies.old) }
 {
     let number = lent_number(
         device.len() == DEVICE_SIZE,

@@ -1,14 +1,16 @@
 // The bundle's call from C, and the calls for a host's record (document 01, "The bundle" and "The host", rows B and C): a fresh one, and its report. The record
 // is lent bytes.
+#![tactic(auto)]
+
 ghost use Rattle.std.specs.Prelude.{◌≡◌, cond, leb};
-ghost use Rattle.host_record.specs.Fits.{PACKET-LIMIT};
-ghost use Rattle.host_record.specs.Record.{endingOf, statusOf, toldProgress};
-ghost use Rattle.host_packet.specs.Answer.{N};
+ghost use Rattle.host_record.specs.Fits.{packet_limit};
+ghost use Rattle.host_record.specs.Record.{ending_of, status_of, told_progress};
+ghost use Rattle.host_packet.specs.Answer.{row_n};
 ghost use Rattle.c_types.specs.Numbers.{SERVED};
 ghost use Rattle.c_types.specs.Lent.{leaves};
-ghost use Rattle.c_host.specs.Numbers.{stepNumber, endingNumber};
-ghost use Rattle.c_host.specs.Check.{toldCheck, checkCall};
-ghost use Rattle.c_host.specs.Host.{freshCall, reportCall};
+ghost use Rattle.c_host.specs.Numbers.{step_number, ending_number};
+ghost use Rattle.c_host.specs.Check.{told_check, check_call};
+ghost use Rattle.c_host.specs.Host.{fresh_call, report_call};
 
 use bundle::check;
 use c_types::lent::store;
@@ -25,7 +27,7 @@ use wire::words;
 // The check of a bundle; its contents are left for cfu_host_step_checked.
 #[unsafe(no_mangle)]
 pub extern "C" fn cfu_bundle_check(bundle: &[u8], contents: &mut [u8]) -> CCheck
-    ensures { toldCheck result contents.new ≡ checkCall bundle.now contents.old }
+    ensures { told_check result contents.new ≡ check_call bundle.now contents.old }
 {
     if contents.len() != CONTENTS_SIZE {
         return CCheck {
@@ -47,7 +49,7 @@ pub extern "C" fn cfu_bundle_check(bundle: &[u8], contents: &mut [u8]) -> CCheck
 
 #[unsafe(no_mangle)]
 pub extern "C" fn cfu_host_fresh(host: &mut [u8], token: u8) -> u32
-    ensures { leaves result host.new ≡ freshCall host.old token }
+    ensures { leaves result host.new ≡ fresh_call host.old token }
 {
     if host.len() != HOST_SIZE {
         return WRONG_RECORD;
@@ -59,7 +61,7 @@ pub extern "C" fn cfu_host_fresh(host: &mut [u8], token: u8) -> u32
 
 // N1 for a record that counts more packets than any host may.
 fn report_number(packets: u32) -> u32
-    ensures { result ≡ cond (leb PACKET-LIMIT packets) (stepNumber (N 1)) SERVED }
+    ensures { result ≡ cond (leb packet_limit packets) (step_number (row_n 1)) SERVED }
 {
     if PACKET_LIMIT <= packets {
         lettered(ROW_N, StepRefusal::N1.number())
@@ -70,7 +72,7 @@ fn report_number(packets: u32) -> u32
 
 // 1 where a host is done, or the row that ended it.
 fn end_number(end: End) -> u32
-    ensures { result ≡ endingNumber (endingOf end) }
+    ensures { result ≡ ending_number (ending_of end) }
 {
     let number = end.number();
     if number == 0 {
@@ -81,7 +83,7 @@ fn end_number(end: End) -> u32
 }
 
 fn ending_number(progress: Progress) -> u32
-    ensures { result ≡ endingNumber (toldProgress progress) }
+    ensures { result ≡ ending_number (told_progress progress) }
 {
     match progress {
         Progress::Running => RUNNING,
@@ -90,7 +92,7 @@ fn ending_number(progress: Progress) -> u32
 }
 
 fn ending_status(progress: Progress) -> u32
-    ensures { result ≡ statusOf (toldProgress progress) }
+    ensures { result ≡ status_of (told_progress progress) }
 {
     match progress {
         Progress::Running => 0,
@@ -100,7 +102,7 @@ fn ending_status(progress: Progress) -> u32
 
 #[unsafe(no_mangle)]
 pub extern "C" fn cfu_host_report(host: &[u8]) -> CReport
-    ensures { result ≡ reportCall host.now }
+    ensures { result ≡ report_call host.now }
 {
     if host.len() != HOST_SIZE {
         return CReport {

@@ -1,18 +1,18 @@
 -- The host's steps from C: what each answers and leaves in each lent buffer. A refused call leaves the record as it is.
 use Rattle.std.specs.Prelude.{ℕ, cond, length}
 use mathlib.Core.List.{List, flatten}
-use Rattle.wire.specs.Codes.{LONG-SIZE}
-use Rattle.host_packet.specs.Answer.{Step, row_of, entryOf, size_of}
+use Rattle.wire.specs.Codes.{long_size}
+use Rattle.host_packet.specs.Answer.{Step, row_of, entry_of, size_of}
 use Rattle.host_packet.specs.declared.answer.Sent.{Sent}
 use Rattle.host_packet.specs.declared.answer.Sent.TheVariants as sent
 use Rattle.host_packet.specs.declared.answer.StepRefusal.{StepRefusal}
 use Rattle.host_packet.specs.Made.{InnerStep}
 use Rattle.host.specs.Step.{step_of}
-use Rattle.host.specs.Inner.{innerFor}
-use Rattle.host_bytes.specs.Layout.{HOST-SIZE, hostBytes, readHost, contentsIn, areContents, cursorFor, keptBy, contentsAfter}
+use Rattle.host.specs.Inner.{inner_for}
+use Rattle.host_bytes.specs.Layout.{host_size, host_bytes, read_host, contents_in, are_contents, cursor_for, kept_by, contents_after}
 use Rattle.c_types.specs.declared.types.CStep.{CStep}
-use Rattle.c_types.specs.Numbers.{WRONG-RECORD, WRONG-OUTPUT, sized}
-use Rattle.c_host.specs.Numbers.{stepNumber}
+use Rattle.c_types.specs.Numbers.{wrong_record, wrong_output, sized}
+use Rattle.c_host.specs.Numbers.{step_number}
 
 -- what a step leaves: the record, which a refused step leaves as it was, and the packet, zeros behind what is sent
 pub record StepLeft : Type 0 where
@@ -20,53 +20,53 @@ pub record StepLeft : Type 0 where
   pub host : List ℕ
   pub packet : List ℕ
 
-abbrev pub toldStep : CStep → (host packet : List ℕ) → StepLeft
-toldStep step host packet = record { step = step; host = host; packet = packet }
+abbrev pub told_step : CStep → (host packet : List ℕ) → StepLeft
+told_step step host packet = record { step = step; host = host; packet = packet }
 
 -- a call that C1 or C3 refuses
-abbrev pub refusedBy : (number : ℕ) → CStep
-refusedBy number = record { number = number; entry = 0; length = 0 }
+abbrev pub refused_by : (number : ℕ) → CStep
+refused_by number = record { number = number; entry = 0; length = 0 }
 
-abbrev pub refusedStep : (number : ℕ) → (host packet : List ℕ) → StepLeft
-refusedStep number host packet = record { step = refusedBy number; host = host; packet = packet }
+abbrev pub refused_step : (number : ℕ) → (host packet : List ℕ) → StepLeft
+refused_step number host packet = record { step = refused_by number; host = host; packet = packet }
 
 -- what a step answers
-abbrev pub answeredBy : StepRefusal → Sent → CStep
-answeredBy refusal sent = record { number = stepNumber (row_of refusal); entry = entryOf (row_of refusal); length = size_of sent }
+abbrev pub answered_by : StepRefusal → Sent → CStep
+answered_by refusal sent = record { number = step_number (row_of refusal); entry = entry_of (row_of refusal); length = size_of sent }
 
-abbrev pub stepBy : (host : List ℕ) → Step → StepLeft
-stepBy host s = record {
-  step = record { number = stepNumber s.row; entry = entryOf s.row; length = length (flatten s.sent) };
-  host = keptBy s.row host (hostBytes s.host);
+abbrev pub step_by : (host : List ℕ) → Step → StepLeft
+step_by host s = record {
+  step = record { number = step_number s.row; entry = entry_of s.row; length = length (flatten s.sent) };
+  host = kept_by s.row host (host_bytes s.host);
   packet = s.packet;
 }
 
-unfoldable pub stepCall : (host bundle reply packet : List ℕ) → StepLeft
-stepCall host bundle reply packet =
-    sized host HOST-SIZE (refusedStep WRONG-RECORD host packet)
-    (sized packet LONG-SIZE (refusedStep WRONG-OUTPUT host packet)
-    (stepBy host (step_of bundle (readHost host) reply)))
+unfoldable pub step_call : (host bundle reply packet : List ℕ) → StepLeft
+step_call host bundle reply packet =
+    sized host host_size (refused_step wrong_record host packet)
+    (sized packet long_size (refused_step wrong_output host packet)
+    (step_by host (step_of bundle (read_host host) reply)))
 
 -- the inner step over contents: with the cursor that is kept for the record, or that a walk finds
-abbrev pub innerOver : (host contents bundle reply : List ℕ) → InnerStep
-innerOver host contents bundle reply = innerFor bundle (contentsIn contents) (cursorFor bundle contents (readHost host).stage) (readHost host) reply
+abbrev pub inner_over : (host contents bundle reply : List ℕ) → InnerStep
+inner_over host contents bundle reply = inner_for bundle (contents_in contents) (cursor_for bundle contents (read_host host).stage) (read_host host) reply
 
 -- an answer that stands only where a check may have left the contents
 abbrev pub checked : {A : Type 0} → (contents : List ℕ) → (wrong right : A) → A
-checked contents wrong right = cond (areContents contents) right wrong
+checked contents wrong right = cond (are_contents contents) right wrong
 
 -- the step over contents that the check left
-unfoldable pub stepCheckedCall : (host contents bundle reply packet : List ℕ) → StepLeft
-stepCheckedCall host contents bundle reply packet =
-    sized host HOST-SIZE (refusedStep WRONG-RECORD host packet)
-    (checked contents (refusedStep WRONG-RECORD host packet)
-    (sized packet LONG-SIZE (refusedStep WRONG-OUTPUT host packet)
-    (stepBy host (innerOver host contents bundle reply).step)))
+unfoldable pub step_checked_call : (host contents bundle reply packet : List ℕ) → StepLeft
+step_checked_call host contents bundle reply packet =
+    sized host host_size (refused_step wrong_record host packet)
+    (checked contents (refused_step wrong_record host packet)
+    (sized packet long_size (refused_step wrong_output host packet)
+    (step_by host (inner_over host contents bundle reply).step)))
 
 -- the contents after it: with the block whose reply is awaited, if one is, and the cursor behind it
-unfoldable pub stepCheckedContents : (host contents bundle reply packet : List ℕ) → List ℕ
-stepCheckedContents host contents bundle reply packet =
-    sized host HOST-SIZE contents
+unfoldable pub step_checked_contents : (host contents bundle reply packet : List ℕ) → List ℕ
+step_checked_contents host contents bundle reply packet =
+    sized host host_size contents
     (checked contents contents
-    (sized packet LONG-SIZE contents
-    (contentsAfter contents (innerOver host contents bundle reply))))
+    (sized packet long_size contents
+    (contents_after contents (inner_over host contents bundle reply))))

@@ -1,12 +1,14 @@
 // The host's steps from C (document 01, "The host", rows B, N and C). The record is lent bytes; where a row refuses, it stays as it is.
+#![tactic(auto)]
+
 ghost use Rattle.std.specs.Prelude.{◌≡◌, true, cond, length};
-ghost use Rattle.wire.specs.Codes.{LONG-SIZE};
+ghost use Rattle.wire.specs.Codes.{long_size};
 ghost use Rattle.host_packet.specs.Answer.{row_of};
-ghost use Rattle.host_packet.specs.Made.{toldInner};
-ghost use Rattle.host.specs.Inner.{cursorAt};
-ghost use Rattle.host_bytes.specs.Layout.{HOST-SIZE, hostBytes, cursorIn, areContents, isKept, keptIn, keptBy};
-ghost use Rattle.c_host.specs.Numbers.{stepNumber};
-ghost use Rattle.c_host_step.specs.Step.{refusedBy, answeredBy, toldStep, stepCall, innerOver, stepCheckedCall, stepCheckedContents};
+ghost use Rattle.host_packet.specs.Made.{told_inner};
+ghost use Rattle.host.specs.Inner.{cursor_at};
+ghost use Rattle.host_bytes.specs.Layout.{host_size, host_bytes, cursor_in, are_contents, is_kept, kept_in, kept_by};
+ghost use Rattle.c_host.specs.Numbers.{step_number};
+ghost use Rattle.c_host_step.specs.Step.{refused_by, answered_by, told_step, step_call, inner_over, step_checked_call, step_checked_contents};
 
 use bundle_layout::verdict_of;
 use c_types::lent::{lent_number, store};
@@ -26,7 +28,7 @@ use wire::words;
 
 // The entry that a bundle's row names is told beside its number.
 fn step_number(refusal: StepRefusal) -> u32
-    ensures { result ≡ stepNumber (row_of refusal) }
+    ensures { result ≡ step_number (row_of refusal) }
 {
     let number = refusal.number() as u32;
     match refusal {
@@ -41,7 +43,7 @@ fn step_number(refusal: StepRefusal) -> u32
 
 // A call that a row of C refuses.
 fn refused(number: u32) -> CStep
-    ensures { result ≡ refusedBy number }
+    ensures { result ≡ refused_by number }
 {
     CStep {
         number,
@@ -52,8 +54,8 @@ fn refused(number: u32) -> CStep
 
 // What a step answers; the next record is stored where no row refuses.
 fn answered(host: &mut [u8], refusal: StepRefusal, sent: Sent, next: Host) -> CStep
-    requires { length host.old ≡ HOST-SIZE }
-    ensures { (result ≡ answeredBy refusal sent) × (host.new ≡ keptBy (row_of refusal) host.old (hostBytes next)) }
+    requires { length host.old ≡ host_size }
+    ensures { (result ≡ answered_by refusal sent) × (host.new ≡ kept_by (row_of refusal) host.old (host_bytes next)) }
 {
     let b = host_bytes(next);
     CStep {
@@ -70,7 +72,7 @@ pub extern "C" fn cfu_host_step(
     reply: &[u8],
     packet: &mut [u8],
 ) -> CStep
-    ensures { toldStep result host.new packet.new ≡ stepCall host.old bundle.now reply.now packet.old }
+    ensures { told_step result host.new packet.new ≡ step_call host.old bundle.now reply.now packet.old }
 {
     let number = lent_number(
         host.len() == HOST_SIZE,
@@ -91,7 +93,7 @@ pub extern "C" fn cfu_host_step(
 
 // The cursor of a record: the one that is kept for it, or the one that a walk over the body in hand finds.
 fn cursor_over(contents: &[u8], bundle: &[u8], hand: Body, stage: HostStage) -> usize
-    ensures { result ≡ cond (isKept contents.now stage) (cursorIn contents.now) (cursorAt bundle.now hand stage) }
+    ensures { result ≡ cond (is_kept contents.now stage) (cursor_in contents.now) (cursor_at bundle.now hand stage) }
 {
     if is_kept(contents, stage) {
         read_cursor(contents)
@@ -108,8 +110,8 @@ fn inner_over(
     reply: &[u8],
     packet: &mut [u8],
 ) -> Stepped
-    requires { (areContents contents.now ≡ true) × (length packet.old ≡ LONG-SIZE) }
-    ensures { toldInner result packet.new ≡ innerOver host.now contents.now bundle.now reply.now }
+    requires { (are_contents contents.now ≡ true) × (length packet.old ≡ long_size) }
+    ensures { told_inner result packet.new ≡ inner_over host.now contents.now bundle.now reply.now }
 {
     let h = read_host(host);
     let stage = h.stage;
@@ -125,9 +127,9 @@ fn inner_over(
 
 // What the inner step answers; the next record, and the block with the cursor behind it, are stored where no row refuses.
 fn kept(s: Stepped, host: &mut [u8], contents: &mut [u8]) -> CStep
-    requires { length host.old ≡ HOST-SIZE }
-    ensures { (result ≡ answeredBy s.refusal s.sent) × (host.new ≡ keptBy (row_of s.refusal) host.old (hostBytes s.host))
-        × (contents.new ≡ keptBy (row_of s.refusal) contents.old (keptIn contents.old s.host.stage s.cursor)) }
+    requires { length host.old ≡ host_size }
+    ensures { (result ≡ answered_by s.refusal s.sent) × (host.new ≡ kept_by (row_of s.refusal) host.old (host_bytes s.host))
+        × (contents.new ≡ kept_by (row_of s.refusal) contents.old (kept_in contents.old s.host.stage s.cursor)) }
 {
     let refusal = s.refusal;
     let sent = s.sent;
@@ -149,8 +151,8 @@ pub extern "C" fn cfu_host_step_checked(
     reply: &[u8],
     packet: &mut [u8],
 ) -> CStep
-    ensures { (toldStep result host.new packet.new ≡ stepCheckedCall host.old contents.old bundle.now reply.now packet.old)
-        × (contents.new ≡ stepCheckedContents host.old contents.old bundle.now reply.now packet.old) }
+    ensures { (told_step result host.new packet.new ≡ step_checked_call host.old contents.old bundle.now reply.now packet.old)
+        × (contents.new ≡ step_checked_contents host.old contents.old bundle.now reply.now packet.old) }
 {
     let fits = (host.len() == HOST_SIZE) & are_contents(contents);
     let number = lent_number(fits, packet.len() == LONG_SIZE, WRONG_OUTPUT);

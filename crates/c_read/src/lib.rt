@@ -1,8 +1,10 @@
 // Reading each packet from C (document 01, "Packets", rows P1 and P2).
+#![tactic(auto)]
+
 ghost use Rattle.std.specs.Prelude.{◌≡◌};
-ghost use Rattle.wire_offer.specs.Offer.{blankOffer};
-ghost use Rattle.wire_offer.specs.Kind.{toldRead};
-ghost use Rattle.c_read.specs.Read.{toldVersions, readVersionReplyCall, flagOf, offerOf, noSignal, signalOf, packetOf, readOfferCall, readOfferReplyCall, toldContent, readContentCall, readContentReplyCall};
+ghost use Rattle.wire_offer.specs.Offer.{blank_offer};
+ghost use Rattle.wire_offer.specs.Kind.{told_read};
+ghost use Rattle.c_read.specs.Read.{told_versions, read_version_reply_call, flag_of, offer_of, no_signal, signal_of, packet_of, read_offer_call, read_offer_reply_call, told_content, read_content_call, read_content_reply_call};
 
 use c_types::numbers::{
     KIND_EXTENDED, KIND_INFORMATION, KIND_NONE, KIND_OFFER, SERVED, WRONG_OUTPUT, packet_number,
@@ -26,7 +28,7 @@ use wire_version::read_version_reply;
 // The components are left in the lent bytes.
 #[unsafe(no_mangle)]
 pub extern "C" fn cfu_read_version_reply(packet: &[u8], components: &mut [u8]) -> CVersionReply
-    ensures { toldVersions result components.new ≡ readVersionReplyCall packet.now components.old }
+    ensures { told_versions result components.new ≡ read_version_reply_call packet.now components.old }
 {
     if components.len() != COMPONENTS_SIZE {
         return CVersionReply {
@@ -49,13 +51,13 @@ pub extern "C" fn cfu_read_version_reply(packet: &[u8], components: &mut [u8]) -
 }
 
 fn flag(set: bool) -> u8
-    ensures { result ≡ flagOf set }
+    ensures { result ≡ flag_of set }
 {
     if set { 1 } else { 0 }
 }
 
 fn offer_fields(o: OfferFields) -> COffer
-    ensures { result ≡ offerOf o }
+    ensures { result ≡ offer_of o }
 {
     let v = o.version;
     let version = parts(v);
@@ -74,7 +76,7 @@ fn offer_fields(o: OfferFields) -> COffer
 }
 
 fn no_offer() -> COffer
-    ensures { result ≡ offerOf blankOffer }
+    ensures { result ≡ offer_of blank_offer }
 {
     COffer {
         segment: 0,
@@ -95,7 +97,7 @@ fn no_offer() -> COffer
 }
 
 fn signal_fields(s: Signal) -> CSignal
-    ensures { result ≡ signalOf s }
+    ensures { result ≡ signal_of s }
 {
     CSignal {
         code: s.code,
@@ -104,13 +106,13 @@ fn signal_fields(s: Signal) -> CSignal
 }
 
 fn no_signal() -> CSignal
-    ensures { result ≡ noSignal }
+    ensures { result ≡ no_signal }
 {
     CSignal { code: 0, token: 0 }
 }
 
 fn packet_fields(read: OfferPacket) -> COfferPacket
-    ensures { result ≡ packetOf (toldRead read).row (toldRead read).value }
+    ensures { result ≡ packet_of (told_read read).row (told_read read).value }
 {
     match read {
         OfferPacket::Refused => COfferPacket {
@@ -142,7 +144,7 @@ fn packet_fields(read: OfferPacket) -> COfferPacket
 
 #[unsafe(no_mangle)]
 pub extern "C" fn cfu_read_offer(packet: &[u8]) -> COfferPacket
-    ensures { result ≡ readOfferCall packet.now }
+    ensures { result ≡ read_offer_call packet.now }
 {
     let read = read_offer_packet(packet);
     packet_fields(read)
@@ -150,7 +152,7 @@ pub extern "C" fn cfu_read_offer(packet: &[u8]) -> COfferPacket
 
 #[unsafe(no_mangle)]
 pub extern "C" fn cfu_read_offer_reply(packet: &[u8]) -> COfferReply
-    ensures { result ≡ readOfferReplyCall packet.now }
+    ensures { result ≡ read_offer_reply_call packet.now }
 {
     let read = read_offer_reply(packet);
     let verdict = read.verdict;
@@ -166,7 +168,7 @@ pub extern "C" fn cfu_read_offer_reply(packet: &[u8]) -> COfferReply
 // The data is left in the lent bytes.
 #[unsafe(no_mangle)]
 pub extern "C" fn cfu_read_content(packet: &[u8], bytes: &mut [u8]) -> CContent
-    ensures { toldContent result bytes.new ≡ readContentCall packet.now bytes.old }
+    ensures { told_content result bytes.new ≡ read_content_call packet.now bytes.old }
 {
     if bytes.len() != DATA_SIZE {
         return CContent {
@@ -194,7 +196,7 @@ pub extern "C" fn cfu_read_content(packet: &[u8], bytes: &mut [u8]) -> CContent
 
 #[unsafe(no_mangle)]
 pub extern "C" fn cfu_read_content_reply(packet: &[u8]) -> CContentReply
-    ensures { result ≡ readContentReplyCall packet.now }
+    ensures { result ≡ read_content_reply_call packet.now }
 {
     let read = read_content_reply(packet);
     let verdict = read.verdict;

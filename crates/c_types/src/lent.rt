@@ -1,7 +1,7 @@
 // What a call is refused by for its lent buffers (rows C1 to C3), and what it leaves in one: what comes out, and a record.
 ghost use Rattle.std.specs.Prelude.{◌≡◌, cond, eqb, length};
 ghost use Rattle.wire.specs.Bytes.{copy_of};
-ghost use Rattle.c_types.specs.Numbers.{WRONG-OUTPUT, sized, lentNumber};
+ghost use Rattle.c_types.specs.Numbers.{wrong_output, sized, lent_number};
 ghost use Rattle.c_types.specs.Lent.{leaves};
 
 use crate::numbers::{SERVED, WRONG_OUTPUT, WRONG_RECORD};
@@ -9,7 +9,7 @@ use wire::words;
 
 // C1 where the record does not fit, the row of another buffer where that does not, or 0.
 pub fn lent_number(fits: bool, other: bool, row: u32) -> u32
-    ensures { result ≡ lentNumber fits other row }
+    ensures { result ≡ lent_number fits other row }
 {
     if fits {
         if other { SERVED } else { row }
@@ -20,7 +20,7 @@ pub fn lent_number(fits: bool, other: bool, row: u32) -> u32
 
 // C3, or the bytes and their number.
 pub fn leave(buffer: &mut [u8], number: u32, bytes: &[u8]) -> u32
-    ensures { leaves result buffer.new ≡ sized buffer.old (length bytes.now) (leaves WRONG-OUTPUT buffer.old) (leaves number bytes.now) }
+    ensures { leaves result buffer.new ≡ sized buffer.old (length bytes.now) (leaves wrong_output buffer.old) (leaves number bytes.now) }
 {
     if buffer.len() == bytes.len() {
         words::copy(buffer, bytes);

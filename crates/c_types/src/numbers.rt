@@ -1,7 +1,7 @@
 // The numbers that cross to C: rows of documents 01 and 02 as a letter's code, times 256, and a number; rows C1 to C4 of these crates.
 ghost use Rattle.std.specs.Prelude.{◌≡◌};
 ghost use Rattle.wire.specs.Rows.{row_of};
-ghost use Rattle.c_types.specs.Numbers.{letteredOf, packetNumber};
+ghost use Rattle.c_types.specs.Numbers.{lettered_of, packet_number};
 
 use wire::verdict::Verdict;
 
@@ -51,7 +51,7 @@ pub const KIND_EXTENDED: u32 = 3;
 
 // A row as it crosses: its letter's code and its number, or 0 where no row refuses.
 pub fn lettered(letter: u16, number: u8) -> u32
-    ensures { result ≡ letteredOf letter number }
+    ensures { result ≡ lettered_of letter number }
 {
     if number == 0 {
         SERVED
@@ -62,7 +62,7 @@ pub fn lettered(letter: u16, number: u8) -> u32
 
 // The number of a packet's verdict.
 pub fn packet_number(v: Verdict) -> u32
-    ensures { result ≡ packetNumber (row_of v) }
+    ensures { result ≡ packet_number (row_of v) }
 {
     lettered(ROW_P, v.number())
 }

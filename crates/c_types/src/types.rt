@@ -2,7 +2,7 @@
 
 // A version by its three parts.
 #[repr(C)]
-#[derive(Drop)]
+#[derive(Clone, Copy)]
 pub struct CVersion {
     pub major: u8,
     pub minor: u16,
@@ -11,7 +11,7 @@ pub struct CVersion {
 
 // An offer. The two flags are 0 or 1.
 #[repr(C)]
-#[derive(Drop)]
+#[derive(Clone, Copy)]
 pub struct COffer {
     pub segment: u8,
     pub force_immediate_reset: u8,
@@ -27,7 +27,7 @@ pub struct COffer {
 
 // An information or an extended packet.
 #[repr(C)]
-#[derive(Drop)]
+#[derive(Clone, Copy)]
 pub struct CSignal {
     pub code: u8,
     pub token: u8,
@@ -35,7 +35,7 @@ pub struct CSignal {
 
 // A packet of the offer channel: its kind is 1 for an offer, 2 for information, 3 for extended, 0 for none; what is of another kind is zero.
 #[repr(C)]
-#[derive(Drop)]
+#[derive(Clone, Copy)]
 pub struct COfferPacket {
     pub number: u32,
     pub kind: u32,
@@ -44,7 +44,7 @@ pub struct COfferPacket {
 }
 
 #[repr(C)]
-#[derive(Drop)]
+#[derive(Clone, Copy)]
 pub struct COfferReply {
     pub number: u32,
     pub token: u8,
@@ -54,7 +54,7 @@ pub struct COfferReply {
 
 // A content packet; its data are lent bytes.
 #[repr(C)]
-#[derive(Drop)]
+#[derive(Clone, Copy)]
 pub struct CContent {
     pub number: u32,
     pub flags: u8,
@@ -64,7 +64,7 @@ pub struct CContent {
 }
 
 #[repr(C)]
-#[derive(Drop)]
+#[derive(Clone, Copy)]
 pub struct CContentReply {
     pub number: u32,
     pub sequence: u16,
@@ -73,7 +73,7 @@ pub struct CContentReply {
 
 // A version reply; its components are lent bytes.
 #[repr(C)]
-#[derive(Drop)]
+#[derive(Clone, Copy)]
 pub struct CVersionReply {
     pub number: u32,
     pub count: u8,
@@ -82,7 +82,7 @@ pub struct CVersionReply {
 
 // How many replies the device sends.
 #[repr(C)]
-#[derive(Drop)]
+#[derive(Clone, Copy)]
 pub struct CReplies {
     pub number: u32,
     pub count: u32,
@@ -90,7 +90,7 @@ pub struct CReplies {
 
 // What the check of a bundle says: the entry that it names, and how many offers there are.
 #[repr(C)]
-#[derive(Drop)]
+#[derive(Clone, Copy)]
 pub struct CCheck {
     pub number: u32,
     pub entry: u32,
@@ -99,7 +99,7 @@ pub struct CCheck {
 
 // What the writer of a bundle says: the entry that its row names, and how long the bundle is.
 #[repr(C)]
-#[derive(Drop)]
+#[derive(Clone, Copy)]
 pub struct CWritten {
     pub number: u32,
     pub entry: u32,
@@ -108,7 +108,7 @@ pub struct CWritten {
 
 // What a step of the host says: the entry that a bundle's row names, and how many bytes of the packet are sent.
 #[repr(C)]
-#[derive(Drop)]
+#[derive(Clone, Copy)]
 pub struct CStep {
     pub number: u32,
     pub entry: u32,
@@ -117,7 +117,7 @@ pub struct CStep {
 
 // The host's report: completed offers, their mask, packets, passes, how it ended, and the content status of H1.
 #[repr(C)]
-#[derive(Drop)]
+#[derive(Clone, Copy)]
 pub struct CReport {
     pub number: u32,
     pub completed: u32,
@@ -130,7 +130,7 @@ pub struct CReport {
 
 // A component of the list that set-up takes.
 #[repr(C)]
-#[derive(Drop)]
+#[derive(Clone, Copy)]
 pub struct CListed {
     pub id: u8,
     pub running: CVersion,
@@ -141,7 +141,7 @@ pub struct CListed {
 
 // A component of a device: what runs, its region, its floor, whether a version is staged, 0 or 1, and that version, zero where none is.
 #[repr(C)]
-#[derive(Drop)]
+#[derive(Clone, Copy)]
 pub struct CComponent {
     pub number: u32,
     pub id: u8,
@@ -155,7 +155,7 @@ pub struct CComponent {
 
 // An entry of a checked bundle: where its body stands, how long it is and how many records it has; `entry` is the one that a bundle's row names.
 #[repr(C)]
-#[derive(Drop)]
+#[derive(Clone, Copy)]
 pub struct CEntry {
     pub number: u32,
     pub entry: u32,

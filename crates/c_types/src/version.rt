@@ -1,6 +1,6 @@
 // A version as it crosses to C: its three parts.
 ghost use Rattle.std.specs.Prelude.{◌≡◌};
-ghost use Rattle.c_types.specs.Version.{parts_of, versionIn};
+ghost use Rattle.c_types.specs.Version.{parts_of, version_in};
 
 use crate::types::CVersion;
 use wire::version::Version;
@@ -17,7 +17,7 @@ pub fn parts(v: Version) -> CVersion
 
 // The version of these parts.
 pub fn version_in(v: CVersion) -> Version
-    ensures { result ≡ versionIn v }
+    ensures { result ≡ version_in v }
 {
     Version::new(v.major, v.minor, v.variant)
 }

@@ -6,96 +6,96 @@ use native.Mathlib.Omega.{arith}
 use lib.ListN.{length, get_or, take, drop, replicate, length-drop, drop_of_length-le, take-append-drop, replicate-append-replicate}
 use lib.Seq.{take_at, length-take-le}
 use Rattle.wire.specs.Bytes.{Bytes, bytes_of, bytes_at}
-use Rattle.wire.specs.Codes.{COMPONENT-LIMIT}
-use Rattle.wire.specs.Version.{versionBytes}
-use Rattle.wire.proofs.Bounds.{cons-bytes, join-bytes, no_bytes, word_bytes, version-bytes, rest-bytes, word_fits, version-fits}
-use Rattle.wire.proofs.Pieces.{pieces-sized, read-sized}
-use Rattle.wire.proofs.version.Laws.{parts, version-back}
+use Rattle.wire.specs.Codes.{component_limit}
+use Rattle.wire.specs.Version.{version_bytes}
+use Rattle.wire.proofs.Bounds.{cons_bytes, join_bytes, no_bytes, word_bytes, version_bytes_lem, rest_bytes, word_fits, version_fits}
+use Rattle.wire.proofs.Pieces.{pieces_sized, read_sized}
+use Rattle.wire.proofs.version.Laws.{parts, version_back}
 use Rattle.wire.proofs.words.Laws.{round, back, split}
 use Rattle.wire_version.specs.Reply.{none, FitsEntry}
 use Rattle.wire_version.specs.declared.Running.{Running}
-use Rattle.c_version.specs.Layout.{ID-AT, PLATFORM-AT, RUNNING-SIZE, runningBytes, componentsBytes, runningIn, componentsIn}
+use Rattle.c_version.specs.Layout.{id_offset, platform_at, running_size, running_bytes, components_bytes, running_in, components_in}
 use Rattle.c_version.specs.Promises.{ComponentsSized, ComponentsReadBack, ComponentsWriteBack}
 
 -- components are as many bytes as each has
-components-length : (es : List Running) → length (componentsBytes es) ≡ length es * RUNNING-SIZE
-unfolding componentsBytes
-components-length es = pieces-sized runningBytes componentsBytes refl (λ e l. refl) RUNNING-SIZE (λ e. refl) es
+components_length : (es : List Running) → length (components_bytes es) ≡ length es * running_size
+unfolding components_bytes
+components_length es = pieces_sized running_bytes components_bytes refl (λ e l. refl) running_size (λ e. refl) es
 
 -- they are bytes
-running-bytes : (e : Running) → FitsEntry e → Bytes (runningBytes e)
-running-bytes e f =
-    join-bytes (versionBytes e.version) (e.id ∷ bytes_of 2 e.platform) (version-bytes e.version f.version)
-    (cons-bytes e.id (bytes_of 2 e.platform) f.id (word_bytes 2 e.platform))
+running_bytes_lem : (e : Running) → FitsEntry e → Bytes (running_bytes e)
+running_bytes_lem e f =
+    join_bytes (version_bytes e.version) (e.id ∷ bytes_of 2 e.platform) (version_bytes_lem e.version f.version)
+    (cons_bytes e.id (bytes_of 2 e.platform) f.id (word_bytes 2 e.platform))
 
-components-bytes : (es : List Running) → ((i : ℕ) → FitsEntry (get_or es i none)) → Bytes (componentsBytes es)
-unfolding componentsBytes
-components-bytes [] f = no_bytes
-components-bytes (e ∷ es) f = join-bytes (runningBytes e) (componentsBytes es) (running-bytes e (f 0)) (components-bytes es (λ i. f (suc i)))
+components_bytes_lem : (es : List Running) → ((i : ℕ) → FitsEntry (get_or es i none)) → Bytes (components_bytes es)
+unfolding components_bytes
+components_bytes_lem [] f = no_bytes
+components_bytes_lem (e ∷ es) f = join_bytes (running_bytes e) (components_bytes es) (running_bytes_lem e (f 0)) (components_bytes_lem es (λ i. f (suc i)))
 
 -- all components are bytes of the one length
-pub components-sized : ComponentsSized
-components-sized es size f = record { size = components-length es ∙ ap (λ (n : ℕ). n * RUNNING-SIZE) size; bytes = components-bytes es f }
+pub components_sized : ComponentsSized
+components_sized es size f = record { size = components_length es ∙ ap (λ (n : ℕ). n * running_size) size; bytes = components_bytes_lem es f }
 
 -- components that were written read back
-written_read : (es : List Running) → ((i : ℕ) → FitsEntry (get_or es i none)) → componentsIn (length es) (componentsBytes es) ≡ es
-unfolding componentsBytes componentsIn
+written_read : (es : List Running) → ((i : ℕ) → FitsEntry (get_or es i none)) → components_in (length es) (components_bytes es) ≡ es
+unfolding components_bytes components_in
 written_read [] f = refl
 written_read (e ∷ es) f =
     ap₂ (λ (x : Running) (xs : List Running). x ∷ xs) (simp (parts e.version, round 2 e.platform (f 0).platform)) (written_read es (λ i. f (suc i)))
 
 -- all components read back
-pub components-read-back : ComponentsReadBack
-components-read-back es size f = ap (λ (n : ℕ). componentsIn n (componentsBytes es)) (sym size) ∙ written_read es f
+pub components_read_back : ComponentsReadBack
+components_read_back es size f = ap (λ (n : ℕ). components_in n (components_bytes es)) (sym size) ∙ written_read es f
 
 -- the bytes of one that were read are written again
-running-back : (q : List ℕ) → Bytes q → runningBytes (runningIn q) ≡ bytes_at RUNNING-SIZE 0 q
-running-back q h = ap₂ (λ (v l : List ℕ). v ++ get_or q ID-AT 0 ∷ l) (version-back 0 q h) (back 2 PLATFORM-AT q h)
+running_back : (q : List ℕ) → Bytes q → running_bytes (running_in q) ≡ bytes_at running_size 0 q
+running_back q h = ap₂ (λ (v l : List ℕ). v ++ get_or q id_offset 0 ∷ l) (version_back 0 q h) (back 2 platform_at q h)
 
 -- bytes of n components that were read are written again
-read-written : (n : ℕ) (q : List ℕ) → length q ≡ n * RUNNING-SIZE → Bytes q → componentsBytes (componentsIn n q) ≡ q
-unfolding componentsBytes componentsIn
-read-written zero q l h = let e : length q ≤ 0 = omega arith in sym (drop_of_length-le q e)
-read-written (suc n) q l h =
-    let m : length (drop RUNNING-SIZE q) ≡ n * RUNNING-SIZE = simp length-drop (omega arith) in
-    ap₂ (λ (x y : List ℕ). x ++ y) (running-back q h) (read-written n (drop RUNNING-SIZE q) m (rest-bytes RUNNING-SIZE q h))
-    ∙ sym (split RUNNING-SIZE q (omega arith))
+read_written : (n : ℕ) (q : List ℕ) → length q ≡ n * running_size → Bytes q → components_bytes (components_in n q) ≡ q
+unfolding components_bytes components_in
+read_written zero q l h = let e : length q ≤ 0 = omega arith in sym (drop_of_length-le q e)
+read_written (suc n) q l h =
+    let m : length (drop running_size q) ≡ n * running_size = simp length-drop (omega arith) in
+    ap₂ (λ (x y : List ℕ). x ++ y) (running_back q h) (read_written n (drop running_size q) m (rest_bytes running_size q h))
+    ∙ sym (split running_size q (omega arith))
 
 -- all bytes that were read are written again
-pub components-write-back : ComponentsWriteBack
-components-write-back q k = read-written COMPONENT-LIMIT q k.size k.bytes
+pub components_write_back : ComponentsWriteBack
+components_write_back q k = read_written component_limit q k.size k.bytes
 
 -- there are as many as the limit
-pub components-all : (q : List ℕ) → length (componentsIn COMPONENT-LIMIT q) ≡ COMPONENT-LIMIT
-unfolding componentsIn
-components-all q = read-sized RUNNING-SIZE runningIn componentsIn (λ q. refl) (λ n q. refl) COMPONENT-LIMIT q
+pub components_all : (q : List ℕ) → length (components_in component_limit q) ≡ component_limit
+unfolding components_in
+components_all q = read_sized running_size running_in components_in (λ q. refl) (λ n q. refl) component_limit q
 
 -- what is read of bytes fits
-pub components-fit : (n : ℕ) (q : List ℕ) → Bytes q → (i : ℕ) → FitsEntry (get_or (componentsIn n q) i none)
-unfolding componentsIn
-components-fit zero q h i = record { version = omega arith; id = omega arith; platform = omega arith }
-components-fit (suc n) q h zero = record { version = version-fits 0 q h; id = h ID-AT; platform = word_fits 2 PLATFORM-AT q h }
-components-fit (suc n) q h (suc i) = components-fit n (drop RUNNING-SIZE q) (rest-bytes RUNNING-SIZE q h) i
+pub components_fit : (n : ℕ) (q : List ℕ) → Bytes q → (i : ℕ) → FitsEntry (get_or (components_in n q) i none)
+unfolding components_in
+components_fit zero q h i = record { version = omega arith; id = omega arith; platform = omega arith }
+components_fit (suc n) q h zero = record { version = version_fits 0 q h; id = h id_offset; platform = word_fits 2 platform_at q h }
+components_fit (suc n) q h (suc i) = components_fit n (drop running_size q) (rest_bytes running_size q h) i
 
 -- components after components
-components-join : (a b : List Running) → componentsBytes (a ++ b) ≡ componentsBytes a ++ componentsBytes b
-unfolding componentsBytes
-components-join [] b = refl
-components-join (e ∷ a) b = ap (λ (l : List ℕ). runningBytes e ++ l) (components-join a b) ∙ sym (append_assoc (runningBytes e) (componentsBytes a) (componentsBytes b))
+components_join : (a b : List Running) → components_bytes (a ++ b) ≡ components_bytes a ++ components_bytes b
+unfolding components_bytes
+components_join [] b = refl
+components_join (e ∷ a) b = ap (λ (l : List ℕ). running_bytes e ++ l) (components_join a b) ∙ sym (append_assoc (running_bytes e) (components_bytes a) (components_bytes b))
 
 -- empty components are zeros
-none-zeros : (m : ℕ) → componentsBytes (replicate m none) ≡ replicate (m * RUNNING-SIZE) 0
-unfolding componentsBytes
-none-zeros zero = refl
-none-zeros (suc m) =
-    let e : RUNNING-SIZE + m * RUNNING-SIZE ≡ suc m * RUNNING-SIZE = omega arith in
-    ap (λ (l : List ℕ). runningBytes none ++ l) (none-zeros m) ∙ replicate-append-replicate RUNNING-SIZE (m * RUNNING-SIZE) 0 ∙ ap (λ (k : ℕ). replicate k 0) e
+none_zeros : (m : ℕ) → components_bytes (replicate m none) ≡ replicate (m * running_size) 0
+unfolding components_bytes
+none_zeros zero = refl
+none_zeros (suc m) =
+    let e : running_size + m * running_size ≡ suc m * running_size = omega arith in
+    ap (λ (l : List ℕ). running_bytes none ++ l) (none_zeros m) ∙ replicate-append-replicate running_size (m * running_size) 0 ∙ ap (λ (k : ℕ). replicate k 0) e
 
 -- the first n of components with m empty ones behind them are the first bytes with zeros behind them
-pub components-first : (n m : ℕ) (es : List Running) → n ≤ length es
-    → componentsBytes (take n es ++ replicate m none) ≡ take (n * RUNNING-SIZE) (componentsBytes es) ++ replicate (m * RUNNING-SIZE) 0
-components-first n m es h =
-    let l = components-length (take n es) ∙ ap (λ (k : ℕ). k * RUNNING-SIZE) (length-take-le n es h) in
-    let e = take_at (componentsBytes (take n es)) (componentsBytes (drop n es)) (n * RUNNING-SIZE) l in
-    components-join (take n es) (replicate m none)
-    ∙ ap₂ (λ (x y : List ℕ). x ++ y) (sym e ∙ ap (take (n * RUNNING-SIZE)) (sym (components-join (take n es) (drop n es)) ∙ ap componentsBytes (take-append-drop n es))) (none-zeros m)
+pub components_first : (n m : ℕ) (es : List Running) → n ≤ length es
+    → components_bytes (take n es ++ replicate m none) ≡ take (n * running_size) (components_bytes es) ++ replicate (m * running_size) 0
+components_first n m es h =
+    let l = components_length (take n es) ∙ ap (λ (k : ℕ). k * running_size) (length-take-le n es h) in
+    let e = take_at (components_bytes (take n es)) (components_bytes (drop n es)) (n * running_size) l in
+    components_join (take n es) (replicate m none)
+    ∙ ap₂ (λ (x y : List ℕ). x ++ y) (sym e ∙ ap (take (n * running_size)) (sym (components_join (take n es) (drop n es)) ∙ ap components_bytes (take-append-drop n es))) (none_zeros m)

@@ -6,36 +6,36 @@ use native.Mathlib.Omega.{arith}
 use lib.ListN.{length, get_or, set, take, drop}
 use lib.Seq.{take_all}
 use Rattle.wire.specs.Bytes.{copy_of}
-use Rattle.wire.specs.Codes.{COMPONENT-LIMIT}
-use Rattle.wire.proofs.Pieces.{piece-written, read_more, read_all}
+use Rattle.wire.specs.Codes.{component_limit}
+use Rattle.wire.proofs.Pieces.{piece_written, read_more, read_all}
 use Rattle.wire_version.specs.Reply.{none}
 use Rattle.wire_version.specs.declared.Running.{Running}
-use Rattle.c_version.specs.Layout.{RUNNING-SIZE, COMPONENTS-SIZE, runningBytes, componentsBytes, runningIn, componentsIn}
+use Rattle.c_version.specs.Layout.{running_size, components_size, running_bytes, components_bytes, running_in, components_in}
 
 -- one component more is written
-pub component-written : (out s last : List ℕ) (l : List Running) (i k : ℕ) → i < COMPONENT-LIMIT → length l ≡ COMPONENT-LIMIT → length out ≡ COMPONENTS-SIZE → k ≡ RUNNING-SIZE
-    → s ≡ runningBytes (get_or l i none) → last ≡ copy_of (take k (drop (i * RUNNING-SIZE) out)) s → take (i * RUNNING-SIZE) out ≡ componentsBytes (take i l)
-    → (length (take (i * RUNNING-SIZE) out ++ (last ++ drop k (drop (i * RUNNING-SIZE) out))) ≡ COMPONENTS-SIZE)
-    × (take ((i + 1) * RUNNING-SIZE) (take (i * RUNNING-SIZE) out ++ (last ++ drop k (drop (i * RUNNING-SIZE) out))) ≡ componentsBytes (take (i + 1) l))
-unfolding componentsBytes
-component-written out s last l i k h size whole e f g before =
-    let w = piece-written runningBytes componentsBytes refl (λ x m. refl) out [] s last l none i (i * RUNNING-SIZE) RUNNING-SIZE ((i + 1) * RUNNING-SIZE) k
+pub component_written : (out s last : List ℕ) (l : List Running) (i k : ℕ) → i < component_limit → length l ≡ component_limit → length out ≡ components_size → k ≡ running_size
+    → s ≡ running_bytes (get_or l i none) → last ≡ copy_of (take k (drop (i * running_size) out)) s → take (i * running_size) out ≡ components_bytes (take i l)
+    → (length (take (i * running_size) out ++ (last ++ drop k (drop (i * running_size) out))) ≡ components_size)
+    × (take ((i + 1) * running_size) (take (i * running_size) out ++ (last ++ drop k (drop (i * running_size) out))) ≡ components_bytes (take (i + 1) l))
+unfolding components_bytes
+component_written out s last l i k h size whole e f g before =
+    let w = piece_written running_bytes components_bytes refl (λ x m. refl) out [] s last l none i (i * running_size) running_size ((i + 1) * running_size) k
     (omega arith) e (omega arith) (ap length f) (omega arith) f g before in
     (w.0 ∙ whole, w.1)
 
 -- all of them are written
-pub written : (out : List ℕ) (l : List Running) (i : ℕ) → i ≡ COMPONENT-LIMIT → length l ≡ COMPONENT-LIMIT → length out ≡ COMPONENTS-SIZE
-    → take (i * RUNNING-SIZE) out ≡ componentsBytes (take i l) → out ≡ componentsBytes l
+pub written : (out : List ℕ) (l : List Running) (i : ℕ) → i ≡ component_limit → length l ≡ component_limit → length out ≡ components_size
+    → take (i * running_size) out ≡ components_bytes (take i l) → out ≡ components_bytes l
 written out l i e size whole h =
-    sym (take_all (i * RUNNING-SIZE) out (omega arith)) ∙ h ∙ ap componentsBytes (take_all i l (omega arith))
+    sym (take_all (i * running_size) out (omega arith)) ∙ h ∙ ap components_bytes (take_all i l (omega arith))
 
 -- one component more is read
-pub component-read : (i : ℕ) (q : List ℕ) (l : List Running) (x : Running) → i < length l → take i l ≡ componentsIn i q
-    → x ≡ runningIn (drop (i * RUNNING-SIZE) q) → take (i + 1) (set l i x) ≡ componentsIn (i + 1) q
-unfolding componentsIn
-component-read i q l x = read_more RUNNING-SIZE runningIn componentsIn (λ q. refl) (λ n q. refl) i q l x
+pub component_read : (i : ℕ) (q : List ℕ) (l : List Running) (x : Running) → i < length l → take i l ≡ components_in i q
+    → x ≡ running_in (drop (i * running_size) q) → take (i + 1) (set l i x) ≡ components_in (i + 1) q
+unfolding components_in
+component_read i q l x = read_more running_size running_in components_in (λ q. refl) (λ n q. refl) i q l x
 
 -- all of them are read
-pub components-read : (i : ℕ) (q : List ℕ) (l : List Running) → i ≡ COMPONENT-LIMIT → length l ≡ COMPONENT-LIMIT → take i l ≡ componentsIn i q → l ≡ componentsIn COMPONENT-LIMIT q
-unfolding componentsIn
-components-read i q l = read_all RUNNING-SIZE runningIn componentsIn (λ q. refl) (λ n q. refl) i COMPONENT-LIMIT q l
+pub components_read : (i : ℕ) (q : List ℕ) (l : List Running) → i ≡ component_limit → length l ≡ component_limit → take i l ≡ components_in i q → l ≡ components_in component_limit q
+unfolding components_in
+components_read i q l = read_all running_size running_in components_in (λ q. refl) (λ n q. refl) i component_limit q l

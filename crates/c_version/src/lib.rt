@@ -1,7 +1,9 @@
 // The components of a version reply as bytes: version, id and platform of each.
+#![tactic(auto)]
+
 ghost use Rattle.std.specs.Prelude.{◌≡◌, drop};
-ghost use Rattle.wire.specs.Codes.{COMPONENT-LIMIT};
-ghost use Rattle.c_version.specs.Layout.{runningBytes, componentsBytes, runningIn, componentsIn};
+ghost use Rattle.wire.specs.Codes.{component_limit};
+ghost use Rattle.c_version.specs.Layout.{running_bytes, components_bytes, running_in, components_in};
 
 use wire::codes::COMPONENT_LIMIT;
 use wire::version::Version;
@@ -18,7 +20,7 @@ pub const RUNNING_SIZE: usize = PLATFORM_AT as usize + 2;
 pub const COMPONENTS_SIZE: usize = COMPONENT_LIMIT * RUNNING_SIZE;
 
 fn running_bytes(e: Running) -> [u8; RUNNING_SIZE]
-    ensures { result ≡ runningBytes e }
+    ensures { result ≡ running_bytes e }
 {
     let version = e.version;
     let v = version.bytes();
@@ -27,7 +29,7 @@ fn running_bytes(e: Running) -> [u8; RUNNING_SIZE]
 }
 
 pub fn components_bytes(components: [Running; COMPONENT_LIMIT]) -> [u8; COMPONENTS_SIZE]
-    ensures { result ≡ componentsBytes components }
+    ensures { result ≡ components_bytes components }
 {
     let mut out = [0u8; COMPONENTS_SIZE];
     let mut i = 0;
@@ -43,7 +45,7 @@ pub fn components_bytes(components: [Running; COMPONENT_LIMIT]) -> [u8; COMPONEN
 }
 
 fn running_in(q: &[u8]) -> Running
-    ensures { result ≡ runningIn q.now }
+    ensures { result ≡ running_in q.now }
 {
     Running {
         version: Version::read_at(q, 0),
@@ -54,7 +56,7 @@ fn running_in(q: &[u8]) -> Running
 
 // The one from a place on; past the end of the bytes all is zero.
 fn running_at(q: &[u8], at: usize) -> Running
-    ensures { result ≡ runningIn (drop at q.now) }
+    ensures { result ≡ running_in (drop at q.now) }
 {
     let n = q.len();
     if n < at {
@@ -65,7 +67,7 @@ fn running_at(q: &[u8], at: usize) -> Running
 
 // What the bytes lack, up to the last component, is zero.
 pub fn read_components(q: &[u8]) -> [Running; COMPONENT_LIMIT]
-    ensures { result ≡ componentsIn COMPONENT-LIMIT q.now }
+    ensures { result ≡ components_in component_limit q.now }
 {
     let none = no_component();
     let mut components = [none; COMPONENT_LIMIT];

@@ -1,6 +1,8 @@
 // The writer's call from C (document 02, A3, rows W).
+#![tactic(auto)]
+
 ghost use Rattle.std.specs.Prelude.{◌≡◌};
-ghost use Rattle.c_writer.specs.Write.{toldWrite, writeCall};
+ghost use Rattle.c_writer.specs.Write.{told_write, write_call};
 
 use bundle_writer::write;
 use c_types::numbers::{ROW_W, lettered};
@@ -9,7 +11,7 @@ use c_types::types::CWritten;
 // The bundle of a list of offers and images goes to the start of the lent output; a refusal leaves the output as it was.
 #[unsafe(no_mangle)]
 pub extern "C" fn cfu_bundle_write(list: &[u8], images: &[u8], out: &mut [u8]) -> CWritten
-    ensures { toldWrite result out.new ≡ writeCall list.now images.now out.old }
+    ensures { told_write result out.new ≡ write_call list.now images.now out.old }
 {
     let w = write(out, list, images);
     let verdict = w.verdict;

@@ -1,6 +1,6 @@
 // What an entry of the device answers.
 ghost use Rattle.std.specs.Prelude.{◌≡◌};
-ghost use Rattle.device.specs.Refusals.{number_of, row_of, is_refused, readyBytes, told, refusedBy, servedWith};
+ghost use Rattle.device.specs.Refusals.{number_of, row_of, is_refused, ready_bytes, told, refused_by, served_with};
 
 use crate::record::Device;
 use device_component::record::Component;
@@ -12,7 +12,7 @@ use wire_offer::reply::{OfferReply, build_offer_reply};
 use wire_version::REPLY_SIZE;
 
 // Served, or the row that refuses the call.
-#[derive(Drop)]
+#[derive(Clone, Copy)]
 pub enum Refusal {
     Served,
     D1,
@@ -21,7 +21,7 @@ pub enum Refusal {
 }
 
 // Of an offer or a content packet. Only what is due is sent: a refused call sends nothing.
-#[derive(Drop)]
+#[derive(Clone, Copy)]
 pub struct Answer {
     pub refusal: Refusal,
     pub replies: Replies,
@@ -30,7 +30,7 @@ pub struct Answer {
 
 // The READY that was owed, with its own token.
 pub fn ready_reply(token: u8) -> [u8; SHORT_SIZE]
-    ensures { result ≡ readyBytes token }
+    ensures { result ≡ ready_bytes token }
 {
     build_offer_reply(OfferReply {
         token,
@@ -39,27 +39,27 @@ pub fn ready_reply(token: u8) -> [u8; SHORT_SIZE]
     })
 }
 
-#[derive(Drop)]
+#[derive(Clone, Copy)]
 pub struct VersionAnswer {
     pub refusal: Refusal,
     pub packet: [u8; REPLY_SIZE],
 }
 
-#[derive(Drop)]
+#[derive(Clone, Copy)]
 pub struct ResetAnswer {
     pub refusal: Refusal,
     pub device: Device,
 }
 
 // Of set-up: where a row refuses, the device is the blank one, which no entry serves.
-#[derive(Drop)]
+#[derive(Clone, Copy)]
 pub struct SetupAnswer {
     pub verdict: SetupVerdict,
     pub device: Device,
 }
 
 // Which entry a packet is for.
-#[derive(Drop)]
+#[derive(Clone, Copy)]
 pub enum Channel {
     Offer,
     Content,
@@ -89,7 +89,7 @@ impl Refusal {
 impl Device {
     // A refused call: a zeroed reply, nothing sent, the record unchanged.
     pub(crate) fn refused(self, refusal: Refusal) -> Answer
-        ensures { told result ≡ refusedBy (row_of refusal) self }
+        ensures { told result ≡ refused_by (row_of refusal) self }
     {
         let replies = Replies::none();
         Answer {
@@ -101,7 +101,7 @@ impl Device {
 
     // A served call: what the packet does, and the components afterwards.
     pub(crate) fn served(self, components: [Component; COMPONENT_LIMIT], effect: Effect) -> Answer
-        ensures { told result ≡ servedWith self components effect }
+        ensures { told result ≡ served_with self components effect }
     {
         let replies = effect.replies;
         let session = effect.session;

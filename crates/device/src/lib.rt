@@ -1,4 +1,6 @@
 // The device end: its record, and what each entry answers.
+#![tactic(auto)]
+
 pub mod record; // record.rt: the record
 pub mod answer; // answer.rt: what an entry answers
 pub mod refusal; // refusal.rt: rows D1 to D3

@@ -1,8 +1,8 @@
 // The offer entry (document 01, "The device"): offers, information and extended packets.
 ghost use Rattle.std.specs.Prelude.{◌≡◌, length};
-ghost use Rattle.device_offering.specs.Packet.{onPacket};
-ghost use Rattle.device.specs.Refusals.{told, servedWith};
-ghost use Rattle.device.specs.Offer.{offerEntry};
+ghost use Rattle.device_offering.specs.Packet.{on_packet};
+ghost use Rattle.device.specs.Refusals.{told, served_with};
+ghost use Rattle.device.specs.Offer.{offer_entry};
 
 use crate::answer::Answer;
 use crate::record::Device;
@@ -14,7 +14,7 @@ use wire_offer::kind::{OfferPacket, read_offer_packet};
 impl Device {
     // A packet that no row refuses; none changes a component.
     fn on_packet(self, p: OfferPacket) -> Answer
-        ensures { told result ≡ servedWith self self.components (onPacket self.platform self.count self.components self.session p) }
+        ensures { told result ≡ served_with self self.components (on_packet self.platform self.count self.components self.session p) }
     {
         let components = self.components;
         let session = self.session;
@@ -26,7 +26,7 @@ impl Device {
 
     // D1 to D3, or the answer to an offer, an information or an extended packet.
     pub fn offer(self, staging: &[u8], report: &[u8]) -> Answer
-        ensures { told result ≡ offerEntry self (length staging.now) report.now }
+        ensures { told result ≡ offer_entry self (length staging.now) report.now }
     {
         let refusal = self.refusal(SHORT_SIZE, staging.len(), report.len());
         if refusal.is_refused() {

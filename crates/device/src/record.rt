@@ -1,12 +1,12 @@
 // The device's record (document 01, "The device").
 ghost use Rattle.std.specs.Prelude.{◌≡◌};
-ghost use Rattle.device.specs.Record.{withSession, blankDevice};
+ghost use Rattle.device.specs.Record.{with_session, blank_device};
 
 use device_component::record::{Component, blank_component};
 use device_session::effect::Session;
 use wire::codes::COMPONENT_LIMIT;
 
-#[derive(Drop)]
+#[derive(Clone, Copy)]
 pub struct Device {
     pub platform: u16,
     // The length of the staging buffer at set-up.
@@ -24,7 +24,7 @@ impl Device {
         components: [Component; COMPONENT_LIMIT],
         session: Session,
     ) -> Device
-        ensures { result ≡ withSession self components session }
+        ensures { result ≡ with_session self components session }
     {
         Device {
             platform: self.platform,
@@ -37,7 +37,7 @@ impl Device {
 
     // What a refused set-up hands back: every entry answers D1 to it.
     pub fn blank() -> Device
-        ensures { result ≡ blankDevice }
+        ensures { result ≡ blank_device }
     {
         let component = blank_component();
         let components = [component; COMPONENT_LIMIT];

@@ -1,6 +1,6 @@
 // Rows D1 to D3 (document 01, "Numbered refusals"): what every entry judges first.
 ghost use Rattle.std.specs.Prelude.{◌≡◌};
-ghost use Rattle.device.specs.Refusals.{row_of, breaksD1, refusalOf};
+ghost use Rattle.device.specs.Refusals.{row_of, breaks_d1, refusal_of};
 
 use crate::answer::Refusal;
 use crate::record::Device;
@@ -9,7 +9,7 @@ use device_session::sound;
 impl Device {
     // D1: no entry serves this record.
     pub fn breaks_d1(self) -> bool
-        ensures { result ≡ breaksD1 self }
+        ensures { result ≡ breaks_d1 self }
     {
         let components = self.components;
         let session = self.session;
@@ -18,7 +18,7 @@ impl Device {
 
     // D1, D2 and D3, in this order, for a staging buffer of n bytes, a report of m bytes, and reports that are `size` bytes long.
     pub(crate) fn refusal(self, size: usize, n: usize, m: usize) -> Refusal
-        ensures { row_of result ≡ refusalOf size self n m }
+        ensures { row_of result ≡ refusal_of size self n m }
     {
         if self.breaks_d1() {
             return Refusal::D1;

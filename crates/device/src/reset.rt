@@ -1,6 +1,6 @@
 // The reset's entry (document 01, "The device").
 ghost use Rattle.std.specs.Prelude.{◌≡◌};
-ghost use Rattle.device.specs.Entries.{toldReset, resetEntry};
+ghost use Rattle.device.specs.Entries.{told_reset, reset_entry};
 
 use crate::answer::{Refusal, ResetAnswer};
 use crate::record::Device;
@@ -10,7 +10,7 @@ use device_slots::all::reset_components;
 impl Device {
     // D1, or staged versions run, nothing is pending or owed, and the session is idle.
     pub fn reset(self) -> ResetAnswer
-        ensures { toldReset result ≡ resetEntry self }
+        ensures { told_reset result ≡ reset_entry self }
     {
         if self.breaks_d1() {
             return ResetAnswer {

@@ -1,6 +1,6 @@
 // Set-up (documents 01 and 02, rows S1 to S5): a device that is idle, with nothing staged and nothing owed.
 ghost use Rattle.std.specs.Prelude.{◌≡◌, length};
-ghost use Rattle.device.specs.Entries.{toldSetUp, setUpOf};
+ghost use Rattle.device.specs.Entries.{told_set_up, set_up_of};
 
 use crate::answer::SetupAnswer;
 use crate::record::Device;
@@ -17,7 +17,7 @@ pub fn set_up(
     count: u8,
     staging: &[u8],
 ) -> SetupAnswer
-    ensures { toldSetUp result ≡ setUpOf platform list count (length staging.now) }
+    ensures { told_set_up result ≡ set_up_of platform list count (length staging.now) }
 {
     let components = components_of(list);
     let verdict = setup_verdict(staging.len(), count, components);

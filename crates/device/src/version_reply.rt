@@ -1,6 +1,6 @@
 // The version reply's entry (document 01, "The device").
 ghost use Rattle.std.specs.Prelude.{◌≡◌};
-ghost use Rattle.device.specs.Entries.{toldVersions, versionEntry};
+ghost use Rattle.device.specs.Entries.{told_versions, version_entry};
 
 use crate::answer::{Refusal, VersionAnswer};
 use crate::record::Device;
@@ -11,7 +11,7 @@ use wire_version::{REPLY_SIZE, VersionReply, build_version_reply};
 impl Device {
     // D1 with a zeroed reply, or the reply.
     pub fn version_reply(self) -> VersionAnswer
-        ensures { toldVersions result ≡ versionEntry self }
+        ensures { told_versions result ≡ version_entry self }
     {
         if self.breaks_d1() {
             return VersionAnswer {

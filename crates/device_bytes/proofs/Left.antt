@@ -10,168 +10,168 @@ use lib.Dec.{ltb}
 use lib.ListN.{length, get_or, set, take, drop, length-append, length-take, length-drop}
 use lib.Seq.{take_at, drop_at, take-add, drop-drop, set_out, set-get_or, length-take-le}
 use Rattle.wire.specs.Bytes.{bytes_at}
-use Rattle.wire.specs.Codes.{COMPONENT-LIMIT}
+use Rattle.wire.specs.Codes.{component_limit}
 use Rattle.wire.proofs.Tests.{both}
-use Rattle.device_component.specs.Record.{FitsComponent, blankComponent}
+use Rattle.device_component.specs.Record.{FitsComponent, blank_component}
 use Rattle.device_component.specs.declared.record.Component.{Component}
-use Rattle.device_component_bytes.specs.Layout.{COMPONENT-SIZE, componentBytes, componentIn, stagedFlagFits}
-use Rattle.device_component_bytes.proofs.Laws.{component-sized}
-use Rattle.device_component_bytes.proofs.Back.{component-back, component-flag}
+use Rattle.device_component_bytes.specs.Layout.{component_size, component_bytes, component_in, staged_flag_fits}
+use Rattle.device_component_bytes.proofs.Laws.{component_sized}
+use Rattle.device_component_bytes.proofs.Back.{component_back, component_flag}
 use Rattle.device_session.specs.Effect.{FitsSession}
 use Rattle.device_session.specs.declared.effect.Session.{Session}
-use Rattle.device_session_bytes.specs.Layout.{SESSION-SIZE, sessionBytes, sessionFlagsFit}
-use Rattle.device_session_bytes.proofs.Laws.{session-sized}
-use Rattle.device_session_bytes.proofs.Back.{session-first}
-use Rattle.device.specs.Record.{withSession}
+use Rattle.device_session_bytes.specs.Layout.{session_size, session_bytes, session_flags_fit}
+use Rattle.device_session_bytes.proofs.Laws.{session_sized}
+use Rattle.device_session_bytes.proofs.Back.{session_first}
+use Rattle.device.specs.Record.{with_session}
 use Rattle.device.specs.declared.record.Device.{Device}
-use Rattle.device_bytes.specs.Layout.{SESSION-START, COMPONENTS-START, DEVICE-SIZE, componentStart, componentsBytes, headBytes, deviceBytes, componentsIn, deviceIn, stagedFit, isRecord, withSessionBytes, withComponentBytes}
-use Rattle.device_bytes.proofs.Back.{session-back, record-back}
-use Rattle.device_bytes.proofs.Flags.{record-sized, record-flags, is-record}
-use Rattle.device_bytes.proofs.Spliced.{first, spliced, spliced-next}
-use Rattle.device_bytes.proofs.Record.{Sized, head-sized, components-full, components-sized, device-length}
+use Rattle.device_bytes.specs.Layout.{session_start, components_start, device_size, component_start, components_bytes, head_bytes, device_bytes, components_in, device_in, staged_fit, is_record, with_session_bytes, with_component_bytes}
+use Rattle.device_bytes.proofs.Back.{session_back, record_back}
+use Rattle.device_bytes.proofs.Flags.{record_sized, record_flags, is_record_lem}
+use Rattle.device_bytes.proofs.Spliced.{first, spliced, spliced_next}
+use Rattle.device_bytes.proofs.Record.{Sized, head_sized, components_full, components_sized, device_length}
 
 -- a session that is stored reads back, and all else stays
-pub session-read : (t : Session) (b : List ℕ) → isRecord b ≡ true → FitsSession t
-    → (isRecord (withSessionBytes t b) ≡ true) × (deviceIn (withSessionBytes t b) ≡ withSession (deviceIn b) (deviceIn b).components t)
-unfolding withSessionBytes deviceIn
-session-read t b h f =
-    let whole = record-sized b h in
-    let q = drop COMPONENTS-START b in
-    let e : take SESSION-START b ++ (sessionBytes t ++ q) ≡ bytes_at SESSION-START 0 b ++ (sessionBytes t ++ q) = ap (λ (l : List ℕ). l ++ (sessionBytes t ++ q)) (first SESSION-START b refl (omega arith)) in
-    let n : length (bytes_at SESSION-START 0 b ++ (sessionBytes t ++ q)) ≡ DEVICE-SIZE = length-append (bytes_at SESSION-START 0 b) (sessionBytes t ++ q) ∙ rw (length-append (sessionBytes t) q, session-sized t f.size, length-drop COMPONENTS-START b, whole) in
-    let staged = (both (sessionFlagsFit (drop SESSION-START b)) (stagedFit COMPONENT-LIMIT q) (record-flags b h)).1 in
-    rw (eq-eqb (length b) DEVICE-SIZE whole, e)
-    (is-record (bytes_at SESSION-START 0 b ++ (sessionBytes t ++ q)) n ((session-back b q t f).1 ∙ staged), record-back b q t f)
+pub session_read : (t : Session) (b : List ℕ) → is_record b ≡ true → FitsSession t
+    → (is_record (with_session_bytes t b) ≡ true) × (device_in (with_session_bytes t b) ≡ with_session (device_in b) (device_in b).components t)
+unfolding with_session_bytes device_in
+session_read t b h f =
+    let whole = record_sized b h in
+    let q = drop components_start b in
+    let e : take session_start b ++ (session_bytes t ++ q) ≡ bytes_at session_start 0 b ++ (session_bytes t ++ q) = ap (λ (l : List ℕ). l ++ (session_bytes t ++ q)) (first session_start b refl (omega arith)) in
+    let n : length (bytes_at session_start 0 b ++ (session_bytes t ++ q)) ≡ device_size = length-append (bytes_at session_start 0 b) (session_bytes t ++ q) ∙ rw (length-append (session_bytes t) q, session_sized t f.size, length-drop components_start b, whole) in
+    let staged = (both (session_flags_fit (drop session_start b)) (staged_fit component_limit q) (record_flags b h)).1 in
+    rw (eq-eqb (length b) device_size whole, e)
+    (is_record_lem (bytes_at session_start 0 b ++ (session_bytes t ++ q)) n ((session_back b q t f).1 ∙ staged), record_back b q t f)
 
 -- the bytes of components with those of another component from place m on
-abbrev withPart : ℕ → Component → List ℕ → List ℕ
-withPart m c q = spliced COMPONENT-SIZE m (componentBytes c) q
+abbrev with_part : ℕ → Component → List ℕ → List ℕ
+with_part m c q = spliced component_size m (component_bytes c) q
 
 -- it reads back in its slot, and the others stay
-spliced-read : (n k m : ℕ) (c : Component) (q : List ℕ) → m ≡ k * COMPONENT-SIZE → k < n → n * COMPONENT-SIZE ≤ length q → FitsComponent c
-    → (componentsIn n (withPart m c q) ≡ set (componentsIn n q) k c) × (stagedFit n q ≡ true → stagedFit n (withPart m c q) ≡ true)
-unfolding componentsIn stagedFit
-spliced-read zero k m c q e h l f = absurd (not-suc-le-zero h)
-spliced-read (suc n) zero m c q e h l f =
+spliced_read : (n k m : ℕ) (c : Component) (q : List ℕ) → m ≡ k * component_size → k < n → n * component_size ≤ length q → FitsComponent c
+    → (components_in n (with_part m c q) ≡ set (components_in n q) k c) × (staged_fit n q ≡ true → staged_fit n (with_part m c q) ≡ true)
+unfolding components_in staged_fit
+spliced_read zero k m c q e h l f = absurd (not-suc-le-zero h)
+spliced_read (suc n) zero m c q e h l f =
     let z : m ≡ 0 = omega arith in
-    let r = drop COMPONENT-SIZE q in
-    let d = drop_at (componentBytes c) r COMPONENT-SIZE (component-sized c) in (
-      rw z (ap₂ (λ (x : Component) (t : List ℕ). x ∷ componentsIn n t) (component-back c r f) d),
-      λ g. rw (z, component-flag c r, d) (both (stagedFlagFits q) (stagedFit n r) g).1,
+    let r = drop component_size q in
+    let d = drop_at (component_bytes c) r component_size (component_sized c) in (
+      rw z (ap₂ (λ (x : Component) (t : List ℕ). x ∷ components_in n t) (component_back c r f) d),
+      λ g. rw (z, component_flag c r, d) (both (staged_flag_fits q) (staged_fit n r) g).1,
     )
-spliced-read (suc n) (suc k) m c q e h l f =
-    let j = k * COMPONENT-SIZE in
-    let i : m ≡ COMPONENT-SIZE + j = omega arith in
-    let r = drop COMPONENT-SIZE q in
-    let a = spliced-read n k j c r refl (le_of_suc-le-suc h) (omega (arith, length-drop COMPONENT-SIZE q)) f in
-    let s = ap (λ (x : ℕ). withPart x c q) i ∙ spliced-next COMPONENT-SIZE j (componentBytes c) q refl (omega arith) in (
-      ap (componentsIn (suc n)) s ∙ ap (λ (t : List Component). componentIn q ∷ t) a.0,
+spliced_read (suc n) (suc k) m c q e h l f =
+    let j = k * component_size in
+    let i : m ≡ component_size + j = omega arith in
+    let r = drop component_size q in
+    let a = spliced_read n k j c r refl (le_of_suc-le-suc h) (omega (arith, length-drop component_size q)) f in
+    let s = ap (λ (x : ℕ). with_part x c q) i ∙ spliced_next component_size j (component_bytes c) q refl (omega arith) in (
+      ap (components_in (suc n)) s ∙ ap (λ (t : List Component). component_in q ∷ t) a.0,
       λ g.
-          let b = both (stagedFlagFits q) (stagedFit n r) g in
-          ap (stagedFit (suc n)) s ∙ rw b.0 (a.1 b.1),
+          let b = both (staged_flag_fits q) (staged_fit n r) g in
+          ap (staged_fit (suc n)) s ∙ rw b.0 (a.1 b.1),
     )
 
 -- the bytes of a record with others in place of its components
 abbrev before : (b rest : List ℕ) → List ℕ
-before b rest = bytes_at SESSION-START 0 b ++ (take SESSION-SIZE (drop SESSION-START b) ++ rest)
+before b rest = bytes_at session_start 0 b ++ (take session_size (drop session_start b) ++ rest)
 
 -- as many as these stand before the components
-before-sized : (b rest : List ℕ) → length b ≡ DEVICE-SIZE → length (before b rest) ≡ COMPONENTS-START + length rest
-before-sized b rest whole =
-    let s = take SESSION-SIZE (drop SESSION-START b) in
-    length-append (bytes_at SESSION-START 0 b) (s ++ rest) ∙ rw (length-append s rest, length-take, length-drop, whole) (omega arith)
+before_sized : (b rest : List ℕ) → length b ≡ device_size → length (before b rest) ≡ components_start + length rest
+before_sized b rest whole =
+    let s = take session_size (drop session_start b) in
+    length-append (bytes_at session_start 0 b) (s ++ rest) ∙ rw (length-append s rest, length-take, length-drop, whole) (omega arith)
 
 -- a component that is stored reads back, and all else stays
-module _ (slot : ℕ) (c : Component) (b : List ℕ) (h : isRecord b ≡ true) (f : FitsComponent c) where
-  stored-form : take (componentStart slot) b ++ (componentBytes c ++ drop (componentStart slot + COMPONENT-SIZE) b) ≡ before b (withPart (slot * COMPONENT-SIZE) c (drop COMPONENTS-START b))
-  stored-form =
-      let m = slot * COMPONENT-SIZE in
-      let i : componentStart slot + COMPONENT-SIZE ≡ COMPONENTS-START + (COMPONENT-SIZE + m) = omega arith in
-      let q = drop COMPONENTS-START b in
-      let s = take SESSION-SIZE (drop SESSION-START b) in
-      let r = componentBytes c ++ drop (COMPONENT-SIZE + m) q in
-      ap₂ (λ (u v : List ℕ). u ++ (componentBytes c ++ v))
-      (take-add COMPONENTS-START m b ∙ ap (λ (l : List ℕ). l ++ take m q) (take-add SESSION-START SESSION-SIZE b ∙ ap (λ (l : List ℕ). l ++ s) (first SESSION-START b refl (omega (arith, record-sized b h)))))
-      (ap (λ (j : ℕ). drop j b) i ∙ sym (drop-drop (COMPONENT-SIZE + m) COMPONENTS-START b))
-      ∙ append_assoc (bytes_at SESSION-START 0 b ++ s) (take m q) r ∙ append_assoc (bytes_at SESSION-START 0 b) s (take m q ++ r)
+module _ (slot : ℕ) (c : Component) (b : List ℕ) (h : is_record b ≡ true) (f : FitsComponent c) where
+  stored_form : take (component_start slot) b ++ (component_bytes c ++ drop (component_start slot + component_size) b) ≡ before b (with_part (slot * component_size) c (drop components_start b))
+  stored_form =
+      let m = slot * component_size in
+      let i : component_start slot + component_size ≡ components_start + (component_size + m) = omega arith in
+      let q = drop components_start b in
+      let s = take session_size (drop session_start b) in
+      let r = component_bytes c ++ drop (component_size + m) q in
+      ap₂ (λ (u v : List ℕ). u ++ (component_bytes c ++ v))
+      (take-add components_start m b ∙ ap (λ (l : List ℕ). l ++ take m q) (take-add session_start session_size b ∙ ap (λ (l : List ℕ). l ++ s) (first session_start b refl (omega (arith, record_sized b h)))))
+      (ap (λ (j : ℕ). drop j b) i ∙ sym (drop-drop (component_size + m) components_start b))
+      ∙ append_assoc (bytes_at session_start 0 b ++ s) (take m q) r ∙ append_assoc (bytes_at session_start 0 b) s (take m q ++ r)
 
-  pub component-read : (isRecord (withComponentBytes slot c b) ≡ true) × (deviceIn (withComponentBytes slot c b) ≡ withSession (deviceIn b) (set (deviceIn b).components slot c) (deviceIn b).session)
-  unfolding withComponentBytes deviceIn
-  component-read = go (ltb slot COMPONENT-LIMIT) refl
+  pub component_read : (is_record (with_component_bytes slot c b) ≡ true) × (device_in (with_component_bytes slot c b) ≡ with_session (device_in b) (set (device_in b).components slot c) (device_in b).session)
+  unfolding with_component_bytes device_in
+  component_read = go (ltb slot component_limit) refl
     where
-      go : (t : Bool) → ltb slot COMPONENT-LIMIT ≡ t
-          → (isRecord (withComponentBytes slot c b) ≡ true) × (deviceIn (withComponentBytes slot c b) ≡ withSession (deviceIn b) (set (deviceIn b).components slot c) (deviceIn b).session)
+      go : (t : Bool) → ltb slot component_limit ≡ t
+          → (is_record (with_component_bytes slot c b) ≡ true) × (device_in (with_component_bytes slot c b) ≡ with_session (device_in b) (set (device_in b).components slot c) (device_in b).session)
       go true e =
-          let m = slot * COMPONENT-SIZE in
-          let q = drop COMPONENTS-START b in
-          let k = ltb-true slot COMPONENT-LIMIT e in
-          let l : length q ≡ COMPONENT-LIMIT * COMPONENT-SIZE = length-drop COMPONENTS-START b ∙ omega (arith, record-sized b h) in
-          let a = spliced-read COMPONENT-LIMIT slot m c q refl k (omega arith) f in
-          let n : length (withPart m c q) ≡ COMPONENT-LIMIT * COMPONENT-SIZE = simp (length-append, length-take, length-drop) (omega (arith, component-sized c, record-sized b h)) in
-          let x = both (sessionFlagsFit (drop SESSION-START b)) (stagedFit COMPONENT-LIMIT q) (record-flags b h) in
-          let o = drop SESSION-START b in
-          let p = session-first o (withPart m c q) (omega (arith, length-drop SESSION-START b, record-sized b h)) in
-          let d = drop_at (take SESSION-SIZE o) (withPart m c q) SESSION-SIZE (length-take-le SESSION-SIZE o (omega (arith, length-drop SESSION-START b, record-sized b h))) in
-          rw (eq-eqb (length b) DEVICE-SIZE (record-sized b h), e, stored-form) (
-            is-record (before b (withPart m c q)) (before-sized b (withPart m c q) (record-sized b h) ∙ ap (λ (j : ℕ). COMPONENTS-START + j) n) (rw (p.1, x.0, d) (a.1 x.1)),
-            ap₂ (λ (t : List Component) (s : Session). withSession (deviceIn b) t s) (ap (componentsIn COMPONENT-LIMIT) d ∙ a.0) p.0,
+          let m = slot * component_size in
+          let q = drop components_start b in
+          let k = ltb-true slot component_limit e in
+          let l : length q ≡ component_limit * component_size = length-drop components_start b ∙ omega (arith, record_sized b h) in
+          let a = spliced_read component_limit slot m c q refl k (omega arith) f in
+          let n : length (with_part m c q) ≡ component_limit * component_size = simp (length-append, length-take, length-drop) (omega (arith, component_sized c, record_sized b h)) in
+          let x = both (session_flags_fit (drop session_start b)) (staged_fit component_limit q) (record_flags b h) in
+          let o = drop session_start b in
+          let p = session_first o (with_part m c q) (omega (arith, length-drop session_start b, record_sized b h)) in
+          let d = drop_at (take session_size o) (with_part m c q) session_size (length-take-le session_size o (omega (arith, length-drop session_start b, record_sized b h))) in
+          rw (eq-eqb (length b) device_size (record_sized b h), e, stored_form) (
+            is_record_lem (before b (with_part m c q)) (before_sized b (with_part m c q) (record_sized b h) ∙ ap (λ (j : ℕ). components_start + j) n) (rw (p.1, x.0, d) (a.1 x.1)),
+            ap₂ (λ (t : List Component) (s : Session). with_session (device_in b) t s) (ap (components_in component_limit) d ∙ a.0) p.0,
           )
       go false e =
-          rw (eq-eqb (length b) DEVICE-SIZE (record-sized b h), e)
-          (h, ap (λ (t : List Component). withSession (deviceIn b) t (deviceIn b).session) (sym (set_out (deviceIn b).components slot c (omega (arith, components-full (drop COMPONENTS-START b), ltb-false slot COMPONENT-LIMIT e)))))
+          rw (eq-eqb (length b) device_size (record_sized b h), e)
+          (h, ap (λ (t : List Component). with_session (device_in b) t (device_in b).session) (sym (set_out (device_in b).components slot c (omega (arith, components_full (drop components_start b), ltb-false slot component_limit e)))))
 
 -- over the bytes that a record has, they are those of the record with another session
-pub session-written : (t : Session) (d : Device) → Sized d → withSessionBytes t (deviceBytes d) ≡ deviceBytes (withSession d d.components t)
-unfolding withSessionBytes deviceBytes
-session-written t d full =
-    let q = componentsBytes d.components in
-    rw (eq-eqb (length (deviceBytes d)) DEVICE-SIZE (device-length d full))
-    (ap (λ (l : List ℕ). headBytes d ++ (sessionBytes t ++ l))
-    (ap (λ (l : List ℕ). drop COMPONENTS-START l) (sym (append_assoc (headBytes d) (sessionBytes d.session) q))
-    ∙ drop_at (headBytes d ++ sessionBytes d.session) q COMPONENTS-START (head-sized d full)))
+pub session_written : (t : Session) (d : Device) → Sized d → with_session_bytes t (device_bytes d) ≡ device_bytes (with_session d d.components t)
+unfolding with_session_bytes device_bytes
+session_written t d full =
+    let q = components_bytes d.components in
+    rw (eq-eqb (length (device_bytes d)) device_size (device_length d full))
+    (ap (λ (l : List ℕ). head_bytes d ++ (session_bytes t ++ l))
+    (ap (λ (l : List ℕ). drop components_start l) (sym (append_assoc (head_bytes d) (session_bytes d.session) q))
+    ∙ drop_at (head_bytes d ++ session_bytes d.session) q components_start (head_sized d full)))
 
 -- the components before a slot are as many bytes as each has
-front-sized : (l : List Component) (i : ℕ) → i ≤ length l → length (componentsBytes (take i l)) ≡ i * COMPONENT-SIZE
-front-sized l i h = components-sized (take i l) ∙ ap (λ (n : ℕ). n * COMPONENT-SIZE) (length-take-le i l h)
+front_sized : (l : List Component) (i : ℕ) → i ≤ length l → length (components_bytes (take i l)) ≡ i * component_size
+front_sized l i h = components_sized (take i l) ∙ ap (λ (n : ℕ). n * component_size) (length-take-le i l h)
 
 -- the bytes of a component stand between those before it and those behind it
-components-split : (l : List Component) (i : ℕ) (c : Component) → i < length l → componentsBytes (set l i c) ≡ componentsBytes (take i l) ++ (componentBytes c ++ componentsBytes (drop (suc i) l))
-unfolding componentsBytes
-components-split [] i c h = absurd (not-suc-le-zero h)
-components-split (x ∷ l) zero c h = refl
-components-split (x ∷ l) (suc i) c h =
-    ap (λ (t : List ℕ). componentBytes x ++ t) (components-split l i c (le_of_suc-le-suc h)) ∙ sym (append_assoc (componentBytes x) (componentsBytes (take i l)) (componentBytes c ++ componentsBytes (drop (suc i) l)))
+components_split : (l : List Component) (i : ℕ) (c : Component) → i < length l → components_bytes (set l i c) ≡ components_bytes (take i l) ++ (component_bytes c ++ components_bytes (drop (suc i) l))
+unfolding components_bytes
+components_split [] i c h = absurd (not-suc-le-zero h)
+components_split (x ∷ l) zero c h = refl
+components_split (x ∷ l) (suc i) c h =
+    ap (λ (t : List ℕ). component_bytes x ++ t) (components_split l i c (le_of_suc-le-suc h)) ∙ sym (append_assoc (component_bytes x) (components_bytes (take i l)) (component_bytes c ++ components_bytes (drop (suc i) l)))
 
 -- .. or with another component in a slot
 module _ (slot : ℕ) (c : Component) (d : Device) (full : Sized d) where
   abbrev front : List ℕ
-  front = (headBytes d ++ sessionBytes d.session) ++ componentsBytes (take slot d.components)
+  front = (head_bytes d ++ session_bytes d.session) ++ components_bytes (take slot d.components)
 
   around : (x : Component) → slot < length d.components
-      → deviceBytes (withSession d (set d.components slot x) d.session) ≡ front ++ (componentBytes x ++ componentsBytes (drop (suc slot) d.components))
-  unfolding deviceBytes
+      → device_bytes (with_session d (set d.components slot x) d.session) ≡ front ++ (component_bytes x ++ components_bytes (drop (suc slot) d.components))
+  unfolding device_bytes
   around x h =
-      let r = componentBytes x ++ componentsBytes (drop (suc slot) d.components) in
-      ap (λ (t : List ℕ). headBytes d ++ (sessionBytes d.session ++ t)) (components-split d.components slot x h)
-      ∙ sym (append_assoc (headBytes d) (sessionBytes d.session) (componentsBytes (take slot d.components) ++ r))
-      ∙ sym (append_assoc (headBytes d ++ sessionBytes d.session) (componentsBytes (take slot d.components)) r)
+      let r = component_bytes x ++ components_bytes (drop (suc slot) d.components) in
+      ap (λ (t : List ℕ). head_bytes d ++ (session_bytes d.session ++ t)) (components_split d.components slot x h)
+      ∙ sym (append_assoc (head_bytes d) (session_bytes d.session) (components_bytes (take slot d.components) ++ r))
+      ∙ sym (append_assoc (head_bytes d ++ session_bytes d.session) (components_bytes (take slot d.components)) r)
 
-  pub component-written : withComponentBytes slot c (deviceBytes d) ≡ deviceBytes (withSession d (set d.components slot c) d.session)
-  unfolding withComponentBytes
-  component-written = go (ltb slot COMPONENT-LIMIT) refl
+  pub component_written : with_component_bytes slot c (device_bytes d) ≡ device_bytes (with_session d (set d.components slot c) d.session)
+  unfolding with_component_bytes
+  component_written = go (ltb slot component_limit) refl
     where
-      go : (t : Bool) → ltb slot COMPONENT-LIMIT ≡ t → withComponentBytes slot c (deviceBytes d) ≡ deviceBytes (withSession d (set d.components slot c) d.session)
+      go : (t : Bool) → ltb slot component_limit ≡ t → with_component_bytes slot c (device_bytes d) ≡ device_bytes (with_session d (set d.components slot c) d.session)
       go true e =
-          let in_use : slot < length d.components = omega (arith, ltb-true slot COMPONENT-LIMIT e) in
-          let old = get_or d.components slot blankComponent in
-          let back = componentsBytes (drop (suc slot) d.components) in
-          let n : length front ≡ componentStart slot = length-append (headBytes d ++ sessionBytes d.session) (componentsBytes (take slot d.components)) ∙ ap₂ (λ (x y : ℕ). x + y) (head-sized d full) (front-sized d.components slot (omega arith)) in
-          let m : length (front ++ componentBytes old) ≡ componentStart slot + COMPONENT-SIZE = length-append front (componentBytes old) ∙ ap₂ (λ (x y : ℕ). x + y) n (component-sized old) in
-          let w : deviceBytes d ≡ front ++ (componentBytes old ++ back) = ap (λ (t : List Component). deviceBytes (withSession d t d.session)) (sym (set-get_or d.components slot blankComponent)) ∙ around old in_use in
-          rw (eq-eqb (length (deviceBytes d)) DEVICE-SIZE (device-length d full), e)
-          (ap₂ (λ (u v : List ℕ). u ++ (componentBytes c ++ v)) (ap (take (componentStart slot)) w ∙ take_at front (componentBytes old ++ back) (componentStart slot) n)
-          (ap (drop (componentStart slot + COMPONENT-SIZE)) (w ∙ sym (append_assoc front (componentBytes old) back)) ∙ drop_at (front ++ componentBytes old) back (componentStart slot + COMPONENT-SIZE) m)
+          let in_use : slot < length d.components = omega (arith, ltb-true slot component_limit e) in
+          let old = get_or d.components slot blank_component in
+          let back = components_bytes (drop (suc slot) d.components) in
+          let n : length front ≡ component_start slot = length-append (head_bytes d ++ session_bytes d.session) (components_bytes (take slot d.components)) ∙ ap₂ (λ (x y : ℕ). x + y) (head_sized d full) (front_sized d.components slot (omega arith)) in
+          let m : length (front ++ component_bytes old) ≡ component_start slot + component_size = length-append front (component_bytes old) ∙ ap₂ (λ (x y : ℕ). x + y) n (component_sized old) in
+          let w : device_bytes d ≡ front ++ (component_bytes old ++ back) = ap (λ (t : List Component). device_bytes (with_session d t d.session)) (sym (set-get_or d.components slot blank_component)) ∙ around old in_use in
+          rw (eq-eqb (length (device_bytes d)) device_size (device_length d full), e)
+          (ap₂ (λ (u v : List ℕ). u ++ (component_bytes c ++ v)) (ap (take (component_start slot)) w ∙ take_at front (component_bytes old ++ back) (component_start slot) n)
+          (ap (drop (component_start slot + component_size)) (w ∙ sym (append_assoc front (component_bytes old) back)) ∙ drop_at (front ++ component_bytes old) back (component_start slot + component_size) m)
           ∙ sym (around c in_use))
       go false e =
-          rw (eq-eqb (length (deviceBytes d)) DEVICE-SIZE (device-length d full), e)
-          (ap (λ (t : List Component). deviceBytes (withSession d t d.session)) (sym (set_out d.components slot c (omega (arith, ltb-false slot COMPONENT-LIMIT e)))))
+          rw (eq-eqb (length (device_bytes d)) device_size (device_length d full), e)
+          (ap (λ (t : List Component). device_bytes (with_session d t d.session)) (sym (set_out d.components slot c (omega (arith, ltb-false slot component_limit e)))))

@@ -16,9 +16,9 @@ abbrev pub spliced : (size m : ℕ) → (p q : List ℕ) → List ℕ
 spliced size m p q = take m q ++ (p ++ drop (size + m) q)
 
 -- behind the first part
-pub spliced-next : (size m : ℕ) (p q : List ℕ) → length (bytes_at size 0 q) ≡ size → size ≤ length q
+pub spliced_next : (size m : ℕ) (p q : List ℕ) → length (bytes_at size 0 q) ≡ size → size ≤ length q
     → spliced size (size + m) p q ≡ bytes_at size 0 q ++ spliced size m p (drop size q)
-spliced-next size m p q e h =
+spliced_next size m p q e h =
     let r = drop size q in
     ap₂ (λ (u v : List ℕ). u ++ (p ++ v)) (take-add size m q ∙ ap (λ (l : List ℕ). l ++ take m r) (first size q e h)) (sym (drop-drop (size + m) size q))
     ∙ append_assoc (bytes_at size 0 q) (take m r) (p ++ drop (size + m) r)

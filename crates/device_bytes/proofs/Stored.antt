@@ -9,34 +9,34 @@ use lib.ListN.{length, take, drop}
 use Rattle.wire.specs.Bytes.{copy_of}
 use Rattle.wire.proofs.Pieces.{copied}
 use Rattle.device_component.specs.declared.record.Component.{Component}
-use Rattle.device_component_bytes.specs.Layout.{COMPONENT-SIZE, componentBytes}
-use Rattle.device_component_bytes.proofs.Laws.{component-sized}
+use Rattle.device_component_bytes.specs.Layout.{component_size, component_bytes}
+use Rattle.device_component_bytes.proofs.Laws.{component_sized}
 use Rattle.device_session.specs.declared.effect.Session.{Session}
-use Rattle.device_session_bytes.specs.Layout.{SESSION-SIZE, sessionBytes}
-use Rattle.device_bytes.specs.Layout.{SESSION-START, COMPONENTS-START, DEVICE-SIZE, componentStart, hasSlot, withSessionBytes, withComponentBytes}
-use Rattle.device_bytes.proofs.component.Laws.{slot-within}
+use Rattle.device_session_bytes.specs.Layout.{session_size, session_bytes}
+use Rattle.device_bytes.specs.Layout.{session_start, components_start, device_size, component_start, has_slot, with_session_bytes, with_component_bytes}
+use Rattle.device_bytes.proofs.component.Laws.{slot_within}
 
 -- a session
-pub session-stored : (b s last : List ℕ) (t : Session) (k : ℕ) → length b ≡ DEVICE-SIZE → k ≡ SESSION-SIZE → length s ≡ SESSION-SIZE → s ≡ sessionBytes t → last ≡ copy_of (take k (drop SESSION-START b)) s
-    → take SESSION-START b ++ (last ++ drop k (drop SESSION-START b)) ≡ withSessionBytes t b
-unfolding withSessionBytes
-session-stored b s last t k whole e h f g =
-    rw (eq-eqb (length b) DEVICE-SIZE whole)
-    (copied b s last SESSION-START SESSION-SIZE k e h (omega arith) g ∙ ap (λ (l : List ℕ). take SESSION-START b ++ (l ++ drop COMPONENTS-START b)) f)
+pub session_stored : (b s last : List ℕ) (t : Session) (k : ℕ) → length b ≡ device_size → k ≡ session_size → length s ≡ session_size → s ≡ session_bytes t → last ≡ copy_of (take k (drop session_start b)) s
+    → take session_start b ++ (last ++ drop k (drop session_start b)) ≡ with_session_bytes t b
+unfolding with_session_bytes
+session_stored b s last t k whole e h f g =
+    rw (eq-eqb (length b) device_size whole)
+    (copied b s last session_start session_size k e h (omega arith) g ∙ ap (λ (l : List ℕ). take session_start b ++ (l ++ drop components_start b)) f)
 
-pub session-stays : (t : Session) (b : List ℕ) → (length b ≡ DEVICE-SIZE → ⊥) → b ≡ withSessionBytes t b
-unfolding withSessionBytes
-session-stays t b h = rw (ne_eqb (length b) DEVICE-SIZE h)
+pub session_stays : (t : Session) (b : List ℕ) → (length b ≡ device_size → ⊥) → b ≡ with_session_bytes t b
+unfolding with_session_bytes
+session_stays t b h = rw (ne_eqb (length b) device_size h)
 
 -- a component
-pub component-stored : (b s last : List ℕ) (slot at k : ℕ) (c : Component) → hasSlot slot b ≡ true → at ≡ componentStart slot → k ≡ COMPONENT-SIZE → s ≡ componentBytes c
-    → last ≡ copy_of (take k (drop at b)) s → take at b ++ (last ++ drop k (drop at b)) ≡ withComponentBytes slot c b
-unfolding withComponentBytes
-component-stored b s last slot at k c h d e f g =
+pub component_stored : (b s last : List ℕ) (slot at k : ℕ) (c : Component) → has_slot slot b ≡ true → at ≡ component_start slot → k ≡ component_size → s ≡ component_bytes c
+    → last ≡ copy_of (take k (drop at b)) s → take at b ++ (last ++ drop k (drop at b)) ≡ with_component_bytes slot c b
+unfolding with_component_bytes
+component_stored b s last slot at k c h d e f g =
     rw h
-    (copied b s last at COMPONENT-SIZE k e (ap length f ∙ component-sized c) (slot-within slot at b d h) g
-    ∙ ap₂ (λ (i : ℕ) (l : List ℕ). take i b ++ (l ++ drop (i + COMPONENT-SIZE) b)) d f)
+    (copied b s last at component_size k e (ap length f ∙ component_sized c) (slot_within slot at b d h) g
+    ∙ ap₂ (λ (i : ℕ) (l : List ℕ). take i b ++ (l ++ drop (i + component_size) b)) d f)
 
-pub component-stays : (slot : ℕ) (c : Component) (b : List ℕ) → hasSlot slot b ≡ false → b ≡ withComponentBytes slot c b
-unfolding withComponentBytes
-component-stays slot c b h = rw h
+pub component_stays : (slot : ℕ) (c : Component) (b : List ℕ) → has_slot slot b ≡ false → b ≡ with_component_bytes slot c b
+unfolding with_component_bytes
+component_stays slot c b h = rw h

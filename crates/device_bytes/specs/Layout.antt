@@ -1,128 +1,128 @@
 -- The device's record as bytes of a fixed length, little-endian, for whoever keeps it outside of Rattle; and the list that set-up takes, as bytes.
 use Rattle.std.specs.Prelude.{ℕ, zero, suc, ◌+◌, ◌*◌, Bool, true, cond, ◌&&◌, List, [], ◌∷◌, ◌++◌, eqb, ltb, length, get_or, take, drop}
 use Rattle.wire.specs.Bytes.{number, bytes_of, bytes_at}
-use Rattle.wire.specs.Codes.{COMPONENT-LIMIT}
-use Rattle.device_component.specs.Record.{blankComponent}
+use Rattle.wire.specs.Codes.{component_limit}
+use Rattle.device_component.specs.Record.{blank_component}
 use Rattle.device_component.specs.declared.record.Component.{Component}
 use Rattle.device_component.specs.declared.record.Listed.{Listed}
-use Rattle.device_component_bytes.specs.Layout.{COMPONENT-SIZE, LISTED-SIZE, componentBytes, listedBytes, componentIn, listedIn, stagedFlagFits}
+use Rattle.device_component_bytes.specs.Layout.{component_size, listed_size, component_bytes, listed_bytes, component_in, listed_in, staged_flag_fits}
 use Rattle.device.specs.declared.record.Device.{Device}
 use Rattle.device_session.specs.declared.effect.Session.{Session}
-use Rattle.device_session_bytes.specs.Layout.{SESSION-SIZE, sessionBytes, sessionFlagsFit}
+use Rattle.device_session_bytes.specs.Layout.{session_size, session_bytes, session_flags_fit}
 use Rattle.device_session_bytes.specs.Layout as session
-use Rattle.device.specs.Record.{blankDevice}
+use Rattle.device.specs.Record.{blank_device}
 
 -- where the parts of a record stand: the platform, the length of the staging buffer, the count, the session, the components
-abbrev pub PLATFORM-AT : ℕ
-PLATFORM-AT = 0
+abbrev pub platform_at : ℕ
+platform_at = 0
 
-abbrev pub STAGING-LEN-AT : ℕ
-STAGING-LEN-AT = PLATFORM-AT + 2
+abbrev pub staging_len_at : ℕ
+staging_len_at = platform_at + 2
 
-abbrev pub COUNT-AT : ℕ
-COUNT-AT = STAGING-LEN-AT + 4
+abbrev pub count_at : ℕ
+count_at = staging_len_at + 4
 
-abbrev pub SESSION-START : ℕ
-SESSION-START = COUNT-AT + 1
+abbrev pub session_start : ℕ
+session_start = count_at + 1
 
-abbrev pub COMPONENTS-START : ℕ
-COMPONENTS-START = SESSION-START + SESSION-SIZE
+abbrev pub components_start : ℕ
+components_start = session_start + session_size
 
 -- the length of a record
-abbrev pub DEVICE-SIZE : ℕ
-DEVICE-SIZE = COMPONENTS-START + COMPONENT-LIMIT * COMPONENT-SIZE
+abbrev pub device_size : ℕ
+device_size = components_start + component_limit * component_size
 
 -- the bytes of the component in a slot stand from here on
-abbrev pub componentStart : (slot : ℕ) → ℕ
-componentStart slot = COMPONENTS-START + slot * COMPONENT-SIZE
+abbrev pub component_start : (slot : ℕ) → ℕ
+component_start slot = components_start + slot * component_size
 
 -- components one after the other
-unfoldable pub componentsBytes : List Component → List ℕ
-componentsBytes [] = []
-componentsBytes (c ∷ cs) = componentBytes c ++ componentsBytes cs
+unfoldable pub components_bytes : List Component → List ℕ
+components_bytes [] = []
+components_bytes (c ∷ cs) = component_bytes c ++ components_bytes cs
 
 -- what stands before the session: platform, staging length, count
-abbrev pub headBytes : Device → List ℕ
-headBytes d = bytes_of 2 d.platform ++ (bytes_of 4 d.staging_len ++ (d.count ∷ []))
+abbrev pub head_bytes : Device → List ℕ
+head_bytes d = bytes_of 2 d.platform ++ (bytes_of 4 d.staging_len ++ (d.count ∷ []))
 
 -- the record
-unfoldable pub deviceBytes : Device → List ℕ
-deviceBytes d = headBytes d ++ (sessionBytes d.session ++ componentsBytes d.components)
+unfoldable pub device_bytes : Device → List ℕ
+device_bytes d = head_bytes d ++ (session_bytes d.session ++ components_bytes d.components)
 
 -- there is a component in this slot; past the last slot there is none, and none in bytes of another length
-abbrev pub hasSlot : (slot : ℕ) → List ℕ → Bool
-hasSlot slot b = eqb (length b) DEVICE-SIZE && ltb slot COMPONENT-LIMIT
+abbrev pub has_slot : (slot : ℕ) → List ℕ → Bool
+has_slot slot b = eqb (length b) device_size && ltb slot component_limit
 
 -- the parts that stand in bytes, unjudged: the component in a slot, the components, the fields before the session, the session
-abbrev pub componentOf : (slot : ℕ) → List ℕ → Component
-componentOf slot b = cond (hasSlot slot b) (componentIn (drop (componentStart slot) b)) blankComponent
+abbrev pub component_of : (slot : ℕ) → List ℕ → Component
+component_of slot b = cond (has_slot slot b) (component_in (drop (component_start slot) b)) blank_component
 
-unfoldable pub componentsIn : ℕ → List ℕ → List Component
-componentsIn zero q = []
-componentsIn (suc n) q = componentIn q ∷ componentsIn n (drop COMPONENT-SIZE q)
+unfoldable pub components_in : ℕ → List ℕ → List Component
+components_in zero q = []
+components_in (suc n) q = component_in q ∷ components_in n (drop component_size q)
 
-abbrev pub platformIn : List ℕ → ℕ
-platformIn b = number (bytes_at 2 PLATFORM-AT b)
+abbrev pub platform_in : List ℕ → ℕ
+platform_in b = number (bytes_at 2 platform_at b)
 
-abbrev pub stagingLenIn : List ℕ → ℕ
-stagingLenIn b = number (bytes_at 4 STAGING-LEN-AT b)
+abbrev pub staging_len_in : List ℕ → ℕ
+staging_len_in b = number (bytes_at 4 staging_len_at b)
 
-abbrev pub countIn : List ℕ → ℕ
-countIn b = get_or b COUNT-AT 0
+abbrev pub count_in : List ℕ → ℕ
+count_in b = get_or b count_at 0
 
-abbrev pub sessionIn : List ℕ → Session
-sessionIn b = session.sessionIn (drop SESSION-START b)
+abbrev pub session_in : List ℕ → Session
+session_in b = session.session_in (drop session_start b)
 
-unfoldable pub deviceIn : List ℕ → Device
-deviceIn b = record {
-  platform = platformIn b;
-  staging_len = stagingLenIn b;
-  count = countIn b;
-  components = componentsIn COMPONENT-LIMIT (drop COMPONENTS-START b);
-  session = sessionIn b;
+unfoldable pub device_in : List ℕ → Device
+device_in b = record {
+  platform = platform_in b;
+  staging_len = staging_len_in b;
+  count = count_in b;
+  components = components_in component_limit (drop components_start b);
+  session = session_in b;
 }
 
 -- the same of bytes of whatever length; those of another length are read as the blank record
-unfoldable pub fieldsIn : List ℕ → Device
-fieldsIn b = cond (eqb (length b) DEVICE-SIZE) (deviceIn b) blankDevice
+unfoldable pub fields_in : List ℕ → Device
+fields_in b = cond (eqb (length b) device_size) (device_in b) blank_device
 
 -- each flag is one that a record has: those of the session, and what is staged of each of the components
-unfoldable pub stagedFit : ℕ → List ℕ → Bool
-stagedFit zero q = true
-stagedFit (suc n) q = stagedFlagFits q && stagedFit n (drop COMPONENT-SIZE q)
+unfoldable pub staged_fit : ℕ → List ℕ → Bool
+staged_fit zero q = true
+staged_fit (suc n) q = staged_flag_fits q && staged_fit n (drop component_size q)
 
-abbrev pub flagsFit : List ℕ → Bool
-flagsFit b = sessionFlagsFit (drop SESSION-START b) && stagedFit COMPONENT-LIMIT (drop COMPONENTS-START b)
+abbrev pub flags_fit : List ℕ → Bool
+flags_fit b = session_flags_fit (drop session_start b) && staged_fit component_limit (drop components_start b)
 
 -- these bytes are a record
-unfoldable pub isRecord : List ℕ → Bool
-isRecord b = eqb (length b) DEVICE-SIZE && flagsFit b
+unfoldable pub is_record : List ℕ → Bool
+is_record b = eqb (length b) device_size && flags_fit b
 
 -- the record in these bytes; bytes of another length, or with a flag that no record has, are read as the blank record, which every entry refuses by D1
-unfoldable pub readDevice : List ℕ → Device
-readDevice b = cond (isRecord b) (deviceIn b) blankDevice
+unfoldable pub read_device : List ℕ → Device
+read_device b = cond (is_record b) (device_in b) blank_device
 
 -- the bytes with another session; with another component in a slot, where there is one; bytes of another length stay
-unfoldable pub withSessionBytes : Session → List ℕ → List ℕ
-withSessionBytes s b = cond (eqb (length b) DEVICE-SIZE) (take SESSION-START b ++ (sessionBytes s ++ drop COMPONENTS-START b)) b
+unfoldable pub with_session_bytes : Session → List ℕ → List ℕ
+with_session_bytes s b = cond (eqb (length b) device_size) (take session_start b ++ (session_bytes s ++ drop components_start b)) b
 
-unfoldable pub withComponentBytes : (slot : ℕ) → Component → List ℕ → List ℕ
-withComponentBytes slot c b =
-    cond (hasSlot slot b) (take (componentStart slot) b ++ (componentBytes c ++ drop (componentStart slot + COMPONENT-SIZE) b)) b
+unfoldable pub with_component_bytes : (slot : ℕ) → Component → List ℕ → List ℕ
+with_component_bytes slot c b =
+    cond (has_slot slot b) (take (component_start slot) b ++ (component_bytes c ++ drop (component_start slot + component_size) b)) b
 
 -- the list that set-up takes, and its length
-abbrev pub LIST-SIZE : ℕ
-LIST-SIZE = COMPONENT-LIMIT * LISTED-SIZE
+abbrev pub list_size : ℕ
+list_size = component_limit * listed_size
 
-unfoldable pub listIn : ℕ → List ℕ → List Listed
-listIn zero q = []
-listIn (suc n) q = listedIn q ∷ listIn n (drop LISTED-SIZE q)
+unfoldable pub list_in : ℕ → List ℕ → List Listed
+list_in zero q = []
+list_in (suc n) q = listed_in q ∷ list_in n (drop listed_size q)
 
 -- the component of the list at a place stands from here on
-abbrev pub listedStart : (place : ℕ) → ℕ
-listedStart place = place * LISTED-SIZE
+abbrev pub listed_start : (place : ℕ) → ℕ
+listed_start place = place * listed_size
 
 -- the list with another component at a place; past the last place, and in bytes of another length, nothing changes
-unfoldable pub withListedBytes : (place : ℕ) → Listed → List ℕ → List ℕ
-withListedBytes place l b =
-    cond (eqb (length b) LIST-SIZE && ltb place COMPONENT-LIMIT) (take (listedStart place) b ++ (listedBytes l ++ drop (listedStart place + LISTED-SIZE) b)) b
+unfoldable pub with_listed_bytes : (place : ℕ) → Listed → List ℕ → List ℕ
+with_listed_bytes place l b =
+    cond (eqb (length b) list_size && ltb place component_limit) (take (listed_start place) b ++ (listed_bytes l ++ drop (listed_start place + listed_size) b)) b

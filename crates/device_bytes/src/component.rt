@@ -1,6 +1,6 @@
 // The components of a device's record, each in the bytes of its slot.
 ghost use Rattle.std.specs.Prelude.{◌≡◌};
-ghost use Rattle.device_bytes.specs.Layout.{componentStart, hasSlot, componentOf, withComponentBytes};
+ghost use Rattle.device_bytes.specs.Layout.{component_start, has_slot, component_of, with_component_bytes};
 
 use crate::{COMPONENTS_START, DEVICE_SIZE};
 use device_component::record::{Component, blank_component};
@@ -10,21 +10,21 @@ use wire::words;
 
 // The bytes of the component in a slot stand from here on.
 pub(crate) fn component_start(slot: u8) -> usize
-    ensures { result ≡ componentStart slot }
+    ensures { result ≡ component_start slot }
 {
     COMPONENTS_START + (slot as usize) * COMPONENT_SIZE
 }
 
 // There is a component in this slot; past the last slot there is none, and none in bytes of another length.
 fn has_slot(b: &[u8], slot: u8) -> bool
-    ensures { result ≡ hasSlot slot b.now }
+    ensures { result ≡ has_slot slot b.now }
 {
     (b.len() == DEVICE_SIZE) & ((slot as usize) < COMPONENT_LIMIT)
 }
 
 // The component in a slot of a record's bytes, unjudged.
 pub fn component_of(b: &[u8], slot: u8) -> Component
-    ensures { result ≡ componentOf slot b.now }
+    ensures { result ≡ component_of slot b.now }
 {
     if has_slot(b, slot) {
         component_in(&b[component_start(slot)..])
@@ -35,7 +35,7 @@ pub fn component_of(b: &[u8], slot: u8) -> Component
 
 // Another component in a slot, where there is one.
 pub fn store_component(b: &mut [u8], slot: u8, component: Component)
-    ensures { b.new ≡ withComponentBytes slot component b.old }
+    ensures { b.new ≡ with_component_bytes slot component b.old }
 {
     if has_slot(b, slot) {
         let p = component_bytes(component);

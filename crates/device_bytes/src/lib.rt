@@ -1,8 +1,10 @@
 // The device's record as bytes of a fixed length, and the list that set-up takes, as bytes. Nothing else knows where a part of the record stands; where the
 // bytes of a session and of a component stand in theirs is said in device_session_bytes and device_component_bytes.
+#![tactic(auto)]
+
 ghost use Rattle.std.specs.Prelude.{◌≡◌, ◌++◌, length, take, drop};
-ghost use Rattle.wire.specs.Codes.{COMPONENT-LIMIT};
-ghost use Rattle.device_bytes.specs.Layout.{DEVICE-SIZE, COMPONENTS-START, headBytes, componentsBytes, platformIn, stagingLenIn, countIn, componentsIn, deviceBytes, fieldsIn, stagedFit, isRecord, readDevice, listIn};
+ghost use Rattle.wire.specs.Codes.{component_limit};
+ghost use Rattle.device_bytes.specs.Layout.{device_size, components_start, head_bytes, components_bytes, platform_in, staging_len_in, count_in, components_in, device_bytes, fields_in, staged_fit, is_record, read_device, list_in};
 
 use crate::component::{component_of, component_start, store_component};
 use crate::session::{session_in, store_session};
@@ -36,7 +38,7 @@ pub const LIST_SIZE: usize = COMPONENT_LIMIT * LISTED_SIZE;
 
 // What stands before the session.
 fn head(d: Device) -> [u8; SESSION_START]
-    ensures { result ≡ headBytes d }
+    ensures { result ≡ head_bytes d }
 {
     let p = words::bytes16(d.platform);
     let l = words::bytes32(d.staging_len);
@@ -48,7 +50,7 @@ fn with_components(
     mut out: [u8; DEVICE_SIZE],
     components: [Component; COMPONENT_LIMIT],
 ) -> [u8; DEVICE_SIZE]
-    ensures { result ≡ take COMPONENTS-START out ++ componentsBytes components }
+    ensures { result ≡ take components_start out ++ components_bytes components }
 {
     let mut i: u8 = 0;
     while (i as usize) < COMPONENT_LIMIT {
@@ -60,7 +62,7 @@ fn with_components(
 }
 
 pub fn device_bytes(d: Device) -> [u8; DEVICE_SIZE]
-    ensures { result ≡ deviceBytes d }
+    ensures { result ≡ device_bytes d }
 {
     let mut out = [0u8; DEVICE_SIZE];
     let h = head(d);
@@ -73,26 +75,26 @@ pub fn device_bytes(d: Device) -> [u8; DEVICE_SIZE]
 
 // The fields of a record before its session, unjudged.
 pub fn platform_in(b: &[u8]) -> u16
-    ensures { result ≡ platformIn b.now }
+    ensures { result ≡ platform_in b.now }
 {
     words::word16_at(b, PLATFORM_AT as u16)
 }
 
 pub fn staging_len_in(b: &[u8]) -> u32
-    ensures { result ≡ stagingLenIn b.now }
+    ensures { result ≡ staging_len_in b.now }
 {
     words::word32_at(b, STAGING_LEN_AT as u16)
 }
 
 pub fn count_in(b: &[u8]) -> u8
-    ensures { result ≡ countIn b.now }
+    ensures { result ≡ count_in b.now }
 {
     words::byte_at(b, COUNT_AT)
 }
 
 fn components_in(b: &[u8]) -> [Component; COMPONENT_LIMIT]
-    requires { length b.now ≡ DEVICE-SIZE }
-    ensures { result ≡ componentsIn COMPONENT-LIMIT (drop COMPONENTS-START b.now) }
+    requires { length b.now ≡ device_size }
+    ensures { result ≡ components_in component_limit (drop components_start b.now) }
 {
     let none = blank_component();
     let mut components = [none; COMPONENT_LIMIT];
@@ -106,7 +108,7 @@ fn components_in(b: &[u8]) -> [Component; COMPONENT_LIMIT]
 
 // The fields that stand in the bytes, unjudged; bytes of another length are read as the blank record.
 pub fn fields_in(b: &[u8]) -> Device
-    ensures { result ≡ fieldsIn b.now }
+    ensures { result ≡ fields_in b.now }
 {
     if b.len() == DEVICE_SIZE {
         let components = components_in(b);
@@ -125,8 +127,8 @@ pub fn fields_in(b: &[u8]) -> Device
 
 // In each of the components the flag of what is staged is one that a record has.
 fn staged_fit(b: &[u8]) -> bool
-    requires { length b.now ≡ DEVICE-SIZE }
-    ensures { result ≡ stagedFit COMPONENT-LIMIT (drop COMPONENTS-START b.now) }
+    requires { length b.now ≡ device_size }
+    ensures { result ≡ staged_fit component_limit (drop components_start b.now) }
 {
     let mut i: u8 = 0;
     while (i as usize) < COMPONENT_LIMIT {
@@ -141,7 +143,7 @@ fn staged_fit(b: &[u8]) -> bool
 
 // These bytes are a record: as many, and each flag one that a record has.
 pub fn is_record(b: &[u8]) -> bool
-    ensures { result ≡ isRecord b.now }
+    ensures { result ≡ is_record b.now }
 {
     if b.len() != DEVICE_SIZE {
         return false;
@@ -151,7 +153,7 @@ pub fn is_record(b: &[u8]) -> bool
 
 // Bytes that are no record are read as the blank one.
 pub fn read_device(b: &[u8]) -> Device
-    ensures { result ≡ readDevice b.now }
+    ensures { result ≡ read_device b.now }
 {
     if is_record(b) {
         fields_in(b)
@@ -162,7 +164,7 @@ pub fn read_device(b: &[u8]) -> Device
 
 // What the bytes lack, up to all the components, is zero.
 pub fn read_list(b: &[u8]) -> [Listed; COMPONENT_LIMIT]
-    ensures { result ≡ listIn COMPONENT-LIMIT b.now }
+    ensures { result ≡ list_in component_limit b.now }
 {
     let first = listed_in(b);
     let mut list = [first; COMPONENT_LIMIT];

@@ -1,6 +1,6 @@
 // The list that set-up takes, a component at a place.
 ghost use Rattle.std.specs.Prelude.{◌≡◌};
-ghost use Rattle.device_bytes.specs.Layout.{withListedBytes};
+ghost use Rattle.device_bytes.specs.Layout.{with_listed_bytes};
 
 use crate::LIST_SIZE;
 use device_component::record::Listed;
@@ -10,7 +10,7 @@ use wire::words;
 
 // Another component at a place, where there is one; bytes of another length than a list has stay as they are.
 pub fn store_listed(b: &mut [u8], place: u32, listed: Listed)
-    ensures { b.new ≡ withListedBytes place listed b.old }
+    ensures { b.new ≡ with_listed_bytes place listed b.old }
 {
     if (b.len() == LIST_SIZE) & ((place as usize) < COMPONENT_LIMIT) {
         let p = listed_bytes(listed);

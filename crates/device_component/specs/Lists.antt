@@ -1,19 +1,19 @@
 -- The components in use, and where one stands.
 use Rattle.std.specs.Prelude.{ℕ, suc, Bool, cond, List, [], ◌∷◌, eqb, take, get_or}
-use Rattle.device_component.specs.Record.{blankComponent}
+use Rattle.device_component.specs.Record.{blank_component}
 use Rattle.device_component.specs.declared.record.Component.{Component}
 use Rattle.device_component.specs.declared.list.Found.{Found}
 use Rattle.device_component.specs.declared.list.Found.TheVariants.{Nothing, At}
 
 -- the place of the first of which p holds, the first place being k
-unfoldable pub firstFrom : {A : Type 0} → (A → Bool) → ℕ → List A → Found
-firstFrom p k [] = Nothing
-firstFrom p k (x ∷ xs) = cond (p x) (At k) (firstFrom p (suc k) xs)
+unfoldable pub first_from : {A : Type 0} → (A → Bool) → ℕ → List A → Found
+first_from p k [] = Nothing
+first_from p k (x ∷ xs) = cond (p x) (At k) (first_from p (suc k) xs)
 
 -- the slot of the component with this id, among the first `count`
 unfoldable pub find : (id count : ℕ) → List Component → Found
-find id count components = firstFrom (λ c. eqb id c.fixed.id) 0 (take count components)
+find id count components = first_from (λ c. eqb id c.fixed.id) 0 (take count components)
 
 -- the component in a slot
-abbrev pub componentAt : List Component → ℕ → Component
-componentAt components k = get_or components k blankComponent
+abbrev pub component_at : List Component → ℕ → Component
+component_at components k = get_or components k blank_component

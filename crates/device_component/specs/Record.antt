@@ -25,9 +25,9 @@ pub record FitsComponent (c : Component) : Type 0 where
   pub staged : FitsStaged c.staged
 
 -- pending: a staged version is there
-abbrev pub isPending : Staged → Bool
-isPending Nothing = false
-isPending (Pending v) = true
+abbrev pub is_pending : Staged → Bool
+is_pending Nothing = false
+is_pending (Pending v) = true
 
 -- effective version: staged if pending, else running
 abbrev pub effective : Version → Staged → Version
@@ -39,12 +39,12 @@ abbrev pub listed : Listed → Component
 listed l = record { fixed = l.fixed; running = l.running; staged = Nothing }
 
 -- pending with this version
-abbrev pub withStaged : Component → Version → Component
-withStaged c v = record { fixed = c.fixed; running = c.running; staged = Pending v }
+abbrev pub with_staged : Component → Version → Component
+with_staged c v = record { fixed = c.fixed; running = c.running; staged = Pending v }
 
 -- after a reset: the effective version runs, nothing is staged
-abbrev pub afterReset : Component → Component
-afterReset c = record { fixed = c.fixed; running = effective c.running c.staged; staged = Nothing }
+abbrev pub after_reset : Component → Component
+after_reset c = record { fixed = c.fixed; running = effective c.running c.staged; staged = Nothing }
 
 -- a component by its numbers, with nothing staged: with this floor, and with none, which is floor 0
 abbrev pub floored : (floor id running base len : ℕ) → Component
@@ -58,5 +58,5 @@ abbrev pub plain : (id running base len : ℕ) → Component
 plain id running base len = floored 0 id running base len
 
 -- stands where the list has no component; no answer depends on it
-abbrev pub blankComponent : Component
-blankComponent = plain 0 0 0 0
+abbrev pub blank_component : Component
+blank_component = plain 0 0 0 0

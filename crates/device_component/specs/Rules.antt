@@ -1,8 +1,8 @@
 -- The rules over a list of components, each as a test that the code computes: D1's, those of S3 to S5, and that of `find`.
 use Rattle.std.specs.Prelude.{ℕ, Bool, not, ◌||◌, List, eqb}
 use Rattle.wire.specs.Checks.{any, pairs}
-use Rattle.device_component.specs.Setup.{badId, badRegion, overlap, badFloor}
-use Rattle.device_component.specs.Versions.{keepsStaged}
+use Rattle.device_component.specs.Setup.{bad_id, bad_region, overlap, bad_floor}
+use Rattle.device_component.specs.Versions.{keeps_staged}
 use Rattle.device_component.specs.declared.record.Component.{Component}
 use Rattle.device_component.specs.declared.rule.Rule.{Rule}
 use Rattle.device_component.specs.declared.rule.Rule.TheVariants.{BadId, SameId, BadRegion, Overlaps, BadFloor}
@@ -11,7 +11,7 @@ use Rattle.device_component.specs.declared.rule.Pair.TheVariants as pair
 
 -- D1, of one component and a staging buffer of n bytes: S3, S4, S5, or a staged version that does not fit the running one and the floor
 abbrev pub flawed : (n : ℕ) → Component → Bool
-flawed n c = badId c.fixed.id || (badRegion n c.fixed.region || (badFloor c.fixed.floor || not (keepsStaged c c.staged)))
+flawed n c = bad_id c.fixed.id || (bad_region n c.fixed.region || (bad_floor c.fixed.floor || not (keeps_staged c c.staged)))
 
 -- D1, of two: the same id, or regions that overlap
 abbrev pub clash : Component → Component → Bool
@@ -22,18 +22,18 @@ unfoldable pub unsound : (n : ℕ) → List Component → Bool
 unsound n cs = any (flawed n) cs || pairs clash cs
 
 -- a rule holds of a component
-abbrev pub ruleHolds : Rule → Component → Bool
-ruleHolds BadId c = badId c.fixed.id
-ruleHolds (SameId id) c = eqb id c.fixed.id
-ruleHolds (BadRegion n) c = badRegion n c.fixed.region
-ruleHolds (Overlaps r) c = overlap r c.fixed.region
-ruleHolds BadFloor c = badFloor c.fixed.floor
+abbrev pub rule_holds : Rule → Component → Bool
+rule_holds BadId c = bad_id c.fixed.id
+rule_holds (SameId id) c = eqb id c.fixed.id
+rule_holds (BadRegion n) c = bad_region n c.fixed.region
+rule_holds (Overlaps r) c = overlap r c.fixed.region
+rule_holds BadFloor c = bad_floor c.fixed.floor
 
 -- the test of the second of two components, where this is the first
-abbrev pub ruleOf : Pair → Component → Rule
-ruleOf pair.SameId c = SameId c.fixed.id
-ruleOf pair.Overlap c = Overlaps c.fixed.region
+abbrev pub rule_of : Pair → Component → Rule
+rule_of pair.SameId c = SameId c.fixed.id
+rule_of pair.Overlap c = Overlaps c.fixed.region
 
 -- a test of two components holds of them
-abbrev pub pairHolds : Pair → Component → Component → Bool
-pairHolds q c c' = ruleHolds (ruleOf q c) c'
+abbrev pub pair_holds : Pair → Component → Component → Bool
+pair_holds q c c' = rule_holds (rule_of q c) c'

@@ -1,9 +1,9 @@
 // The loops over the first `count` components, and a place in the list.
 ghost use Rattle.std.specs.Prelude.{◌≡◌, min, take, drop};
-ghost use Rattle.wire.specs.Codes.{COMPONENT-LIMIT};
+ghost use Rattle.wire.specs.Codes.{component_limit};
 ghost use Rattle.wire.specs.Checks.{any, pairs};
-ghost use Rattle.device_component.specs.Lists.{firstFrom, find as findIn};
-ghost use Rattle.device_component.specs.Rules.{unsound, ruleHolds, pairHolds};
+ghost use Rattle.device_component.specs.Lists.{first_from, find as find_in};
+ghost use Rattle.device_component.specs.Rules.{unsound, rule_holds, pair_holds};
 
 use crate::record::Component;
 use crate::rule::{Pair, Rule, applies, clash, flawed, rule_of};
@@ -11,7 +11,7 @@ use wire::codes::COMPONENT_LIMIT;
 use wire::words::least;
 
 // A place in the list of components, or none.
-#[derive(Drop)]
+#[derive(Clone, Copy)]
 pub enum Found {
     Nothing,
     At(u8),
@@ -19,14 +19,14 @@ pub enum Found {
 
 // A count as far as there are slots.
 pub fn within_slots(count: u8) -> u8
-    ensures { result ≡ min count COMPONENT-LIMIT }
+    ensures { result ≡ min count component_limit }
 {
     least(count as usize, COMPONENT_LIMIT) as u8
 }
 
 // The first place from `from` on to which the rule applies.
 fn first(rule: Rule, components: [Component; COMPONENT_LIMIT], from: u8, count: u8) -> Found
-    ensures { result ≡ firstFrom (ruleHolds rule) from (drop from (take count components)) }
+    ensures { result ≡ first_from (rule_holds rule) from (drop from (take count components)) }
 {
     let end = within_slots(count);
     let mut i = from;
@@ -42,7 +42,7 @@ fn first(rule: Rule, components: [Component; COMPONENT_LIMIT], from: u8, count: 
 
 // Does the rule apply to some component from `from` on?
 pub fn some(rule: Rule, components: [Component; COMPONENT_LIMIT], from: u8, count: u8) -> bool
-    ensures { result ≡ any (ruleHolds rule) (drop from (take count components)) }
+    ensures { result ≡ any (rule_holds rule) (drop from (take count components)) }
 {
     let f = first(rule, components, from, count);
     match f {
@@ -53,7 +53,7 @@ pub fn some(rule: Rule, components: [Component; COMPONENT_LIMIT], from: u8, coun
 
 // Does the pair's rule apply to some component and a later one?
 pub fn some_two(pair: Pair, components: [Component; COMPONENT_LIMIT], count: u8) -> bool
-    ensures { result ≡ pairs (pairHolds pair) (take count components) }
+    ensures { result ≡ pairs (pair_holds pair) (take count components) }
 {
     let end = within_slots(count);
     let mut i: u8 = 0;
@@ -70,7 +70,7 @@ pub fn some_two(pair: Pair, components: [Component; COMPONENT_LIMIT], count: u8)
 
 // The slot of the component with this id.
 pub fn find(components: [Component; COMPONENT_LIMIT], count: u8, id: u8) -> Found
-    ensures { result ≡ findIn id count components }
+    ensures { result ≡ find_in id count components }
 {
     first(Rule::SameId(id), components, 0, count)
 }

@@ -1,11 +1,11 @@
 // The record of a component (document 01, "The device"; document 02, A5: its floor).
 ghost use Rattle.std.specs.Prelude.{◌≡◌};
-ghost use Rattle.device_component.specs.Record.{blankComponent, isPending, effective as effectiveOf, listed as listedAs, withStaged, afterReset};
+ghost use Rattle.device_component.specs.Record.{blank_component, is_pending, effective as effective_of, listed as listed_as, with_staged, after_reset};
 
 use image::region::{Region, StagingOffset};
 use wire::version::Version;
 
-#[derive(Drop)]
+#[derive(Clone, Copy)]
 pub enum Staged {
     Nothing,
     // A staged version makes the component pending.
@@ -13,7 +13,7 @@ pub enum Staged {
 }
 
 // What set-up fixes of a component; nothing changes it later.
-#[derive(Drop)]
+#[derive(Clone, Copy)]
 pub struct Fixed {
     pub id: u8,
     pub region: Region,
@@ -21,7 +21,7 @@ pub struct Fixed {
     pub floor: Version,
 }
 
-#[derive(Drop)]
+#[derive(Clone, Copy)]
 pub struct Component {
     pub fixed: Fixed,
     pub running: Version,
@@ -29,7 +29,7 @@ pub struct Component {
 }
 
 // A component as it is given to set-up.
-#[derive(Drop)]
+#[derive(Clone, Copy)]
 pub struct Listed {
     pub fixed: Fixed,
     pub running: Version,
@@ -38,7 +38,7 @@ pub struct Listed {
 impl Component {
     // As set-up makes it: nothing is staged.
     pub fn listed(l: Listed) -> Self
-        ensures { result ≡ listedAs l }
+        ensures { result ≡ listed_as l }
     {
         let fixed = l.fixed;
         let running = l.running;
@@ -51,7 +51,7 @@ impl Component {
 
     // Pending with this version.
     pub fn with_staged(self, v: Version) -> Self
-        ensures { result ≡ withStaged self v }
+        ensures { result ≡ with_staged self v }
     {
         let fixed = self.fixed;
         let running = self.running;
@@ -64,7 +64,7 @@ impl Component {
 
     // The effective version runs, and nothing is staged.
     pub fn after_reset(self) -> Self
-        ensures { result ≡ afterReset self }
+        ensures { result ≡ after_reset self }
     {
         let fixed = self.fixed;
         let running = self.effective();
@@ -76,7 +76,7 @@ impl Component {
     }
 
     pub fn is_pending(self) -> bool
-        ensures { result ≡ isPending self.staged }
+        ensures { result ≡ is_pending self.staged }
     {
         let staged = self.staged;
         match staged {
@@ -87,7 +87,7 @@ impl Component {
 
     // Staged if pending, else running.
     pub fn effective(self) -> Version
-        ensures { result ≡ effectiveOf self.running self.staged }
+        ensures { result ≡ effective_of self.running self.staged }
     {
         let staged = self.staged;
         match staged {
@@ -99,7 +99,7 @@ impl Component {
 
 // Stands where there is no component.
 pub fn blank_component() -> Component
-    ensures { result ≡ blankComponent }
+    ensures { result ≡ blank_component }
 {
     let running = Version::new(0, 0, 0);
     Component {

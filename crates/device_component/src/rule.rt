@@ -2,9 +2,9 @@
 // loops of its own.
 ghost use Rattle.std.specs.Prelude.{◌≡◌, not, eqb};
 ghost use Rattle.wire.specs.Version.{variant_of};
-ghost use Rattle.device_component.specs.Versions.{wrongVariant, isOld, belowFloor, tooLow, mayFollow, imageVersionFits, stagedVersionFits, keepsStaged};
-ghost use Rattle.device_component.specs.Rules.{flawed as isFlawed, clash as clashes, ruleHolds, ruleOf};
-ghost use Rattle.device_component.specs.Setup.{badId, badRegion, overlap, badFloor};
+ghost use Rattle.device_component.specs.Versions.{wrong_variant, is_old, below_floor, too_low, may_follow, image_version_fits, staged_version_fits, keeps_staged};
+ghost use Rattle.device_component.specs.Rules.{flawed as is_flawed, clash as clashes, rule_holds, rule_of};
+ghost use Rattle.device_component.specs.Setup.{bad_id, bad_region, overlap, bad_floor};
 
 use crate::record::{Component, Staged};
 use crate::setup::REGION_LEAST;
@@ -22,14 +22,14 @@ fn differ_in_variant(v: Version, w: Version) -> bool
 impl Component {
     // The check of an offer between 6 and 7 (document 02, A1): another variant than the running one.
     pub fn is_wrong_variant(self, v: Version) -> bool
-        ensures { result ≡ wrongVariant self v }
+        ensures { result ≡ wrong_variant self v }
     {
         differ_in_variant(v, self.running)
     }
 
     // A release that is not greater than the running one.
     fn is_old(self, v: Version) -> bool
-        ensures { result ≡ isOld self v }
+        ensures { result ≡ is_old self v }
     {
         let running = self.running;
         v.release() <= running.release()
@@ -37,7 +37,7 @@ impl Component {
 
     // A release below the floor's (document 02, A5).
     fn is_below_floor(self, v: Version) -> bool
-        ensures { result ≡ belowFloor self v }
+        ensures { result ≡ below_floor self v }
     {
         let floor = self.fixed.floor;
         v.release() < floor.release()
@@ -45,14 +45,14 @@ impl Component {
 
     // Offer check 7: either of the two.
     pub fn is_too_low(self, v: Version) -> bool
-        ensures { result ≡ tooLow self v }
+        ensures { result ≡ too_low self v }
     {
         self.is_old(v) | self.is_below_floor(v)
     }
 
     // Of the running variant, and of a release that is neither lower nor below the floor's.
     fn may_follow(self, v: Version) -> bool
-        ensures { result ≡ mayFollow self v }
+        ensures { result ≡ may_follow self v }
     {
         let running = self.running;
         (!self.is_wrong_variant(v) & (running.release() <= v.release())) & !self.is_below_floor(v)
@@ -60,21 +60,21 @@ impl Component {
 
     // Image judgement.
     pub fn image_version_fits(self, v: Version) -> bool
-        ensures { result ≡ imageVersionFits self v }
+        ensures { result ≡ image_version_fits self v }
     {
         self.may_follow(v)
     }
 
     // D1.
     fn staged_version_fits(self, staged: Version) -> bool
-        ensures { result ≡ stagedVersionFits self staged }
+        ensures { result ≡ staged_version_fits self staged }
     {
         self.may_follow(staged)
     }
 
     // What is staged keeps that rule.
     pub fn keeps_staged(self) -> bool
-        ensures { result ≡ keepsStaged self self.staged }
+        ensures { result ≡ keeps_staged self self.staged }
     {
         let staged = self.staged;
         match staged {
@@ -85,7 +85,7 @@ impl Component {
 }
 
 // A test of a component.
-#[derive(Drop)]
+#[derive(Clone, Copy)]
 pub enum Rule {
     // S3: its id lies outside 1-0xDF.
     BadId,
@@ -100,20 +100,20 @@ pub enum Rule {
 }
 
 // A test of two components.
-#[derive(Drop)]
+#[derive(Clone, Copy)]
 pub enum Pair {
     SameId,
     Overlap,
 }
 
 fn bad_id(id: u8) -> bool
-    ensures { result ≡ badId id }
+    ensures { result ≡ bad_id id }
 {
     (id < 1) | (ID_LIMIT < id)
 }
 
 fn bad_region(n: usize, r: Region) -> bool
-    ensures { result ≡ badRegion n r }
+    ensures { result ≡ bad_region n r }
 {
     (r.len < REGION_LEAST) | ((n as u64) < (r.base.number() as u64) + (r.len as u64))
 }
@@ -127,14 +127,14 @@ fn overlaps(r: Region, other: Region) -> bool
 }
 
 fn bad_floor(floor: Version) -> bool
-    ensures { result ≡ badFloor floor }
+    ensures { result ≡ bad_floor floor }
 {
     floor.variant() != 0
 }
 
 // D1, of one component: S3, S4 for a buffer of so many bytes, S5, or its staged version does not fit the running one and the floor.
 pub fn flawed(n: usize, c: Component) -> bool
-    ensures { result ≡ isFlawed n c }
+    ensures { result ≡ is_flawed n c }
 {
     let region = c.fixed.region;
     let floor = c.fixed.floor;
@@ -151,7 +151,7 @@ pub fn clash(c: Component, other: Component) -> bool
 }
 
 pub fn applies(rule: Rule, c: Component) -> bool
-    ensures { result ≡ ruleHolds rule c }
+    ensures { result ≡ rule_holds rule c }
 {
     let region = c.fixed.region;
     let floor = c.fixed.floor;
@@ -166,7 +166,7 @@ pub fn applies(rule: Rule, c: Component) -> bool
 
 // The test of the second of two components, where this is the first.
 pub fn rule_of(pair: Pair, c: Component) -> Rule
-    ensures { result ≡ ruleOf pair c }
+    ensures { result ≡ rule_of pair c }
 {
     let region = c.fixed.region;
     match pair {

@@ -1,6 +1,6 @@
 // The verdict of set-up on a list of components and a staging length (document 01, "Numbered refusals"; S5: document 02, A5).
 ghost use Rattle.std.specs.Prelude.{◌≡◌, take};
-ghost use Rattle.device_component.specs.Setup.{number_of, is_refused, stagingTooLong, badCount, badIds, badRegions, badFloors, setupVerdict};
+ghost use Rattle.device_component.specs.Setup.{number_of, is_refused, staging_too_long, bad_count, bad_ids, bad_regions, bad_floors, setup_verdict};
 
 use crate::list::{some, some_two};
 use crate::record::Component;
@@ -13,7 +13,7 @@ pub const STAGING_LIMIT: u32 = 65536;
 // The shortest region.
 pub const REGION_LEAST: u32 = 8;
 
-#[derive(Drop)]
+#[derive(Clone, Copy)]
 pub enum SetupVerdict {
     Fine,
     S1,
@@ -47,38 +47,38 @@ impl SetupVerdict {
 }
 
 pub fn staging_too_long(n: usize) -> bool
-    ensures { result ≡ stagingTooLong n }
+    ensures { result ≡ staging_too_long n }
 {
     (STAGING_LIMIT as usize) < n
 }
 
 pub fn bad_count(count: u8) -> bool
-    ensures { result ≡ badCount count }
+    ensures { result ≡ bad_count count }
 {
     (count < 1) | ((COMPONENT_LIMIT as u8) < count)
 }
 
 fn bad_ids(components: [Component; COMPONENT_LIMIT], count: u8) -> bool
-    ensures { result ≡ badIds (take count components) }
+    ensures { result ≡ bad_ids (take count components) }
 {
     some(Rule::BadId, components, 0, count) | some_two(Pair::SameId, components, count)
 }
 
 fn bad_regions(n: usize, components: [Component; COMPONENT_LIMIT], count: u8) -> bool
-    ensures { result ≡ badRegions n (take count components) }
+    ensures { result ≡ bad_regions n (take count components) }
 {
     some(Rule::BadRegion(n), components, 0, count) | some_two(Pair::Overlap, components, count)
 }
 
 fn bad_floors(components: [Component; COMPONENT_LIMIT], count: u8) -> bool
-    ensures { result ≡ badFloors (take count components) }
+    ensures { result ≡ bad_floors (take count components) }
 {
     some(Rule::BadFloor, components, 0, count)
 }
 
 // S1 to S5, row after row, each over the whole list.
 pub fn setup_verdict(n: usize, count: u8, components: [Component; COMPONENT_LIMIT]) -> SetupVerdict
-    ensures { result ≡ setupVerdict n count components }
+    ensures { result ≡ setup_verdict n count components }
 {
     if staging_too_long(n) {
         return SetupVerdict::S1;

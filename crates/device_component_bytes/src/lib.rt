@@ -1,8 +1,10 @@
 // A component of the device as bytes: one of the list that set-up takes, which is id, running version, region and floor, and behind it what is staged. What is
 // read stands in bytes that start at the component; past their end a byte is 0.
+#![tactic(auto)]
+
 ghost use Rattle.std.specs.Prelude.{◌≡◌, cond, eqb};
 ghost use Rattle.device_component.specs.declared.record.Staged.TheVariants.{Nothing, Pending};
-ghost use Rattle.device_component_bytes.specs.Layout.{stagedBytes, componentBytes, listedBytes, fixedIn, componentIn, listedIn, stagedFlagFits};
+ghost use Rattle.device_component_bytes.specs.Layout.{staged_bytes, component_bytes, listed_bytes, fixed_in, component_in, listed_in, staged_flag_fits};
 
 use device_component::record::{Component, Fixed, Listed, Staged};
 use image::region::{Region, StagingOffset};
@@ -38,7 +40,7 @@ pub const STAGED_VERSION_AT: usize = STAGED_AT + 1;
 pub const COMPONENT_SIZE: usize = STAGED_AT + STAGED_SIZE;
 
 fn staged_bytes(s: Staged) -> [u8; STAGED_SIZE]
-    ensures { result ≡ stagedBytes s }
+    ensures { result ≡ staged_bytes s }
 {
     match s {
         Staged::Nothing => [0u8; STAGED_SIZE],
@@ -51,7 +53,7 @@ fn staged_bytes(s: Staged) -> [u8; STAGED_SIZE]
 
 // A component of the list that set-up takes.
 pub fn listed_bytes(l: Listed) -> [u8; LISTED_SIZE]
-    ensures { result ≡ listedBytes l }
+    ensures { result ≡ listed_bytes l }
 {
     let running = l.running;
     let v = running.bytes();
@@ -67,7 +69,7 @@ pub fn listed_bytes(l: Listed) -> [u8; LISTED_SIZE]
 
 // A component: what the list has of it, and what is staged.
 pub fn component_bytes(c: Component) -> [u8; COMPONENT_SIZE]
-    ensures { result ≡ componentBytes c }
+    ensures { result ≡ component_bytes c }
 {
     let fixed = c.fixed;
     let running = c.running;
@@ -82,7 +84,7 @@ pub fn component_bytes(c: Component) -> [u8; COMPONENT_SIZE]
 
 // What is fixed of a component.
 fn fixed_in(q: &[u8]) -> Fixed
-    ensures { result ≡ fixedIn q.now }
+    ensures { result ≡ fixed_in q.now }
 {
     let region = Region {
         base: StagingOffset::new(words::word32_at(q, REGION_AT as u16)),
@@ -107,7 +109,7 @@ fn staged_in(staged: u8, v: Version) -> Staged
 
 // A component of the list that set-up takes.
 pub fn listed_in(q: &[u8]) -> Listed
-    ensures { result ≡ listedIn q.now }
+    ensures { result ≡ listed_in q.now }
 {
     Listed {
         fixed: fixed_in(q),
@@ -117,7 +119,7 @@ pub fn listed_in(q: &[u8]) -> Listed
 
 // The component, unjudged.
 pub fn component_in(q: &[u8]) -> Component
-    ensures { result ≡ componentIn q.now }
+    ensures { result ≡ component_in q.now }
 {
     let l = listed_in(q);
     let fixed = l.fixed;
@@ -133,7 +135,7 @@ pub fn component_in(q: &[u8]) -> Component
 
 // The flag of what is staged is one that a component has.
 pub fn staged_flag_fits(q: &[u8]) -> bool
-    ensures { result ≡ stagedFlagFits q.now }
+    ensures { result ≡ staged_flag_fits q.now }
 {
     words::byte_at(q, STAGED_AT) <= 1
 }

@@ -1,10 +1,10 @@
 // The content entry in place (document 01, "The device").
 ghost use Rattle.std.specs.Prelude.{◌≡◌, length};
-ghost use Rattle.device_receiving.specs.Receive.{stagingAfter};
-ghost use Rattle.device.specs.Content.{sessionComponent, contentEntry, contentStaging};
-ghost use Rattle.device_bytes.specs.Layout.{DEVICE-SIZE, deviceIn, readDevice};
-ghost use Rattle.device_in_place.specs.InPlace.{outcomeOf, contentLeaves};
-ghost use Rattle.device_in_place.specs.Inside.{contentBy, contentStored};
+ghost use Rattle.device_receiving.specs.Receive.{staging_after};
+ghost use Rattle.device.specs.Content.{session_component, content_entry, content_staging};
+ghost use Rattle.device_bytes.specs.Layout.{device_size, device_in, read_device};
+ghost use Rattle.device_in_place.specs.InPlace.{outcome_of, content_leaves};
+ghost use Rattle.device_in_place.specs.Inside.{content_by, content_stored};
 
 use crate::fields::component_at;
 use crate::sound::refusal_in;
@@ -16,10 +16,10 @@ use wire::codes::LONG_SIZE;
 
 // A packet that no row refuses.
 fn on_content(bytes: &mut [u8], staging: &mut [u8], report: &[u8]) -> Reply
-    requires { length bytes.old ≡ DEVICE-SIZE }
-    ensures { (outcomeOf result (contentBy bytes.old staging.old report.now).device ≡ contentBy bytes.old staging.old report.now)
-        × (bytes.new ≡ contentStored bytes.old staging.old report.now)
-        × (staging.new ≡ stagingAfter (sessionComponent (deviceIn bytes.old)).fixed.region (deviceIn bytes.old).session report.now staging.old) }
+    requires { length bytes.old ≡ device_size }
+    ensures { (outcome_of result (content_by bytes.old staging.old report.now).device ≡ content_by bytes.old staging.old report.now)
+        × (bytes.new ≡ content_stored bytes.old staging.old report.now)
+        × (staging.new ≡ staging_after (session_component (device_in bytes.old)).fixed.region (device_in bytes.old).session report.now staging.old) }
 {
     let session = session_in(bytes);
     let stage = session.stage;
@@ -37,9 +37,9 @@ fn on_content(bytes: &mut [u8], staging: &mut [u8], report: &[u8]) -> Reply
 // What the by-value entry answers, with its session and its component left in the record, and the staging buffer as it leaves it; where a row refuses, the
 // record's bytes stay.
 pub fn content_in_place(bytes: &mut [u8], staging: &mut [u8], report: &[u8]) -> Reply
-    ensures { (outcomeOf result (contentEntry (readDevice bytes.old) staging.old report.now).device ≡ contentEntry (readDevice bytes.old) staging.old report.now)
-        × (bytes.new ≡ contentLeaves bytes.old (contentEntry (readDevice bytes.old) staging.old report.now))
-        × (staging.new ≡ contentStaging (readDevice bytes.old) staging.old report.now) }
+    ensures { (outcome_of result (content_entry (read_device bytes.old) staging.old report.now).device ≡ content_entry (read_device bytes.old) staging.old report.now)
+        × (bytes.new ≡ content_leaves bytes.old (content_entry (read_device bytes.old) staging.old report.now))
+        × (staging.new ≡ content_staging (read_device bytes.old) staging.old report.now) }
 {
     let refusal = refusal_in(bytes, LONG_SIZE, staging.len(), report.len());
     if refusal.is_refused() {

@@ -1,8 +1,8 @@
 // The components of a record's bytes, by slot and by id.
 ghost use Rattle.std.specs.Prelude.{◌≡◌, length};
-ghost use Rattle.device_component.specs.Lists.{componentAt, find};
-ghost use Rattle.device_slots.specs.Standing.{standingOf};
-ghost use Rattle.device_bytes.specs.Layout.{DEVICE-SIZE, deviceIn};
+ghost use Rattle.device_component.specs.Lists.{component_at, find};
+ghost use Rattle.device_slots.specs.Standing.{standing_of};
+ghost use Rattle.device_bytes.specs.Layout.{device_size, device_in};
 
 use device_bytes::component::component_of;
 use device_bytes::count_in;
@@ -13,16 +13,16 @@ use device_slots::standing::Standing;
 
 // The component in a slot; past the last slot there is none.
 pub(crate) fn component_at(b: &[u8], slot: u8) -> Component
-    requires { length b.now ≡ DEVICE-SIZE }
-    ensures { result ≡ componentAt (deviceIn b.now).components slot }
+    requires { length b.now ≡ device_size }
+    ensures { result ≡ component_at (device_in b.now).components slot }
 {
     component_of(b, slot)
 }
 
 // The slot of the component with this id.
 fn find_in(b: &[u8], count: u8, id: u8) -> Found
-    requires { length b.now ≡ DEVICE-SIZE }
-    ensures { result ≡ find id count (deviceIn b.now).components }
+    requires { length b.now ≡ device_size }
+    ensures { result ≡ find id count (device_in b.now).components }
 {
     let end = within_slots(count);
     let mut i: u8 = 0;
@@ -38,8 +38,8 @@ fn find_in(b: &[u8], count: u8, id: u8) -> Found
 
 // A component by its id.
 pub(crate) fn standing_in(b: &[u8], id: u8) -> Standing
-    requires { length b.now ≡ DEVICE-SIZE }
-    ensures { result ≡ standingOf id (deviceIn b.now).count (deviceIn b.now).components }
+    requires { length b.now ≡ device_size }
+    ensures { result ≡ standing_of id (device_in b.now).count (device_in b.now).components }
 {
     let at = find_in(b, count_in(b), id);
     let component = component_at(b, slot_of(at));

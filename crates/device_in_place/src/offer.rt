@@ -1,9 +1,9 @@
 // The offer entry in place (document 01, "The device"): offers, information and extended packets.
 ghost use Rattle.std.specs.Prelude.{◌≡◌, length};
-ghost use Rattle.device.specs.Offer.{offerEntry};
-ghost use Rattle.device_bytes.specs.Layout.{DEVICE-SIZE, readDevice, withSessionBytes};
-ghost use Rattle.device_in_place.specs.InPlace.{outcomeOf, offerLeaves};
-ghost use Rattle.device_in_place.specs.Inside.{packetBy};
+ghost use Rattle.device.specs.Offer.{offer_entry};
+ghost use Rattle.device_bytes.specs.Layout.{device_size, read_device, with_session_bytes};
+ghost use Rattle.device_in_place.specs.InPlace.{outcome_of, offer_leaves};
+ghost use Rattle.device_in_place.specs.Inside.{packet_by};
 
 use crate::fields::standing_in;
 use crate::sound::refusal_in;
@@ -16,9 +16,9 @@ use wire_offer::kind::{OfferPacket, read_offer_packet};
 
 // A packet that no row refuses; none changes a component.
 fn on_packet(bytes: &mut [u8], p: OfferPacket) -> Reply
-    requires { length bytes.old ≡ DEVICE-SIZE }
-    ensures { (outcomeOf result (packetBy bytes.old p).device ≡ packetBy bytes.old p)
-        × (bytes.new ≡ withSessionBytes (packetBy bytes.old p).device.session bytes.old) }
+    requires { length bytes.old ≡ device_size }
+    ensures { (outcome_of result (packet_by bytes.old p).device ≡ packet_by bytes.old p)
+        × (bytes.new ≡ with_session_bytes (packet_by bytes.old p).device.session bytes.old) }
 {
     let session = session_in(bytes);
     let target = standing_in(bytes, packet::id_of(p));
@@ -31,8 +31,8 @@ fn on_packet(bytes: &mut [u8], p: OfferPacket) -> Reply
 
 // What the by-value entry answers, with its session left in the record; where a row refuses, the record's bytes stay.
 pub fn offer_in_place(bytes: &mut [u8], staging: &[u8], report: &[u8]) -> Reply
-    ensures { (outcomeOf result (offerEntry (readDevice bytes.old) (length staging.now) report.now).device ≡ offerEntry (readDevice bytes.old) (length staging.now) report.now)
-        × (bytes.new ≡ offerLeaves bytes.old (offerEntry (readDevice bytes.old) (length staging.now) report.now)) }
+    ensures { (outcome_of result (offer_entry (read_device bytes.old) (length staging.now) report.now).device ≡ offer_entry (read_device bytes.old) (length staging.now) report.now)
+        × (bytes.new ≡ offer_leaves bytes.old (offer_entry (read_device bytes.old) (length staging.now) report.now)) }
 {
     let refusal = refusal_in(bytes, SHORT_SIZE, staging.len(), report.len());
     if refusal.is_refused() {

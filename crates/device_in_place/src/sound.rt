@@ -1,10 +1,10 @@
 // Rows D1 to D3 over the bytes of a record (document 01, "Numbered refusals"): what every entry judges first. Bytes that are no record are D1's too.
 ghost use Rattle.std.specs.Prelude.{◌≡◌, length, take, drop};
 ghost use Rattle.wire.specs.Checks.{any};
-ghost use Rattle.device_component.specs.Rules.{clash as clashOf, unsound};
-ghost use Rattle.device_session.specs.Sound.{breaksD1};
-ghost use Rattle.device.specs.Refusals.{row_of, refusalOf};
-ghost use Rattle.device_bytes.specs.Layout.{DEVICE-SIZE, countIn, sessionIn, deviceIn, readDevice};
+ghost use Rattle.device_component.specs.Rules.{clash as clash_of, unsound};
+ghost use Rattle.device_session.specs.Sound.{breaks_d1};
+ghost use Rattle.device.specs.Refusals.{row_of, refusal_of};
+ghost use Rattle.device_bytes.specs.Layout.{device_size, count_in, session_in, device_in, read_device};
 
 use crate::fields::component_at;
 use device::answer::Refusal;
@@ -19,8 +19,8 @@ use device_slots::slot::slot_of;
 
 // A later component clashes with this one.
 fn clashes(b: &[u8], c: Component, from: u8, count: u8) -> bool
-    requires { length b.now ≡ DEVICE-SIZE }
-    ensures { result ≡ any (clashOf c) (drop from (take count (deviceIn b.now).components)) }
+    requires { length b.now ≡ device_size }
+    ensures { result ≡ any (clash_of c) (drop from (take count (device_in b.now).components)) }
 {
     let end = within_slots(count);
     let mut i = from;
@@ -36,8 +36,8 @@ fn clashes(b: &[u8], c: Component, from: u8, count: u8) -> bool
 
 // Some component is flawed, or two clash.
 fn some_unsound(b: &[u8], n: usize, count: u8) -> bool
-    requires { length b.now ≡ DEVICE-SIZE }
-    ensures { result ≡ unsound n (take count (deviceIn b.now).components) }
+    requires { length b.now ≡ device_size }
+    ensures { result ≡ unsound n (take count (device_in b.now).components) }
 {
     let end = within_slots(count);
     let mut i: u8 = 0;
@@ -53,8 +53,8 @@ fn some_unsound(b: &[u8], n: usize, count: u8) -> bool
 
 // D1, for a record with a staging buffer of n bytes.
 fn breaks(b: &[u8], n: usize) -> bool
-    requires { length b.now ≡ DEVICE-SIZE }
-    ensures { result ≡ breaksD1 n (countIn b.now) (deviceIn b.now).components (sessionIn b.now) }
+    requires { length b.now ≡ device_size }
+    ensures { result ≡ breaks_d1 n (count_in b.now) (device_in b.now).components (session_in b.now) }
 {
     let count = count_in(b);
     let session = session_in(b);
@@ -70,7 +70,7 @@ fn breaks(b: &[u8], n: usize) -> bool
 
 // D1, D2 and D3, in this order, for a staging buffer of n bytes, a report of m bytes, and reports that are `size` bytes long.
 pub fn refusal_in(b: &[u8], size: usize, n: usize, m: usize) -> Refusal
-    ensures { row_of result ≡ refusalOf size (readDevice b.now) n m }
+    ensures { row_of result ≡ refusal_of size (read_device b.now) n m }
 {
     if !is_record(b) {
         return Refusal::D1;

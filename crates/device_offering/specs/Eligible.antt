@@ -1,17 +1,17 @@
 -- What an eligible offer is (document 01, "The device"; document 02, A1 and A5): what holds of an offer that none of checks 2 to 7 rejects, each fact under a name.
 use Rattle.std.specs.Prelude.{ℕ, ◌≡◌, ◌↔◌, true, false}
 use Rattle.wire.specs.Checks.{applies}
-use Rattle.wire.specs.Codes.{PROTOCOL}
+use Rattle.wire.specs.Codes.{protocol_number}
 use Rattle.wire_offer.specs.declared.offer.OfferFields.{OfferFields}
-use Rattle.device_component.specs.Versions.{offerVersionFits}
+use Rattle.device_component.specs.Versions.{offer_version_fits}
 use Rattle.device_component.specs.declared.record.Staged.TheVariants as staged
 use Rattle.device_component.specs.declared.list.Found.TheVariants.{At}
 use Rattle.device_slots.specs.declared.standing.Standing.{Standing}
-use Rattle.device_offering.specs.Offer.{rejectionsAt}
+use Rattle.device_offering.specs.Offer.{rejections_at}
 
 pub record Eligible (platform : ℕ) (target : Standing) (o : OfferFields) : Type 0 where
   -- check 2: its protocol is 2
-  pub protocol : o.protocol ≡ PROTOCOL
+  pub protocol : o.protocol ≡ protocol_number
   -- check 3: its component is on the device, in this slot
   pub slot : ℕ
   pub listed : target.at ≡ At slot
@@ -22,8 +22,8 @@ pub record Eligible (platform : ℕ) (target : Standing) (o : OfferFields) : Typ
   -- check 6: the component has nothing staged
   pub free : target.component.staged ≡ staged.Nothing
   -- the check between 6 and 7, and check 7: its variant is the running one, and its release is greater than the running one's and not below the floor's
-  pub version : offerVersionFits target.component o.version ≡ true
+  pub version : offer_version_fits target.component o.version ≡ true
 
 -- an offer is eligible exactly where none of checks 2 to 7 rejects it
 abbrev pub EligibleIs : Type 0
-EligibleIs = (platform : ℕ) (target : Standing) (o : OfferFields) → (applies (rejectionsAt platform target o) ≡ false) ↔ Eligible platform target o
+EligibleIs = (platform : ℕ) (target : Standing) (o : OfferFields) → (applies (rejections_at platform target o) ≡ false) ↔ Eligible platform target o

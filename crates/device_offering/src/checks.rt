@@ -2,7 +2,7 @@
 // needs.
 ghost use Rattle.std.specs.Prelude.{◌≡◌};
 ghost use Rattle.wire.specs.Checks.{first_of};
-ghost use Rattle.device_offering.specs.Offer.{rejectionsAt, needUnmetAt, verdictAt};
+ghost use Rattle.device_offering.specs.Offer.{rejections_at, need_unmet_at, verdict_at};
 
 use crate::verdict::OfferVerdict;
 use device_session::stage::Stage;
@@ -13,7 +13,7 @@ use wire_offer::offer::OfferFields;
 
 // Check 8: byte 8 is not 0, and that component is absent or its effective version is below.
 fn need_unmet(needed: Standing, o: OfferFields) -> bool
-    ensures { result ≡ needUnmetAt needed o }
+    ensures { result ≡ need_unmet_at needed o }
 {
     let f = needed.at;
     let component = needed.component;
@@ -28,7 +28,7 @@ fn unless_rejected(
     o: OfferFields,
     passed: OfferVerdict,
 ) -> OfferVerdict
-    ensures { result ≡ first_of (rejectionsAt platform target o) passed }
+    ensures { result ≡ first_of (rejections_at platform target o) passed }
 {
     let version = o.version;
     let f = target.at;
@@ -67,7 +67,7 @@ pub fn judge_offer(
     needed: Standing,
     o: OfferFields,
 ) -> OfferVerdict
-    ensures { result ≡ verdictAt platform stage target needed o }
+    ensures { result ≡ verdict_at platform stage target needed o }
 {
     let found = target.at;
     let nine = OfferVerdict::Accept(slot_of(found));

@@ -1,6 +1,6 @@
 // The answer to an offer (document 01, "The device"): the reply of its verdict, and the session afterwards.
 ghost use Rattle.std.specs.Prelude.{◌≡◌};
-ghost use Rattle.device_offering.specs.Offer.{afterOffer, onOfferAt};
+ghost use Rattle.device_offering.specs.Offer.{after_offer, on_offer_at};
 
 use crate::checks::judge_offer;
 use crate::verdict::OfferVerdict;
@@ -14,7 +14,7 @@ use wire_offer::reply::{OfferReply, build_offer_reply};
 
 // ACCEPT makes the session offered; any other verdict changes nothing.
 fn after_offer(session: Session, token: u8, verdict: OfferVerdict) -> Session
-    ensures { result ≡ afterOffer session token verdict }
+    ensures { result ≡ after_offer session token verdict }
 {
     match verdict {
         OfferVerdict::Busy => session,
@@ -34,7 +34,7 @@ pub fn on_offer(
     needed: Standing,
     o: OfferFields,
 ) -> Effect
-    ensures { result ≡ onOfferAt platform session target needed o }
+    ensures { result ≡ on_offer_at platform session target needed o }
 {
     let stage = session.stage;
     let verdict = judge_offer(platform, stage, target, needed, o);

@@ -1,6 +1,6 @@
 // The answer to a packet of the offer channel, by its kind (document 01, "Packets": byte 2 decides it).
 ghost use Rattle.std.specs.Prelude.{◌≡◌};
-ghost use Rattle.device_offering.specs.Packet.{id_of, need_of, onPacketAt};
+ghost use Rattle.device_offering.specs.Packet.{id_of, need_of, on_packet_at};
 
 use crate::offer::on_offer;
 use crate::signal::{on_extended, on_information};
@@ -40,7 +40,7 @@ pub fn on_packet(
     needed: Standing,
     p: OfferPacket,
 ) -> Effect
-    ensures { result ≡ onPacketAt platform session target needed p }
+    ensures { result ≡ on_packet_at platform session target needed p }
 {
     match p {
         OfferPacket::Refused => session.silent(),

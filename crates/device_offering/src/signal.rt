@@ -1,7 +1,7 @@
 // The answers to information and extended packets (document 01, "The device").
 ghost use Rattle.std.specs.Prelude.{◌≡◌};
-ghost use Rattle.device_session.specs.Stage.{isOpen};
-ghost use Rattle.device_offering.specs.Signal.{plainReply, onInformation, onNotify, onExtended};
+ghost use Rattle.device_session.specs.Stage.{is_open};
+ghost use Rattle.device_offering.specs.Signal.{plain_reply, on_information, on_notify, on_extended};
 
 use device_session::effect::{Effect, Session};
 use device_session::owed::Owed;
@@ -11,7 +11,7 @@ use wire_offer::signal::Signal;
 
 // One reply with this status, and no reason.
 fn plain_reply(session: Session, token: u8, status: u8) -> Effect
-    ensures { result ≡ plainReply token status session }
+    ensures { result ≡ plain_reply token status session }
 {
     let reply = build_offer_reply(OfferReply {
         token,
@@ -23,7 +23,7 @@ fn plain_reply(session: Session, token: u8, status: u8) -> Effect
 
 // Code 0 makes the session idle and drops an owed reply; codes 1 and 2 change nothing; others are unsupported.
 pub fn on_information(session: Session, s: Signal) -> Effect
-    ensures { result ≡ onInformation session s }
+    ensures { result ≡ on_information session s }
 {
     if s.code == codes::INFO_START_ENTIRE_TRANSACTION {
         let next = Session::idle();
@@ -37,7 +37,7 @@ pub fn on_information(session: Session, s: Signal) -> Effect
 
 // READY when idle; else it is owed, with no reply now; BUSY if one is owed already.
 fn on_notify(session: Session, token: u8) -> Effect
-    ensures { result ≡ onNotify session token (isOpen session.stage) session.owed }
+    ensures { result ≡ on_notify session token (is_open session.stage) session.owed }
 {
     let stage = session.stage;
     let owed = session.owed;
@@ -56,7 +56,7 @@ fn on_notify(session: Session, token: u8) -> Effect
 
 // Code 1 is notify on ready; others are unsupported.
 pub fn on_extended(session: Session, s: Signal) -> Effect
-    ensures { result ≡ onExtended session s }
+    ensures { result ≡ on_extended session s }
 {
     if s.code == codes::NOTIFY_ON_READY {
         on_notify(session, s.token)

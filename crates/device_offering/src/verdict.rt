@@ -1,11 +1,11 @@
 // The verdict of the checks of an offer (document 01, "The device"), and the status and reason of its reply.
 ghost use Rattle.std.specs.Prelude.{◌≡◌, cond};
-ghost use Rattle.device_offering.specs.Offer.{statusOf, reasonOf};
+ghost use Rattle.device_offering.specs.Offer.{status_of, reason_of};
 
 use wire::codes;
 
 // The first check that applies.
-#[derive(Drop)]
+#[derive(Clone, Copy)]
 pub enum OfferVerdict {
     Busy,
     // With its reason.
@@ -24,7 +24,7 @@ impl OfferVerdict {
     }
 
     pub fn status(self) -> u8
-        ensures { result ≡ statusOf self }
+        ensures { result ≡ status_of self }
     {
         match self {
             OfferVerdict::Busy => codes::OFFER_BUSY,
@@ -36,7 +36,7 @@ impl OfferVerdict {
 
     // Zero unless REJECT.
     pub fn reason(self) -> u8
-        ensures { result ≡ reasonOf self }
+        ensures { result ≡ reason_of self }
     {
         match self {
             OfferVerdict::Busy => 0,

@@ -1,7 +1,7 @@
 // The answer to a content packet (document 01, "The device"; document 02, A4): checks 1 to 6, and then the READY that was owed.
 ghost use Rattle.std.specs.Prelude.{◌≡◌};
-ghost use Rattle.wire_content.specs.Head.{headIn};
-ghost use Rattle.device_receiving.specs.Receive.{blockReply, packetHeld, goesOn, onBlock, written, onContent, stagingAfter};
+ghost use Rattle.wire_content.specs.Head.{head_in};
+ghost use Rattle.device_receiving.specs.Receive.{block_reply, packet_held, goes_on, on_block, written, on_content, staging_after};
 
 use crate::block::take_block;
 use crate::checks::{ContentVerdict, is_copy, is_last, judge_content};
@@ -17,7 +17,7 @@ use wire_content::head::{ContentHead, read_head};
 use wire_content::reply::{ContentReply, build_content_reply};
 
 // What a content packet does, and the session's component afterwards.
-#[derive(Drop)]
+#[derive(Clone, Copy)]
 pub struct Taken {
     pub effect: Effect,
     pub component: Component,
@@ -25,7 +25,7 @@ pub struct Taken {
 
 // The reply to a block, and then the READY that was owed.
 fn block_reply(session: Session, sequence: u16, status: u8, ready: Owed) -> Effect
-    ensures { result ≡ blockReply sequence status ready session }
+    ensures { result ≡ block_reply sequence status ready session }
 {
     let reply = build_content_reply(ContentReply { sequence, status });
     session.answered(reply, ready)
@@ -33,7 +33,7 @@ fn block_reply(session: Session, sequence: u16, status: u8, ready: Owed) -> Effe
 
 // The packet that the session holds after a block: its 60 bytes.
 fn packet_held(report: &[u8]) -> [u8; LONG_SIZE]
-    ensures { result ≡ packetHeld report.now }
+    ensures { result ≡ packet_held report.now }
 {
     let mut packet = [0u8; LONG_SIZE];
     words::copy(&mut packet, report);
@@ -42,8 +42,8 @@ fn packet_held(report: &[u8]) -> [u8; LONG_SIZE]
 
 // After a block that is not the last: receiving, one sequence on, and the packet is held.
 fn goes_on(session: Session, slot: u8, c: ContentHead, report: &[u8]) -> Session
-    requires { c ≡ headIn report.now }
-    ensures { result ≡ goesOn session slot report.now }
+    requires { c ≡ head_in report.now }
+    ensures { result ≡ goes_on session slot report.now }
 {
     let stage = session.stage;
     let token = stage.token();
@@ -61,8 +61,8 @@ fn on_block(
     report: &[u8],
     staging: &[u8],
 ) -> Taken
-    requires { c ≡ headIn report.now }
-    ensures { result ≡ onBlock component session slot report.now staging.now }
+    requires { c ≡ head_in report.now }
+    ensures { result ≡ on_block component session slot report.now staging.now }
 {
     if is_last(c) {
         let owed = session.owed;
@@ -83,7 +83,7 @@ fn on_block(
 
 // The data of a taken block stand behind its head.
 fn write_block(region: Region, c: ContentHead, report: &[u8], staging: &mut [u8])
-    requires { c ≡ headIn report.now }
+    requires { c ≡ head_in report.now }
     ensures { staging.new ≡ written region report.now staging.old }
 {
     let at = words::least(DATA_AT, report.len());
@@ -93,8 +93,8 @@ fn write_block(region: Region, c: ContentHead, report: &[u8], staging: &mut [u8]
 // A content packet as it came, for a device whose session is on this component: by the verdict; an answer of checks 1 to 5 changes nothing. The staging buffer
 // changes only where a block is taken.
 pub fn on_report(component: Component, session: Session, report: &[u8], staging: &mut [u8]) -> Taken
-    ensures { (result ≡ onContent component session report.now staging.old)
-        × (staging.new ≡ stagingAfter component.fixed.region session report.now staging.old) }
+    ensures { (result ≡ on_content component session report.now staging.old)
+        × (staging.new ≡ staging_after component.fixed.region session report.now staging.old) }
 {
     let c = read_head(report);
     let stage = session.stage;

@@ -1,13 +1,13 @@
 // The end of a last block (document 01, "The device"): image judgement, and the component afterwards.
 ghost use Rattle.std.specs.Prelude.{◌≡◌};
-ghost use Rattle.device_receiving.specs.Finish.{finish as finishOf};
+ghost use Rattle.device_receiving.specs.Finish.{finish as finish_of};
 
 use device_component::record::Component;
 use image::judge::Image;
 use wire::codes;
 
 // What a finished image comes to.
-#[derive(Drop)]
+#[derive(Clone, Copy)]
 pub struct Finished {
     pub status: u8,
     pub component: Component,
@@ -22,7 +22,7 @@ fn failed(component: Component, status: u8) -> Finished
 
 // The only place that judges and stages.
 pub(crate) fn finish(component: Component, staging: &[u8]) -> Finished
-    ensures { result ≡ finishOf component staging.now }
+    ensures { result ≡ finish_of component staging.now }
 {
     let region = component.fixed.region;
     let judged = region.image(staging, component.fixed.id);

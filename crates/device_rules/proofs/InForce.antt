@@ -6,11 +6,11 @@ use Prim.Native.Nat.{ℕ}
 use lib.Dec.{eqb}
 use lib.ListN.{length}
 use Rattle.wire.specs.Checks.{first_of}
-use Rattle.wire.specs.Codes.{SHORT-SIZE, LONG-SIZE}
-use Rattle.wire_offer.specs.Kind.{Kind, offer, information, extended, kindIn}
-use Rattle.wire_content.specs.Head.{headIn}
-use Rattle.image.specs.Judge.{imageIn}
-use Rattle.image.specs.Region.{regionBytes}
+use Rattle.wire.specs.Codes.{short_size, long_size}
+use Rattle.wire_offer.specs.Kind.{Kind, offer, information, extended, kind_in}
+use Rattle.wire_content.specs.Head.{head_in}
+use Rattle.image.specs.Judge.{image_in}
+use Rattle.image.specs.Region.{region_bytes}
 use Rattle.image.specs.declared.judge.Image.{Image}
 use Rattle.image.specs.declared.judge.Image.TheVariants.{Damaged, Foreign, Bears}
 use Rattle.device_component.specs.Versions as rule
@@ -20,7 +20,7 @@ use Rattle.device_component.specs.declared.record.Staged.TheVariants.{Nothing, P
 use Rattle.device_session.specs.Sound as sound
 use Rattle.device_session.specs.declared.effect.Session.{Session}
 use Rattle.device_offering.specs.Offer as offering
-use Rattle.device_receiving.specs.Content.{is_last, contentVerdict}
+use Rattle.device_receiving.specs.Content.{is_last, content_verdict}
 use Rattle.device_receiving.specs.Finish as finishing
 use Rattle.device_receiving.specs.Receive as receiving
 use Rattle.device_receiving.specs.declared.checks.ContentVerdict.{ContentVerdict}
@@ -29,73 +29,73 @@ use Rattle.device.specs.declared.record.Device.{Device}
 use Rattle.device.specs.declared.answer.Channel.TheVariants.{Offer, Content}
 use Rattle.device.specs.Record.{component}
 use Rattle.device.specs.Refusals as refusals
-use Rattle.device.specs.Refusals.{served, D}
+use Rattle.device.specs.Refusals.{served, row_d}
 use Rattle.device.specs.Offer as offers
 use Rattle.device.specs.Content as contents
-use Rattle.device.specs.Content.{sessionComponent}
-use Rattle.device.specs.Entries.{setUpOf, versionEntry, resetEntry, serveEntry, serveStaging}
+use Rattle.device.specs.Content.{session_component}
+use Rattle.device.specs.Entries.{set_up_of, version_entry, reset_entry, serve_entry, serve_staging}
 use Rattle.device.specs.Calls.{Call, packet, versions, reset, answer_of}
-use Rattle.device_rules.specs.Rules.{inForce}
-use Rattle.device_rules.specs.Entries.{keepsStagedBy, breaksD1By, refusalBy, onKindBy, judgeBy, onBlockBy, onContentVerdictBy, verdictOnBy, answerBy}
+use Rattle.device_rules.specs.Rules.{in_force}
+use Rattle.device_rules.specs.Entries.{keeps_staged_by, breaks_d1_by, refusal_by, on_kind_by, judge_by, on_block_by, on_content_verdict_by, verdict_on_by, answer_by}
 use Rattle.device_rules.specs.Promises.{RulesInForceAnswer}
 use Rattle.device_rules.proofs.Same.{any_same}
 
 -- each part is the entry's own
-staged-as : (c : Component) (s : Staged) → not (rule.keepsStaged c s) ≡ not (keepsStagedBy inForce c s)
-staged-as c Nothing = refl
-staged-as c (Pending v) = refl
+staged_as : (c : Component) (s : Staged) → not (rule.keeps_staged c s) ≡ not (keeps_staged_by in_force c s)
+staged_as c Nothing = refl
+staged_as c (Pending v) = refl
 
-pub d1-as : (d : Device) → refusals.breaksD1 d ≡ breaksD1By inForce d
-unfolding sound.breaksD1
-d1-as d =
-    rw (any_same (λ (c : Component). not (rule.keepsStaged c c.staged)) (λ (c : Component). not (keepsStagedBy inForce c c.staged)) d.count d.components
-    (λ k l. staged-as (component d k) (component d k).staged)) refl
+pub d1_as : (d : Device) → refusals.breaks_d1 d ≡ breaks_d1_by in_force d
+unfolding sound.breaks_d1
+d1_as d =
+    rw (any_same (λ (c : Component). not (rule.keeps_staged c c.staged)) (λ (c : Component). not (keeps_staged_by in_force c c.staged)) d.count d.components
+    (λ k l. staged_as (component d k) (component d k).staged)) refl
 
-pub refusal-as : (size : ℕ) (d : Device) (n m : ℕ) → refusals.refusalOf size d n m ≡ refusalBy inForce size d n m
-unfolding refusals.refusalOf
-refusal-as size d n m = ap (λ (b : Bool). first_of ((b, D 1) ∷ (not (eqb n d.staging_len), D 2) ∷ (not (eqb m size), D 3) ∷ []) served) (d1-as d)
+pub refusal_as : (size : ℕ) (d : Device) (n m : ℕ) → refusals.refusal_of size d n m ≡ refusal_by in_force size d n m
+unfolding refusals.refusal_of
+refusal_as size d n m = ap (λ (b : Bool). first_of ((b, row_d 1) ∷ (not (eqb n d.staging_len), row_d 2) ∷ (not (eqb m size), row_d 3) ∷ []) served) (d1_as d)
 
-kind-as : (d : Device) (x : Kind) → offers.onKind d x ≡ onKindBy inForce d x
-unfolding offering.onOffer offering.offerVerdict offering.needUnmet
-kind-as d (offer o) = refl
-kind-as d (information s) = refl
-kind-as d (extended s) = refl
+kind_as : (d : Device) (x : Kind) → offers.on_kind d x ≡ on_kind_by in_force d x
+unfolding offering.on_offer offering.offer_verdict offering.need_unmet
+kind_as d (offer o) = refl
+kind_as d (information s) = refl
+kind_as d (extended s) = refl
 
-judge-as : (c : Component) (m : Image) → finishing.judge c m ≡ judgeBy inForce c m
-judge-as c Damaged = refl
-judge-as c Foreign = refl
-judge-as c (Bears v) = refl
+judge_as : (c : Component) (m : Image) → finishing.judge c m ≡ judge_by in_force c m
+judge_as c Damaged = refl
+judge_as c Foreign = refl
+judge_as c (Bears v) = refl
 
-pub checks-as : (d : Device) (report : List ℕ) → contents.contentVerdict d report ≡ verdictOnBy inForce d report
-unfolding contentVerdict
-checks-as d report = refl
+pub checks_as : (d : Device) (report : List ℕ) → contents.content_verdict d report ≡ verdict_on_by in_force d report
+unfolding content_verdict
+checks_as d report = refl
 
 module _ (c : Component) (session : Session) (report : List ℕ) where
-  block-as : (slot : ℕ) (s : List ℕ) → receiving.onBlock c session slot report s ≡ onBlockBy inForce c session slot report s
-  unfolding receiving.onBlock finishing.finish
-  block-as slot s = go (is_last (headIn report)) refl
+  block_as : (slot : ℕ) (s : List ℕ) → receiving.on_block c session slot report s ≡ on_block_by in_force c session slot report s
+  unfolding receiving.on_block finishing.finish
+  block_as slot s = go (is_last (head_in report)) refl
     where
-      go : (b : Bool) → is_last (headIn report) ≡ b → receiving.onBlock c session slot report s ≡ onBlockBy inForce c session slot report s
-      go true l = rw l (rw (judge-as c (imageIn (regionBytes c.fixed.region s) c.fixed.id)) refl)
+      go : (b : Bool) → is_last (head_in report) ≡ b → receiving.on_block c session slot report s ≡ on_block_by in_force c session slot report s
+      go true l = rw l (rw (judge_as c (image_in (region_bytes c.fixed.region s) c.fixed.id)) refl)
       go false l = rw l refl
 
-  verdict-as : (s : List ℕ) (w : ContentVerdict) → receiving.onVerdict c session report s w ≡ onContentVerdictBy inForce c session report s w
-  verdict-as s (Answer status) = refl
-  verdict-as s (Take slot) = block-as slot (receiving.written c.fixed.region report s)
+  verdict_as : (s : List ℕ) (w : ContentVerdict) → receiving.on_verdict c session report s w ≡ on_content_verdict_by in_force c session report s w
+  verdict_as s (Answer status) = refl
+  verdict_as s (Take slot) = block_as slot (receiving.written c.fixed.region report s)
 
 -- so is each answer
-answers-as : (d : Device) (staging : List ℕ) (c : Call) → answer_of d staging c ≡ answerBy inForce d staging c
-unfolding serveEntry serveStaging versionEntry resetEntry offers.offerEntry contents.contentEntry contents.contentStaging
-answers-as d staging versions = rw (d1-as d) refl
-answers-as d staging reset = rw (d1-as d) refl
-answers-as d staging (packet Offer report) = rw (refusal-as SHORT-SIZE d (length staging) (length report), kind-as d (kindIn report)) refl
-answers-as d staging (packet Content report) =
+answers_as : (d : Device) (staging : List ℕ) (c : Call) → answer_of d staging c ≡ answer_by in_force d staging c
+unfolding serve_entry serve_staging version_entry reset_entry offers.offer_entry contents.content_entry contents.content_staging
+answers_as d staging versions = rw (d1_as d) refl
+answers_as d staging reset = rw (d1_as d) refl
+answers_as d staging (packet Offer report) = rw (refusal_as short_size d (length staging) (length report), kind_as d (kind_in report)) refl
+answers_as d staging (packet Content report) =
     rw (
-      refusal-as LONG-SIZE d (length staging) (length report),
-      checks-as d report,
-      verdict-as (sessionComponent d) d.session report staging (verdictOnBy inForce d report),
+      refusal_as long_size d (length staging) (length report),
+      checks_as d report,
+      verdict_as (session_component d) d.session report staging (verdict_on_by in_force d report),
     ) refl
 
-pub rules-in-force-answer : RulesInForceAnswer
-unfolding setUpOf
-rules-in-force-answer = record { calls = answers-as; setUp = λ platform list count n. refl }
+pub rules_in_force_answer : RulesInForceAnswer
+unfolding set_up_of
+rules_in_force_answer = record { calls = answers_as; set_up = λ platform list count n. refl }

@@ -5,10 +5,10 @@ use Prim.Native.Nat.{ℕ, ◌/◌, ◌%◌, ◌≤◌, ◌<◌}
 use native.Mathlib.Omega.{arith}
 use lib.Dec.{leb}
 use borrow.Author.Tests.{leb-true, leb-false, le-leb, lt-leb, eq-eqb, not-true, not-false}
-use Rattle.wire.specs.Version.{releaseOf}
+use Rattle.wire.specs.Version.{release_of}
 use Rattle.wire.specs.declared.version.Version.{Version}
 use Rattle.wire.proofs.Tests.{both, equal}
-use Rattle.device_component.specs.Setup.{setupVerdict}
+use Rattle.device_component.specs.Setup.{setup_verdict}
 use Rattle.device_component.specs.Versions as rule
 use Rattle.device_component.specs.declared.record.Component.{Component}
 use Rattle.device_component.specs.declared.record.Staged.{Staged}
@@ -18,10 +18,10 @@ use Rattle.device.specs.Record.{component}
 use Rattle.device.proofs.Lists.{none_below}
 use Rattle.device.specs.Calls.{versions}
 use Rattle.device_rules.specs.Rules as rules
-use Rattle.device_rules.specs.Rules.{versions01, versionsA1, withFloor}
+use Rattle.device_rules.specs.Rules.{versions01, versions_a1, with_floor}
 use Rattle.device_rules.specs.Promises.{OneVariant, OneVariantAsBefore, SoundStagedOne}
 use Rattle.device_rules.proofs.Alike.{Agree, alike}
-use Rattle.device_rules.proofs.InForce.{d1-as, rules-in-force-answer}
+use Rattle.device_rules.proofs.InForce.{d1_as, rules_in_force_answer}
 
 -- numbers of one variant stand in the order of their releases
 order : (m n : ℕ) → m % 256 ≡ n % 256 → leb (m / 256) (n / 256) ≡ leb m n
@@ -32,29 +32,29 @@ order m n e = go (leb m n) refl
     go false h = let l : n / 256 < m / 256 = omega (arith, e, leb-false m n h) in rw h (lt-leb (m / 256) (n / 256) l)
 
 -- A1's and document 01's do, and so they do with floors beside them
-pub agree01 : Agree OneVariant versionsA1 versions01
+pub agree01 : Agree OneVariant versions_a1 versions01
 agree01 c v one =
-    let variant : rule.wrongVariant c v ≡ false = rw (eq-eqb _ _ one) refl in
-    let follows : versionsA1.imageFits c v ≡ versions01.imageFits c v = rw variant (order c.running.0 v.0 (sym one)) in
+    let variant : rule.wrong_variant c v ≡ false = rw (eq-eqb _ _ one) refl in
+    let follows : versions_a1.image_fits c v ≡ versions01.image_fits c v = rw variant (order c.running.0 v.0 (sym one)) in
     (variant, order v.0 c.running.0 one, follows, follows)
 
-agree-floor : Agree OneVariant rules.versions (withFloor versions01)
-agree-floor c v one =
+agree_floor : Agree OneVariant rules.versions (with_floor versions01)
+agree_floor c v one =
     let a = agree01 c v one in
-    let fits : (rules.versions).imageFits c v ≡ (withFloor versions01).imageFits c v = ap (λ (x : Bool). x && not (rule.belowFloor c v)) a.2 in
-    (a.0, ap (λ (x : Bool). x || rule.belowFloor c v) a.1, fits, fits)
+    let fits : (rules.versions).image_fits c v ≡ (with_floor versions01).image_fits c v = ap (λ (x : Bool). x && not (rule.below_floor c v)) a.2 in
+    (a.0, ap (λ (x : Bool). x || rule.below_floor c v) a.1, fits, fits)
 
-pub one-variant-as-before : OneVariantAsBefore
-one-variant-as-before d staging call h g =
-    rules-in-force-answer.calls d staging call ∙ alike OneVariant rules.versions (withFloor versions01) setupVerdict setupVerdict agree-floor d staging refl call (d1-as d) h g
+pub one_variant_as_before : OneVariantAsBefore
+one_variant_as_before d staging call h g =
+    rules_in_force_answer.calls d staging call ∙ alike OneVariant rules.versions (with_floor versions01) setup_verdict setup_verdict agree_floor d staging refl call (d1_as d) h g
 
 -- where D1's last clause does not apply, what is staged has the running variant
-fits_one : (c : Component) (s : Staged) (v : Version) → not (rule.keepsStaged c s) ≡ false → s ≡ Pending v → OneVariant c v
+fits_one : (c : Component) (s : Staged) (v : Version) → not (rule.keeps_staged c s) ≡ false → s ≡ Pending v → OneVariant c v
 fits_one c s v k e =
-    let fits : rule.keepsStaged c (Pending v) ≡ true = subst (λ (x : Staged). rule.keepsStaged c x ≡ true) e (not-false _ k) in
-    equal _ _ (not-true _ (both (not (rule.wrongVariant c v)) _ (both (not (rule.wrongVariant c v) && leb (releaseOf c.running) (releaseOf v)) _ fits).0).0)
+    let fits : rule.keeps_staged c (Pending v) ≡ true = subst (λ (x : Staged). rule.keeps_staged c x ≡ true) e (not-false _ k) in
+    equal _ _ (not-true _ (both (not (rule.wrong_variant c v)) _ (both (not (rule.wrong_variant c v) && leb (release_of c.running) (release_of v)) _ fits).0).0)
 
-pub sound-staged-one : SoundStagedOne
-sound-staged-one d e k v l s =
+pub sound_staged_one : SoundStagedOne
+sound_staged_one d e k v l s =
     fits_one (component d k) (component d k).staged v
-    (none_below (λ (c : Component). not (rule.keepsStaged c c.staged)) d.count d.components k refl l (passes e).staged) s
+    (none_below (λ (c : Component). not (rule.keeps_staged c c.staged)) d.count d.components k refl l (passes e).staged) s

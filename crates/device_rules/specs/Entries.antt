@@ -2,39 +2,39 @@
 -- as it stands. With the rules in force the answers are the entries' own (`RulesInForceAnswer`); with other rules some answers differ (`A1Differs`, `A4Differs`, `A5Differs`).
 use Rattle.std.specs.Prelude.{ℕ, Bool, true, not, cond, ◌||◌, List, [], ◌∷◌, ◌++◌, map, eqb, length, take, replicate}
 use Rattle.wire.specs.Checks.{first_of, any}
-use Rattle.wire.specs.Codes.{PROTOCOL, SHORT-SIZE, LONG-SIZE, REJECT-OLD-FW, REJECT-INV-COMPONENT, REJECT-SWAP-PENDING, REJECT-WRONG-PROTOCOL, REJECT-WRONG-SEGMENT, REJECT-WRONG-VARIANT, SUCCESS, ERROR-VERSION, ERROR-INVALID-ADDR, ERROR-NO-OFFER, ERROR-INVALID}
-use Rattle.wire_version.specs.Reply.{REPLY-SIZE, replyBytes}
-use Rattle.wire_offer.specs.Kind.{Kind, offer, information, extended, kindIn}
+use Rattle.wire.specs.Codes.{protocol_number, short_size, long_size, reject_old_fw, reject_inv_component, reject_swap_pending, reject_wrong_protocol, reject_wrong_segment, reject_wrong_variant, success_status, error_version, error_invalid_addr, error_no_offer, error_invalid}
+use Rattle.wire_version.specs.Reply.{reply_size, reply_bytes}
+use Rattle.wire_offer.specs.Kind.{Kind, offer, information, extended, kind_in}
 use Rattle.wire_offer.specs.declared.offer.OfferFields.{OfferFields}
-use Rattle.wire_content.specs.Head.{headIn}
+use Rattle.wire_content.specs.Head.{head_in}
 use Rattle.wire_content.specs.declared.head.ContentHead.{ContentHead}
-use Rattle.image.specs.Region.{regionBytes}
-use Rattle.image.specs.Judge.{imageIn}
+use Rattle.image.specs.Region.{region_bytes}
+use Rattle.image.specs.Judge.{image_in}
 use Rattle.image.specs.declared.region.Region.{Region}
 use Rattle.image.specs.declared.judge.Image.{Image}
 use Rattle.image.specs.declared.judge.Image.TheVariants.{Damaged, Foreign, Bears}
-use Rattle.device_component.specs.Record.{isPending, listed, withStaged}
+use Rattle.device_component.specs.Record.{is_pending, listed, with_staged}
 use Rattle.device_component.specs.Setup.{is_refused, row_of}
 use Rattle.device_component.specs.declared.record.Component.{Component}
 use Rattle.device_component.specs.declared.record.Listed.{Listed}
 use Rattle.device_component.specs.declared.record.Staged.{Staged}
 use Rattle.device_component.specs.declared.record.Staged.TheVariants.{Nothing, Pending}
-use Rattle.device_slots.specs.Slots.{slot_of, isAbsent, resetComponents, runningOf}
-use Rattle.device_slots.specs.Standing.{standingOf}
+use Rattle.device_slots.specs.Slots.{slot_of, is_absent, reset_components, running_of}
+use Rattle.device_slots.specs.Standing.{standing_of}
 use Rattle.device_slots.specs.declared.standing.Standing.{Standing}
-use Rattle.device_session.specs.Stage.{isOpen, atSlot, isAgain, isWrong}
+use Rattle.device_session.specs.Stage.{is_open, at_slot, is_again, is_wrong}
 use Rattle.device_session.specs.Effect.{idle}
-use Rattle.device_session.specs.Sound.{opensWrong, owesIdle}
+use Rattle.device_session.specs.Sound.{opens_wrong, owes_idle}
 use Rattle.device_session.specs.declared.stage.Stage.{Stage}
 use Rattle.device_session.specs.declared.owed.Owed.TheVariants as owed
 use Rattle.device_session.specs.declared.effect.Session.{Session}
 use Rattle.device_offering.specs.Offer as offering
 use Rattle.device_offering.specs.declared.verdict.OfferVerdict.{OfferVerdict}
 use Rattle.device_offering.specs.declared.verdict.OfferVerdict.TheVariants.{Busy, Reject, Skip, Accept}
-use Rattle.device_receiving.specs.Content.{is_last, isCopy, noOffer, badShape, badFirst, badAddress}
+use Rattle.device_receiving.specs.Content.{is_last, is_copy, no_offer, bad_shape, bad_first, bad_address}
 use Rattle.device_receiving.specs.Finish as finishing
 use Rattle.device_receiving.specs.Receive as receiving
-use Rattle.device_receiving.specs.Receive.{blockReply, goesOn, written, stagingBy}
+use Rattle.device_receiving.specs.Receive.{block_reply, goes_on, written, staging_by}
 use Rattle.device_receiving.specs.declared.checks.ContentVerdict.{ContentVerdict}
 use Rattle.device_receiving.specs.declared.checks.ContentVerdict.TheVariants.{Answer, Take}
 use Rattle.device_receiving.specs.declared.finish.Finished.{Finished}
@@ -42,125 +42,125 @@ use Rattle.device_receiving.specs.declared.content.Taken.{Taken}
 use Rattle.device.specs.declared.record.Device.{Device}
 use Rattle.device.specs.declared.answer.Channel.{Channel}
 use Rattle.device.specs.declared.answer.Channel.TheVariants.{Offer, Content}
-use Rattle.device.specs.Record.{find, idleWith}
-use Rattle.device.specs.Refusals.{Row, served, D, Outcome, keptBy, unlessRefused, servedWith}
+use Rattle.device.specs.Record.{find, idle_with}
+use Rattle.device.specs.Refusals.{Row, served, row_d, Outcome, kept_by, unless_refused, served_with}
 use Rattle.device.specs.Offer as offers
-use Rattle.device.specs.Offer.{needUnmet}
-use Rattle.device.specs.Content.{sessionComponent, received}
-use Rattle.device.specs.Entries.{SetUp, newDevice, setUpBy as setUpOn, Versions, Reset}
-use Rattle.device.specs.Calls.{Call, packet, versions, reset, Answered, ofPacket, ofVersions, ofReset}
+use Rattle.device.specs.Offer.{need_unmet}
+use Rattle.device.specs.Content.{session_component, received}
+use Rattle.device.specs.Entries.{SetUp, new_device, set_up_by as set_up_on, Versions, Reset}
+use Rattle.device.specs.Calls.{Call, packet, versions, reset, Answered, of_packet, of_versions, of_reset}
 use Rattle.device_rules.specs.Rules.{Rules}
 
 module _ (rules : Rules) where
   -- set-up, with a staging buffer of n bytes
-  abbrev pub setUpBy : (platform : ℕ) → List Listed → (count n : ℕ) → SetUp
-  setUpBy platform list count n = setUpOn (row_of (rules.setup n count (map listed list))) (newDevice platform list count n)
+  abbrev pub set_up_by : (platform : ℕ) → List Listed → (count n : ℕ) → SetUp
+  set_up_by platform list count n = set_up_on (row_of (rules.setup n count (map listed list))) (new_device platform list count n)
 
   -- D1
-  abbrev pub keepsStagedBy : Component → Staged → Bool
-  keepsStagedBy c Nothing = true
-  keepsStagedBy c (Pending v) = rules.versions.stagedFits c v
+  abbrev pub keeps_staged_by : Component → Staged → Bool
+  keeps_staged_by c Nothing = true
+  keeps_staged_by c (Pending v) = rules.versions.staged_fits c v
 
-  abbrev pub breaksD1By : Device → Bool
-  breaksD1By d =
+  abbrev pub breaks_d1_by : Device → Bool
+  breaks_d1_by d =
       is_refused (rules.setup d.staging_len d.count d.components)
-      || (opensWrong d.count d.components d.session
-      || (rules.sequences.wrongPrevious d.session.stage d.session.previous
-      || (owesIdle d.session || any (λ c. not (keepsStagedBy c c.staged)) (take d.count d.components))))
+      || (opens_wrong d.count d.components d.session
+      || (rules.sequences.wrong_previous d.session.stage d.session.previous
+      || (owes_idle d.session || any (λ c. not (keeps_staged_by c c.staged)) (take d.count d.components))))
 
   -- D1 to D3
-  abbrev pub refusalBy : (size : ℕ) → Device → (n m : ℕ) → Row
-  refusalBy size d n m = first_of ((breaksD1By d, D 1) ∷ (not (eqb n d.staging_len), D 2) ∷ (not (eqb m size), D 3) ∷ []) served
+  abbrev pub refusal_by : (size : ℕ) → Device → (n m : ℕ) → Row
+  refusal_by size d n m = first_of ((breaks_d1_by d, row_d 1) ∷ (not (eqb n d.staging_len), row_d 2) ∷ (not (eqb m size), row_d 3) ∷ []) served
 
   -- checks 2 to 7 of an offer, and checks 1 to 9
-  abbrev pub rejectionsBy : (platform : ℕ) → (target : Standing) → OfferFields → List (Bool × OfferVerdict)
-  rejectionsBy platform target o =
-      (not (eqb o.protocol PROTOCOL), Reject REJECT-WRONG-PROTOCOL)
-      ∷ (isAbsent target.at, Reject REJECT-INV-COMPONENT)
-      ∷ (not (eqb o.platform platform), Reject REJECT-INV-COMPONENT)
-      ∷ (not (eqb o.segment 0), Reject REJECT-WRONG-SEGMENT)
-      ∷ (isPending target.component.staged, Reject REJECT-SWAP-PENDING)
-      ∷ (rules.versions.wrongVariant target.component o.version, Reject REJECT-WRONG-VARIANT)
-      ∷ (rules.versions.tooLow target.component o.version, Reject REJECT-OLD-FW)
+  abbrev pub rejections_by : (platform : ℕ) → (target : Standing) → OfferFields → List (Bool × OfferVerdict)
+  rejections_by platform target o =
+      (not (eqb o.protocol protocol_number), Reject reject_wrong_protocol)
+      ∷ (is_absent target.at, Reject reject_inv_component)
+      ∷ (not (eqb o.platform platform), Reject reject_inv_component)
+      ∷ (not (eqb o.segment 0), Reject reject_wrong_segment)
+      ∷ (is_pending target.component.staged, Reject reject_swap_pending)
+      ∷ (rules.versions.wrong_variant target.component o.version, Reject reject_wrong_variant)
+      ∷ (rules.versions.too_low target.component o.version, Reject reject_old_fw)
       ∷ []
 
-  abbrev pub offerVerdictBy : Device → OfferFields → OfferVerdict
-  offerVerdictBy d o =
+  abbrev pub offer_verdict_by : Device → OfferFields → OfferVerdict
+  offer_verdict_by d o =
       first_of (
-      (isOpen d.session.stage, Busy)
-      ∷ rejectionsBy d.platform (standingOf o.id d.count d.components) o
-      ++ (needUnmet d o, Skip) ∷ [])
+      (is_open d.session.stage, Busy)
+      ∷ rejections_by d.platform (standing_of o.id d.count d.components) o
+      ++ (need_unmet d o, Skip) ∷ [])
       (Accept (slot_of (find d o.id)))
 
   -- a packet of the offer channel by its kind
-  abbrev pub onKindBy : Device → Kind → Outcome
-  onKindBy d (offer o) = servedWith d d.components (offering.onVerdict d.session o.token (offerVerdictBy d o))
-  onKindBy d (information s) = offers.onKind d (information s)
-  onKindBy d (extended s) = offers.onKind d (extended s)
+  abbrev pub on_kind_by : Device → Kind → Outcome
+  on_kind_by d (offer o) = served_with d d.components (offering.on_verdict d.session o.token (offer_verdict_by d o))
+  on_kind_by d (information s) = offers.on_kind d (information s)
+  on_kind_by d (extended s) = offers.on_kind d (extended s)
 
   -- image judgement
-  abbrev pub judgeBy : Component → Image → Finished
-  judgeBy c Damaged = finishing.judge c Damaged
-  judgeBy c Foreign = finishing.judge c Foreign
-  judgeBy c (Bears v) =
-      cond (rules.versions.imageFits c v) (record { status = SUCCESS; component = withStaged c v }) (record { status = ERROR-VERSION; component = c })
+  abbrev pub judge_by : Component → Image → Finished
+  judge_by c Damaged = finishing.judge c Damaged
+  judge_by c Foreign = finishing.judge c Foreign
+  judge_by c (Bears v) =
+      cond (rules.versions.image_fits c v) (record { status = success_status; component = with_staged c v }) (record { status = error_version; component = c })
 
-  abbrev pub finishBy : Component → (s : List ℕ) → Finished
-  finishBy c s = judgeBy c (imageIn (regionBytes c.fixed.region s) c.fixed.id)
+  abbrev pub finish_by : Component → (s : List ℕ) → Finished
+  finish_by c s = judge_by c (image_in (region_bytes c.fixed.region s) c.fixed.id)
 
   -- checks 1 to 6 of a content packet
-  abbrev pub contentVerdictBy : Region → Stage → (copy : Bool) → ContentHead → ContentVerdict
-  contentVerdictBy region stage copy c =
+  abbrev pub content_verdict_by : Region → Stage → (copy : Bool) → ContentHead → ContentVerdict
+  content_verdict_by region stage copy c =
       first_of (
-      (noOffer stage, Answer ERROR-NO-OFFER)
-      ∷ (badShape c, Answer ERROR-INVALID)
-      ∷ (badFirst stage c, Answer ERROR-INVALID)
-      ∷ (isAgain (rules.sequences.judged stage copy c.sequence), Answer SUCCESS)
-      ∷ (isWrong (rules.sequences.judged stage copy c.sequence), Answer ERROR-INVALID)
-      ∷ (badAddress region c, Answer ERROR-INVALID-ADDR)
+      (no_offer stage, Answer error_no_offer)
+      ∷ (bad_shape c, Answer error_invalid)
+      ∷ (bad_first stage c, Answer error_invalid)
+      ∷ (is_again (rules.sequences.judged stage copy c.sequence), Answer success_status)
+      ∷ (is_wrong (rules.sequences.judged stage copy c.sequence), Answer error_invalid)
+      ∷ (bad_address region c, Answer error_invalid_addr)
       ∷ [])
-      (Take (atSlot stage))
+      (Take (at_slot stage))
 
-  abbrev pub verdictOnBy : Device → (report : List ℕ) → ContentVerdict
-  verdictOnBy d report =
-      contentVerdictBy (sessionComponent d).fixed.region d.session.stage (isCopy d.session.previous report) (headIn report)
+  abbrev pub verdict_on_by : Device → (report : List ℕ) → ContentVerdict
+  verdict_on_by d report =
+      content_verdict_by (session_component d).fixed.region d.session.stage (is_copy d.session.previous report) (head_in report)
 
   -- a content packet: only a last block is judged
-  abbrev pub onBlockBy : Component → Session → (slot : ℕ) → (report s : List ℕ) → Taken
-  onBlockBy c session slot report s =
-      cond (is_last (headIn report))
-      (record { effect = blockReply (headIn report).sequence (finishBy c s).status session.owed idle; component = (finishBy c s).component })
-      (record { effect = blockReply (headIn report).sequence SUCCESS owed.Nothing (goesOn session slot report); component = c })
+  abbrev pub on_block_by : Component → Session → (slot : ℕ) → (report s : List ℕ) → Taken
+  on_block_by c session slot report s =
+      cond (is_last (head_in report))
+      (record { effect = block_reply (head_in report).sequence (finish_by c s).status session.owed idle; component = (finish_by c s).component })
+      (record { effect = block_reply (head_in report).sequence success_status owed.Nothing (goes_on session slot report); component = c })
 
-  abbrev pub onContentVerdictBy : Component → Session → (report s : List ℕ) → ContentVerdict → Taken
-  onContentVerdictBy c session report s (Answer status) = receiving.onVerdict c session report s (Answer status)
-  onContentVerdictBy c session report s (Take slot) = onBlockBy c session slot report (written c.fixed.region report s)
+  abbrev pub on_content_verdict_by : Component → Session → (report s : List ℕ) → ContentVerdict → Taken
+  on_content_verdict_by c session report s (Answer status) = receiving.on_verdict c session report s (Answer status)
+  on_content_verdict_by c session report s (Take slot) = on_block_by c session slot report (written c.fixed.region report s)
 
   -- the entries for packets, and every byte of the staging buffer afterwards
-  abbrev pub serveBy : Device → Channel → (staging report : List ℕ) → Outcome
-  serveBy d Offer staging report = unlessRefused (refusalBy SHORT-SIZE d (length staging) (length report)) d (onKindBy d (kindIn report))
-  serveBy d Content staging report =
-      unlessRefused (refusalBy LONG-SIZE d (length staging) (length report)) d
-      (received d (onContentVerdictBy (sessionComponent d) d.session report staging (verdictOnBy d report)))
+  abbrev pub serve_by : Device → Channel → (staging report : List ℕ) → Outcome
+  serve_by d Offer staging report = unless_refused (refusal_by short_size d (length staging) (length report)) d (on_kind_by d (kind_in report))
+  serve_by d Content staging report =
+      unless_refused (refusal_by long_size d (length staging) (length report)) d
+      (received d (on_content_verdict_by (session_component d) d.session report staging (verdict_on_by d report)))
 
-  abbrev pub serveStagingBy : Device → Channel → (staging report : List ℕ) → List ℕ
-  serveStagingBy d Offer staging report = staging
-  serveStagingBy d Content staging report =
-      keptBy (refusalBy LONG-SIZE d (length staging) (length report)) staging
-      (stagingBy (sessionComponent d).fixed.region report staging (verdictOnBy d report))
+  abbrev pub serve_staging_by : Device → Channel → (staging report : List ℕ) → List ℕ
+  serve_staging_by d Offer staging report = staging
+  serve_staging_by d Content staging report =
+      kept_by (refusal_by long_size d (length staging) (length report)) staging
+      (staging_by (session_component d).fixed.region report staging (verdict_on_by d report))
 
   -- the version reply, and the reset
-  abbrev pub versionBy : Device → Versions
-  versionBy d =
-      cond (breaksD1By d) (record { row = D 1; packet = replicate REPLY-SIZE 0 })
-      (record { row = served; packet = replyBytes d.count PROTOCOL (map (runningOf d.platform) d.components) })
+  abbrev pub version_by : Device → Versions
+  version_by d =
+      cond (breaks_d1_by d) (record { row = row_d 1; packet = replicate reply_size 0 })
+      (record { row = served; packet = reply_bytes d.count protocol_number (map (running_of d.platform) d.components) })
 
-  abbrev pub resetBy : Device → Reset
-  resetBy d =
-      cond (breaksD1By d) (record { row = D 1; device = d })
-      (record { row = served; device = idleWith d (resetComponents d.count d.components) })
+  abbrev pub reset_by : Device → Reset
+  reset_by d =
+      cond (breaks_d1_by d) (record { row = row_d 1; device = d })
+      (record { row = served; device = idle_with d (reset_components d.count d.components) })
 
-  abbrev pub answerBy : Device → (staging : List ℕ) → Call → Answered
-  answerBy d staging (packet channel report) = ofPacket (serveBy d channel staging report) (serveStagingBy d channel staging report)
-  answerBy d staging versions = ofVersions (versionBy d)
-  answerBy d staging reset = ofReset (resetBy d)
+  abbrev pub answer_by : Device → (staging : List ℕ) → Call → Answered
+  answer_by d staging (packet channel report) = of_packet (serve_by d channel staging report) (serve_staging_by d channel staging report)
+  answer_by d staging versions = of_versions (version_by d)
+  answer_by d staging reset = of_reset (reset_by d)

@@ -2,10 +2,10 @@
 -- against which versions and set-up's list are tested (A5).
 use Rattle.std.specs.Prelude.{ℕ, Bool, false, not, cond, ◌||◌, ◌&&◌, List, [], ◌∷◌, leb, eqb, take}
 use Rattle.wire.specs.Checks.{first_of}
-use Rattle.wire.specs.Version.{releaseOf}
+use Rattle.wire.specs.Version.{release_of}
 use Rattle.wire.specs.declared.version.Version.{Version}
 use Rattle.device_component.specs.Versions as amended
-use Rattle.device_component.specs.Setup.{stagingTooLong, badCount, badIds, badRegions, setupVerdict}
+use Rattle.device_component.specs.Setup.{staging_too_long, bad_count, bad_ids, bad_regions, setup_verdict}
 use Rattle.device_component.specs.declared.record.Component.{Component}
 use Rattle.device_component.specs.declared.setup.SetupVerdict.{SetupVerdict}
 use Rattle.device_component.specs.declared.setup.SetupVerdict.TheVariants.{Fine, S1, S2, S3, S4}
@@ -18,56 +18,56 @@ use Rattle.device_session.specs.declared.stage.SequenceVerdict.TheVariants.{Next
 
 -- what the check between 6 and 7, check 7, the image judgement and D1 ask of a version, for a component
 pub record VersionRules : Type 0 where
-  pub wrongVariant : Component → Version → Bool
-  pub tooLow : Component → Version → Bool
-  pub imageFits : Component → Version → Bool
-  pub stagedFits : Component → Version → Bool
+  pub wrong_variant : Component → Version → Bool
+  pub too_low : Component → Version → Bool
+  pub image_fits : Component → Version → Bool
+  pub staged_fits : Component → Version → Bool
 
 -- those in force
 abbrev pub versions : VersionRules
 versions = record {
-  wrongVariant = amended.wrongVariant;
-  tooLow = amended.tooLow;
-  imageFits = amended.imageVersionFits;
-  stagedFits = amended.stagedVersionFits;
+  wrong_variant = amended.wrong_variant;
+  too_low = amended.too_low;
+  image_fits = amended.image_version_fits;
+  staged_fits = amended.staged_version_fits;
 }
 
 -- those of document 01: 32-bit numbers are compared, and no variant is wrong
 abbrev pub versions01 : VersionRules
 versions01 = record {
-  wrongVariant = λ c v. false;
-  tooLow = λ c v. leb v.0 c.running.0;
-  imageFits = λ c v. leb c.running.0 v.0;
-  stagedFits = λ c v. leb c.running.0 v.0;
+  wrong_variant = λ c v. false;
+  too_low = λ c v. leb v.0 c.running.0;
+  image_fits = λ c v. leb c.running.0 v.0;
+  staged_fits = λ c v. leb c.running.0 v.0;
 }
 
 -- those of A1, without a floor: releases are compared, and the variant is the running one
-abbrev pub versionsA1 : VersionRules
-versionsA1 = record {
-  wrongVariant = amended.wrongVariant;
-  tooLow = amended.isOld;
-  imageFits = λ c v. not (amended.wrongVariant c v) && leb (releaseOf c.running) (releaseOf v);
-  stagedFits = λ c v. not (amended.wrongVariant c v) && leb (releaseOf c.running) (releaseOf v);
+abbrev pub versions_a1 : VersionRules
+versions_a1 = record {
+  wrong_variant = amended.wrong_variant;
+  too_low = amended.is_old;
+  image_fits = λ c v. not (amended.wrong_variant c v) && leb (release_of c.running) (release_of v);
+  staged_fits = λ c v. not (amended.wrong_variant c v) && leb (release_of c.running) (release_of v);
 }
 
 -- any of them with A5's floor beside it
-abbrev pub withFloor : VersionRules → VersionRules
-withFloor r = record {
-  wrongVariant = r.wrongVariant;
-  tooLow = λ c v. r.tooLow c v || amended.belowFloor c v;
-  imageFits = λ c v. r.imageFits c v && not (amended.belowFloor c v);
-  stagedFits = λ c v. r.stagedFits c v && not (amended.belowFloor c v);
+abbrev pub with_floor : VersionRules → VersionRules
+with_floor r = record {
+  wrong_variant = r.wrong_variant;
+  too_low = λ c v. r.too_low c v || amended.below_floor c v;
+  image_fits = λ c v. r.image_fits c v && not (amended.below_floor c v);
+  staged_fits = λ c v. r.staged_fits c v && not (amended.below_floor c v);
 }
 
 -- what content check 4 and D1 ask of a sequence: the judgement of a block's, by the stage and whether the packet is a copy of the previous one; and whether the
 -- previous packet's is wrong
 pub record SequenceRules : Type 0 where
   pub judged : Stage → (copy : Bool) → (sequence : ℕ) → SequenceVerdict
-  pub wrongPrevious : Stage → (previous : List ℕ) → Bool
+  pub wrong_previous : Stage → (previous : List ℕ) → Bool
 
 -- those in force
 abbrev pub sequences : SequenceRules
-sequences = record { judged = stages.sequenceVerdict; wrongPrevious = sound.wrongPrevious }
+sequences = record { judged = stages.sequence_verdict; wrong_previous = sound.wrong_previous }
 
 -- those of document 01: while receiving the expected sequence, otherwise any; the held packet is not looked at
 abbrev pub expected : Stage → (copy : Bool) → (sequence : ℕ) → SequenceVerdict
@@ -76,16 +76,16 @@ expected (Offered o) copy sequence = Next
 expected (Receiving r) copy sequence = cond (eqb sequence r.next) Next Wrong
 
 abbrev pub sequences01 : SequenceRules
-sequences01 = record { judged = expected; wrongPrevious = λ stage previous. false }
+sequences01 = record { judged = expected; wrong_previous = λ stage previous. false }
 
 -- the rows of set-up, for a staging buffer of n bytes and the first `count` of a list: those of document 01, without S5
 abbrev pub setup01 : (n count : ℕ) → List Component → SetupVerdict
 setup01 n count components =
     first_of (
-    (stagingTooLong n, S1)
-    ∷ (badCount count, S2)
-    ∷ (badIds (take count components), S3)
-    ∷ (badRegions n (take count components), S4)
+    (staging_too_long n, S1)
+    ∷ (bad_count count, S2)
+    ∷ (bad_ids (take count components), S3)
+    ∷ (bad_regions n (take count components), S4)
     ∷ [])
     Fine
 
@@ -96,17 +96,17 @@ pub record Rules : Type 0 where
   pub setup : (n count : ℕ) → List Component → SetupVerdict
 
 -- in force; each request's rules taken back, the others' in force: A5's, A4's, A1's; and by document 01
-abbrev pub inForce : Rules
-inForce = record { versions = versions; sequences = sequences; setup = setupVerdict }
+abbrev pub in_force : Rules
+in_force = record { versions = versions; sequences = sequences; setup = setup_verdict }
 
-abbrev pub withoutA5 : Rules
-withoutA5 = record { versions = versionsA1; sequences = sequences; setup = setup01 }
+abbrev pub without_a5 : Rules
+without_a5 = record { versions = versions_a1; sequences = sequences; setup = setup01 }
 
-abbrev pub withoutA4 : Rules
-withoutA4 = record { versions = versions; sequences = sequences01; setup = setupVerdict }
+abbrev pub without_a4 : Rules
+without_a4 = record { versions = versions; sequences = sequences01; setup = setup_verdict }
 
-abbrev pub withoutA1 : Rules
-withoutA1 = record { versions = withFloor versions01; sequences = sequences; setup = setupVerdict }
+abbrev pub without_a1 : Rules
+without_a1 = record { versions = with_floor versions01; sequences = sequences; setup = setup_verdict }
 
 abbrev pub document01 : Rules
 document01 = record { versions = versions01; sequences = sequences01; setup = setup01 }

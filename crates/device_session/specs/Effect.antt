@@ -1,7 +1,7 @@
 -- The session, the one way it becomes idle, and what a packet that no row refuses does to it (document 01, "The device"; document 02, A4).
 use Rattle.std.specs.Prelude.{◌≡◌, ℕ, true, false, List, length, replicate}
 use Rattle.wire.specs.Bytes.{Bytes}
-use Rattle.wire.specs.Codes.{SHORT-SIZE, LONG-SIZE}
+use Rattle.wire.specs.Codes.{short_size, long_size}
 use Rattle.device_session.specs.declared.stage.Stage.{Stage}
 use Rattle.device_session.specs.declared.stage.Stage.TheVariants.{Idle}
 use Rattle.device_session.specs.declared.owed.Owed.{Owed}
@@ -16,36 +16,36 @@ use Rattle.device_session.specs.Owed.{FitsOwed}
 pub record FitsSession (s : Session) : Type 0 where
   pub stage : FitsStage s.stage
   pub owed : FitsOwed s.owed
-  pub size : length s.previous ≡ LONG-SIZE
+  pub size : length s.previous ≡ long_size
   pub bytes : Bytes s.previous
 
 -- no packet, as 60 zero bytes: what a session is given as it ends and as it is opened
-abbrev pub blankPacket : List ℕ
-blankPacket = replicate LONG-SIZE 0
+abbrev pub blank_packet : List ℕ
+blank_packet = replicate long_size 0
 
 -- idle, owing nothing and holding no packet: the one way a session becomes idle
 abbrev pub idle : Session
-idle = record { stage = Idle; owed = Nothing; previous = blankPacket }
+idle = record { stage = Idle; owed = Nothing; previous = blank_packet }
 
 -- the session in another stage, holding this packet (document 02, A4)
-abbrev pub inStage : Session → Stage → (previous : List ℕ) → Session
-inStage session stage previous = record { stage = stage; owed = session.owed; previous = previous }
+abbrev pub in_stage : Session → Stage → (previous : List ℕ) → Session
+in_stage session stage previous = record { stage = stage; owed = session.owed; previous = previous }
 
 -- the session with another ready-reply owed
 abbrev pub owing : Session → Owed → Session
 owing session owed = record { stage = session.stage; owed = owed; previous = session.previous }
 
 -- nothing is sent
-abbrev pub noReplies : Replies
-noReplies = record { due = false; reply = replicate SHORT-SIZE 0; ready = Nothing }
+abbrev pub no_replies : Replies
+no_replies = record { due = false; reply = replicate short_size 0; ready = Nothing }
 
 -- one reply, and then the READY that was owed
-abbrev pub oneReply : List ℕ → Owed → Replies
-oneReply bytes ready = record { due = true; reply = bytes; ready = ready }
+abbrev pub one_reply : List ℕ → Owed → Replies
+one_reply bytes ready = record { due = true; reply = bytes; ready = ready }
 
 abbrev pub answered : List ℕ → Owed → Session → Effect
-answered bytes ready session = record { replies = oneReply bytes ready; session = session }
+answered bytes ready session = record { replies = one_reply bytes ready; session = session }
 
 -- no reply now
 abbrev pub silent : Session → Effect
-silent session = record { replies = noReplies; session = session }
+silent session = record { replies = no_replies; session = session }

@@ -1,11 +1,11 @@
 -- Row D1, clause by clause (document 01, "Numbered refusals"; document 02: its last clause as A1 and A5 read it, and A4's clause on the previous packet).
 use Rattle.std.specs.Prelude.{ℕ, Bool, false, not, ◌||◌, List, take, ◌==◌, nat_le}
 use Rattle.wire.specs.Checks.{any}
-use Rattle.wire_content.specs.Head.{headIn}
-use Rattle.device_component.specs.Record.{isPending}
-use Rattle.device_component.specs.Lists.{componentAt}
-use Rattle.device_component.specs.Versions.{keepsStaged}
-use Rattle.device_component.specs.Setup.{is_refused, setupVerdict}
+use Rattle.wire_content.specs.Head.{head_in}
+use Rattle.device_component.specs.Record.{is_pending}
+use Rattle.device_component.specs.Lists.{component_at}
+use Rattle.device_component.specs.Versions.{keeps_staged}
+use Rattle.device_component.specs.Setup.{is_refused, setup_verdict}
 use Rattle.device_component.specs.declared.record.Component.{Component}
 use Rattle.device_component.specs.declared.list.Found.{Found}
 use Rattle.device_component.specs.declared.list.Found.TheVariants as found
@@ -14,44 +14,44 @@ use Rattle.device_session.specs.declared.stage.Stage.{Stage}
 use Rattle.device_session.specs.declared.stage.Stage.TheVariants.{Idle, Offered, Receiving}
 use Rattle.device_session.specs.declared.owed.Owed.{Owed}
 use Rattle.device_session.specs.declared.effect.Session.{Session}
-use Rattle.device_session.specs.Stage.{openSlot, following}
+use Rattle.device_session.specs.Stage.{open_slot, following}
 use Rattle.device_session.specs.Owed.{owes}
 
 -- breaks S1 to S5
-abbrev pub breaksSetup : (n count : ℕ) → List Component → Bool
-breaksSetup n count components = is_refused (setupVerdict n count components)
+abbrev pub breaks_setup : (n count : ℕ) → List Component → Bool
+breaks_setup n count components = is_refused (setup_verdict n count components)
 
 -- opens on a slot that is unlisted, or whose component, c, is pending
-abbrev pub wrongSlot : (count : ℕ) → Component → Found → Bool
-wrongSlot count c found.Nothing = false
-wrongSlot count c (found.At k) = nat_le count k || isPending c.staged
+abbrev pub wrong_slot : (count : ℕ) → Component → Found → Bool
+wrong_slot count c found.Nothing = false
+wrong_slot count c (found.At k) = nat_le count k || is_pending c.staged
 
-abbrev pub opensWrong : (count : ℕ) → List Component → Session → Bool
-opensWrong count components session = wrongSlot count (componentAt components (slot_of (openSlot session.stage))) (openSlot session.stage)
+abbrev pub opens_wrong : (count : ℕ) → List Component → Session → Bool
+opens_wrong count components session = wrong_slot count (component_at components (slot_of (open_slot session.stage))) (open_slot session.stage)
 
 -- receiving, and the sequence of the previous packet is not just before the next one (document 02, A4)
-abbrev pub wrongPrevious : Stage → (previous : List ℕ) → Bool
-wrongPrevious Idle previous = false
-wrongPrevious (Offered o) previous = false
-wrongPrevious (Receiving r) previous = not (following (headIn previous).sequence == r.next)
+abbrev pub wrong_previous : Stage → (previous : List ℕ) → Bool
+wrong_previous Idle previous = false
+wrong_previous (Offered o) previous = false
+wrong_previous (Receiving r) previous = not (following (head_in previous).sequence == r.next)
 
-abbrev pub holdsWrong : Session → Bool
-holdsWrong session = wrongPrevious session.stage session.previous
+abbrev pub holds_wrong : Session → Bool
+holds_wrong session = wrong_previous session.stage session.previous
 
 -- owes while idle
-abbrev pub owesOn : Found → Owed → Bool
-owesOn found.Nothing o = owes o
-owesOn (found.At k) o = false
+abbrev pub owes_on : Found → Owed → Bool
+owes_on found.Nothing o = owes o
+owes_on (found.At k) o = false
 
-abbrev pub owesIdle : Session → Bool
-owesIdle session = owesOn (openSlot session.stage) session.owed
+abbrev pub owes_idle : Session → Bool
+owes_idle session = owes_on (open_slot session.stage) session.owed
 
 -- has a staged version that does not fit: of another variant than the running one, of a lower release, or of one below the floor's
-abbrev pub stagedUnfit : (count : ℕ) → List Component → Bool
-stagedUnfit count components = any (λ c. not (keepsStaged c c.staged)) (take count components)
+abbrev pub staged_unfit : (count : ℕ) → List Component → Bool
+staged_unfit count components = any (λ c. not (keeps_staged c c.staged)) (take count components)
 
 -- D1, for a staging buffer of n bytes; slots at or past the count are never looked at
-unfoldable pub breaksD1 : (n count : ℕ) → List Component → Session → Bool
-breaksD1 n count components session =
-    breaksSetup n count components
-    || (opensWrong count components session || (holdsWrong session || (owesIdle session || stagedUnfit count components)))
+unfoldable pub breaks_d1 : (n count : ℕ) → List Component → Session → Bool
+breaks_d1 n count components session =
+    breaks_setup n count components
+    || (opens_wrong count components session || (holds_wrong session || (owes_idle session || staged_unfit count components)))

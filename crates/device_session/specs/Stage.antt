@@ -15,31 +15,31 @@ FitsStage (Offered o) = (o.slot < 256) × (o.token < 256)
 FitsStage (Receiving r) = (r.slot < 256) × (r.token < 256) × (r.next < 256 ^ 2)
 
 -- the session is offered or receiving
-abbrev pub isOpen : Stage → Bool
-isOpen Idle = false
-isOpen (Offered o) = true
-isOpen (Receiving r) = true
+abbrev pub is_open : Stage → Bool
+is_open Idle = false
+is_open (Offered o) = true
+is_open (Receiving r) = true
 
-abbrev pub isReceiving : Stage → Bool
-isReceiving Idle = false
-isReceiving (Offered o) = false
-isReceiving (Receiving r) = true
+abbrev pub is_receiving : Stage → Bool
+is_receiving Idle = false
+is_receiving (Offered o) = false
+is_receiving (Receiving r) = true
 
 -- the slot that the session is open on
-abbrev pub openSlot : Stage → Found
-openSlot Idle = found.Nothing
-openSlot (Offered o) = found.At o.slot
-openSlot (Receiving r) = found.At r.slot
+abbrev pub open_slot : Stage → Found
+open_slot Idle = found.Nothing
+open_slot (Offered o) = found.At o.slot
+open_slot (Receiving r) = found.At r.slot
 
 -- the slot of an open session
-abbrev pub atSlot : Stage → ℕ
-atSlot stage = slot_of (openSlot stage)
+abbrev pub at_slot : Stage → ℕ
+at_slot stage = slot_of (open_slot stage)
 
 -- the token of the accepted offer
-abbrev pub atToken : Stage → ℕ
-atToken Idle = 0
-atToken (Offered o) = o.token
-atToken (Receiving r) = r.token
+abbrev pub at_token : Stage → ℕ
+at_token Idle = 0
+at_token (Offered o) = o.token
+at_token (Receiving r) = r.token
 
 -- one more, with 65,535 followed by 0
 abbrev pub following : ℕ → ℕ
@@ -47,17 +47,17 @@ following sequence = (sequence + 1) % 65536
 
 -- the judgement of a block's sequence (document 02, A4): while receiving, the expected one is next, a copy of the previous packet is that block again, and any
 -- other is wrong; otherwise any is next
-abbrev pub sequenceVerdict : Stage → (copy : Bool) → (sequence : ℕ) → SequenceVerdict
-sequenceVerdict Idle copy sequence = Next
-sequenceVerdict (Offered o) copy sequence = Next
-sequenceVerdict (Receiving r) copy sequence = cond (sequence == r.next) Next (cond copy Again Wrong)
+abbrev pub sequence_verdict : Stage → (copy : Bool) → (sequence : ℕ) → SequenceVerdict
+sequence_verdict Idle copy sequence = Next
+sequence_verdict (Offered o) copy sequence = Next
+sequence_verdict (Receiving r) copy sequence = cond (sequence == r.next) Next (cond copy Again Wrong)
 
-abbrev pub isAgain : SequenceVerdict → Bool
-isAgain Next = false
-isAgain Again = true
-isAgain Wrong = false
+abbrev pub is_again : SequenceVerdict → Bool
+is_again Next = false
+is_again Again = true
+is_again Wrong = false
 
-abbrev pub isWrong : SequenceVerdict → Bool
-isWrong Next = false
-isWrong Again = false
-isWrong Wrong = true
+abbrev pub is_wrong : SequenceVerdict → Bool
+is_wrong Next = false
+is_wrong Again = false
+is_wrong Wrong = true

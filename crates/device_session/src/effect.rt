@@ -1,12 +1,12 @@
 // The session (document 01, "The device"), the one way it becomes idle, and what a packet does: what is sent after it, and the session afterwards.
 ghost use Rattle.std.specs.Prelude.{◌≡◌};
-ghost use Rattle.device_session.specs.Effect.{noReplies, inStage, owing as owingOf, idle as idleSession, answered as answeredBy, silent as silentAs};
+ghost use Rattle.device_session.specs.Effect.{no_replies, in_stage, owing as owing_of, idle as idle_session, answered as answered_by, silent as silent_as};
 
 use crate::owed::Owed;
 use crate::stage::Stage;
 use wire::codes::{LONG_SIZE, SHORT_SIZE};
 
-#[derive(Drop)]
+#[derive(Clone, Copy)]
 pub struct Session {
     pub stage: Stage,
     pub owed: Owed,
@@ -15,7 +15,7 @@ pub struct Session {
 }
 
 // What is sent after a packet: a reply where one is due (its bytes are zero where none is), then the READY that was owed, with its token.
-#[derive(Drop)]
+#[derive(Clone, Copy)]
 pub struct Replies {
     pub due: bool,
     pub reply: [u8; SHORT_SIZE],
@@ -23,7 +23,7 @@ pub struct Replies {
 }
 
 // Of a packet that no row refuses.
-#[derive(Drop)]
+#[derive(Clone, Copy)]
 pub struct Effect {
     pub replies: Replies,
     pub session: Session,
@@ -32,7 +32,7 @@ pub struct Effect {
 impl Replies {
     // Nothing is sent.
     pub fn none() -> Replies
-        ensures { result ≡ noReplies }
+        ensures { result ≡ no_replies }
     {
         Replies {
             due: false,
@@ -45,7 +45,7 @@ impl Replies {
 impl Session {
     // Nothing open, nothing owed and no packet held: the one way a session becomes idle.
     pub fn idle() -> Session
-        ensures { result ≡ idleSession }
+        ensures { result ≡ idle_session }
     {
         Session {
             stage: Stage::Idle,
@@ -56,7 +56,7 @@ impl Session {
 
     // In another stage, and the packet that it holds in it.
     pub fn in_stage(self, stage: Stage, previous: [u8; LONG_SIZE]) -> Session
-        ensures { result ≡ inStage self stage previous }
+        ensures { result ≡ in_stage self stage previous }
     {
         let owed = self.owed;
         Session {
@@ -68,7 +68,7 @@ impl Session {
 
     // With another ready-reply owed.
     pub fn owing(self, owed: Owed) -> Session
-        ensures { result ≡ owingOf self owed }
+        ensures { result ≡ owing_of self owed }
     {
         let stage = self.stage;
         let previous = self.previous;
@@ -81,7 +81,7 @@ impl Session {
 
     // One reply, and then the READY that was owed.
     pub fn answered(self, reply: [u8; SHORT_SIZE], ready: Owed) -> Effect
-        ensures { result ≡ answeredBy reply ready self }
+        ensures { result ≡ answered_by reply ready self }
     {
         let replies = Replies {
             due: true,
@@ -96,7 +96,7 @@ impl Session {
 
     // No reply now.
     pub fn silent(self) -> Effect
-        ensures { result ≡ silentAs self }
+        ensures { result ≡ silent_as self }
     {
         let replies = Replies::none();
         Effect {

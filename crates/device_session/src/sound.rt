@@ -1,6 +1,6 @@
 // Row D1 (document 01, "Numbered refusals"): what every entry of the device judges first.
 ghost use Rattle.std.specs.Prelude.{◌≡◌};
-ghost use Rattle.device_session.specs.Sound.{wrongSlot, wrongPrevious, owesOn, breaksD1};
+ghost use Rattle.device_session.specs.Sound.{wrong_slot, wrong_previous, owes_on, breaks_d1};
 
 use crate::effect::Session;
 use crate::owed::Owed;
@@ -14,7 +14,7 @@ use wire_content::head::read_head;
 
 // A ready-reply is owed while the session is idle.
 pub fn owes_on(at: Found, owed: Owed) -> bool
-    ensures { result ≡ owesOn at owed }
+    ensures { result ≡ owes_on at owed }
 {
     match at {
         Found::Nothing => owed.is_owed(),
@@ -24,7 +24,7 @@ pub fn owes_on(at: Found, owed: Owed) -> bool
 
 // The slot that the session is open on is unlisted, or its component, which is this one, is pending.
 pub fn wrong_slot(count: u8, component: Component, at: Found) -> bool
-    ensures { result ≡ wrongSlot count component at }
+    ensures { result ≡ wrong_slot count component at }
 {
     match at {
         Found::Nothing => false,
@@ -34,7 +34,7 @@ pub fn wrong_slot(count: u8, component: Component, at: Found) -> bool
 
 // Receiving, and the sequence of the previous packet is not just before the next one.
 pub fn wrong_previous(stage: Stage, previous: [u8; LONG_SIZE]) -> bool
-    ensures { result ≡ wrongPrevious stage previous }
+    ensures { result ≡ wrong_previous stage previous }
 {
     match stage {
         Stage::Idle => false,
@@ -53,7 +53,7 @@ pub fn breaks_d1(
     components: [Component; COMPONENT_LIMIT],
     session: Session,
 ) -> bool
-    ensures { result ≡ breaksD1 n count components session }
+    ensures { result ≡ breaks_d1 n count components session }
 {
     let stage = session.stage;
     let owed = session.owed;

@@ -1,18 +1,18 @@
 // The stage of a session (document 01, "The device"): idle, offered or receiving, with its own data.
 ghost use Rattle.std.specs.Prelude.{◌≡◌};
-ghost use Rattle.device_session.specs.Stage.{isOpen, openSlot, atSlot, atToken, isReceiving, sequenceVerdict, isAgain, isWrong};
+ghost use Rattle.device_session.specs.Stage.{is_open, open_slot, at_slot, at_token, is_receiving, sequence_verdict, is_again, is_wrong};
 
 use device_component::list::Found;
 
 // An offer was accepted for the component in this slot.
-#[derive(Drop)]
+#[derive(Clone, Copy)]
 pub struct Offered {
     pub slot: u8,
     pub token: u8,
 }
 
 // Blocks of its image have come, and this sequence is next.
-#[derive(Drop)]
+#[derive(Clone, Copy)]
 pub struct Receiving {
     pub slot: u8,
     pub token: u8,
@@ -20,7 +20,7 @@ pub struct Receiving {
 }
 
 // Each event writes it anew.
-#[derive(Drop)]
+#[derive(Clone, Copy)]
 pub enum Stage {
     Idle,
     Offered(Offered),
@@ -28,7 +28,7 @@ pub enum Stage {
 }
 
 // Of a block's sequence (document 02, A4): the next one, the block just taken sent again, or wrong.
-#[derive(Drop)]
+#[derive(Clone, Copy)]
 pub enum SequenceVerdict {
     Next,
     Again,
@@ -37,7 +37,7 @@ pub enum SequenceVerdict {
 
 impl SequenceVerdict {
     pub fn is_again(self) -> bool
-        ensures { result ≡ isAgain self }
+        ensures { result ≡ is_again self }
     {
         match self {
             SequenceVerdict::Next => false,
@@ -47,7 +47,7 @@ impl SequenceVerdict {
     }
 
     pub fn is_wrong(self) -> bool
-        ensures { result ≡ isWrong self }
+        ensures { result ≡ is_wrong self }
     {
         match self {
             SequenceVerdict::Next => false,
@@ -60,7 +60,7 @@ impl SequenceVerdict {
 impl Stage {
     // Offered or receiving.
     pub fn is_open(self) -> bool
-        ensures { result ≡ isOpen self }
+        ensures { result ≡ is_open self }
     {
         match self {
             Stage::Idle => false,
@@ -71,7 +71,7 @@ impl Stage {
 
     // The slot that the session is open on.
     pub fn open_slot(self) -> Found
-        ensures { result ≡ openSlot self }
+        ensures { result ≡ open_slot self }
     {
         match self {
             Stage::Idle => Found::Nothing,
@@ -82,7 +82,7 @@ impl Stage {
 
     // That slot, and 0 while idle.
     pub fn slot(self) -> u8
-        ensures { result ≡ atSlot self }
+        ensures { result ≡ at_slot self }
     {
         match self {
             Stage::Idle => 0,
@@ -93,7 +93,7 @@ impl Stage {
 
     // The token of the accepted offer, and 0 while idle.
     pub fn token(self) -> u8
-        ensures { result ≡ atToken self }
+        ensures { result ≡ at_token self }
     {
         match self {
             Stage::Idle => 0,
@@ -103,7 +103,7 @@ impl Stage {
     }
 
     pub fn is_receiving(self) -> bool
-        ensures { result ≡ isReceiving self }
+        ensures { result ≡ is_receiving self }
     {
         match self {
             Stage::Idle => false,
@@ -114,7 +114,7 @@ impl Stage {
 
     // While receiving, the expected sequence is next, a copy of the previous packet is that block again, and any other is wrong; otherwise any is next.
     pub fn sequence_verdict(self, copy: bool, sequence: u16) -> SequenceVerdict
-        ensures { result ≡ sequenceVerdict self copy sequence }
+        ensures { result ≡ sequence_verdict self copy sequence }
     {
         match self {
             Stage::Idle => SequenceVerdict::Next,

@@ -2,78 +2,78 @@
 -- (document 02, A4). What is read stands in bytes that start at the session.
 use Rattle.std.specs.Prelude.{ℕ, ◌+◌, Bool, cond, ◌&&◌, List, [], ◌∷◌, ◌++◌, eqb, leb, length, get_or, take, drop}
 use Rattle.wire.specs.Bytes.{number, bytes_of, bytes_at}
-use Rattle.wire.specs.Codes.{LONG-SIZE}
+use Rattle.wire.specs.Codes.{long_size}
 use Rattle.device_session.specs.declared.stage.Stage.{Stage}
 use Rattle.device_session.specs.declared.stage.Stage.TheVariants.{Idle, Offered, Receiving}
 use Rattle.device_session.specs.declared.owed.Owed.{Owed}
 use Rattle.device_session.specs.declared.owed.Owed.TheVariants.{Nothing, Token}
 use Rattle.device_session.specs.declared.effect.Session.{Session}
-use Rattle.device_session.specs.Effect.{blankPacket}
+use Rattle.device_session.specs.Effect.{blank_packet}
 
 -- where the parts of a stage stand behind its number: the slot, the token, the next sequence; and its length
-abbrev pub SLOT-AT : ℕ
-SLOT-AT = 1
+abbrev pub slot_at : ℕ
+slot_at = 1
 
-abbrev pub TOKEN-AT : ℕ
-TOKEN-AT = SLOT-AT + 1
+abbrev pub token_at : ℕ
+token_at = slot_at + 1
 
-abbrev pub NEXT-AT : ℕ
-NEXT-AT = TOKEN-AT + 1
+abbrev pub next_offset : ℕ
+next_offset = token_at + 1
 
-abbrev pub STAGE-SIZE : ℕ
-STAGE-SIZE = NEXT-AT + 2
+abbrev pub stage_size : ℕ
+stage_size = next_offset + 2
 
 -- where what is owed stands behind the stage, and its token, and its length; where the previous packet stands behind that; and the length of the session
-abbrev pub OWED-AT : ℕ
-OWED-AT = STAGE-SIZE
+abbrev pub owed_at : ℕ
+owed_at = stage_size
 
-abbrev pub OWED-TOKEN-AT : ℕ
-OWED-TOKEN-AT = OWED-AT + 1
+abbrev pub owed_token_at : ℕ
+owed_token_at = owed_at + 1
 
-abbrev pub OWED-SIZE : ℕ
-OWED-SIZE = 1 + 1
+abbrev pub owed_size : ℕ
+owed_size = 1 + 1
 
-abbrev pub PREVIOUS-AT : ℕ
-PREVIOUS-AT = OWED-AT + OWED-SIZE
+abbrev pub previous_at : ℕ
+previous_at = owed_at + owed_size
 
-abbrev pub SESSION-SIZE : ℕ
-SESSION-SIZE = PREVIOUS-AT + LONG-SIZE
+abbrev pub session_size : ℕ
+session_size = previous_at + long_size
 
 -- the stage (0 idle, 1 offered, 2 receiving), the slot, the token, the next sequence; zero where the stage has none
-abbrev pub stageBytes : Stage → List ℕ
-stageBytes Idle = 0 ∷ 0 ∷ 0 ∷ bytes_of 2 0
-stageBytes (Offered o) = 1 ∷ o.slot ∷ o.token ∷ bytes_of 2 0
-stageBytes (Receiving r) = 2 ∷ r.slot ∷ r.token ∷ bytes_of 2 r.next
+abbrev pub stage_bytes : Stage → List ℕ
+stage_bytes Idle = 0 ∷ 0 ∷ 0 ∷ bytes_of 2 0
+stage_bytes (Offered o) = 1 ∷ o.slot ∷ o.token ∷ bytes_of 2 0
+stage_bytes (Receiving r) = 2 ∷ r.slot ∷ r.token ∷ bytes_of 2 r.next
 
 -- 0 nothing owed, or 1, and the token
-abbrev pub owedBytes : Owed → List ℕ
-owedBytes Nothing = 0 ∷ 0 ∷ []
-owedBytes (Token t) = 1 ∷ t ∷ []
+abbrev pub owed_bytes : Owed → List ℕ
+owed_bytes Nothing = 0 ∷ 0 ∷ []
+owed_bytes (Token t) = 1 ∷ t ∷ []
 
 -- a session: the stage, what is owed, and the previous packet as it stands
-abbrev pub sessionBytes : Session → List ℕ
-sessionBytes s = stageBytes s.stage ++ (owedBytes s.owed ++ s.previous)
+abbrev pub session_bytes : Session → List ℕ
+session_bytes s = stage_bytes s.stage ++ (owed_bytes s.owed ++ s.previous)
 
 -- the parts that stand in bytes, unjudged; bytes that a flag rules out are not looked at
-abbrev pub stageIn : (stage slot token next : ℕ) → Stage
-stageIn stage slot token next =
+abbrev pub stage_in : (stage slot token next : ℕ) → Stage
+stage_in stage slot token next =
     cond (eqb stage 1) (Offered (record { slot = slot; token = token }))
     (cond (eqb stage 2) (Receiving (record { slot = slot; token = token; next = next })) Idle)
 
-abbrev pub owedIn : (owed token : ℕ) → Owed
-owedIn owed token = cond (eqb owed 1) (Token token) Nothing
+abbrev pub owed_in : (owed token : ℕ) → Owed
+owed_in owed token = cond (eqb owed 1) (Token token) Nothing
 
 -- the previous packet, in whatever stage; bytes too short for it are read as no packet
-abbrev pub previousIn : List ℕ → List ℕ
-previousIn q = cond (leb SESSION-SIZE (length q)) (take LONG-SIZE (drop PREVIOUS-AT q)) blankPacket
+abbrev pub previous_in : List ℕ → List ℕ
+previous_in q = cond (leb session_size (length q)) (take long_size (drop previous_at q)) blank_packet
 
-abbrev pub sessionIn : List ℕ → Session
-sessionIn q = record {
-  stage = stageIn (get_or q 0 0) (get_or q SLOT-AT 0) (get_or q TOKEN-AT 0) (number (bytes_at 2 NEXT-AT q));
-  owed = owedIn (get_or q OWED-AT 0) (get_or q OWED-TOKEN-AT 0);
-  previous = previousIn q;
+abbrev pub session_in : List ℕ → Session
+session_in q = record {
+  stage = stage_in (get_or q 0 0) (get_or q slot_at 0) (get_or q token_at 0) (number (bytes_at 2 next_offset q));
+  owed = owed_in (get_or q owed_at 0) (get_or q owed_token_at 0);
+  previous = previous_in q;
 }
 
 -- the flags are such as a session has: the stage at most 2, owed at most 1
-abbrev pub sessionFlagsFit : List ℕ → Bool
-sessionFlagsFit q = leb (get_or q 0 0) 2 && leb (get_or q OWED-AT 0) 1
+abbrev pub session_flags_fit : List ℕ → Bool
+session_flags_fit q = leb (get_or q 0 0) 2 && leb (get_or q owed_at 0) 1

@@ -1,7 +1,9 @@
 // The session of a device as bytes: the stage, the ready-reply that is owed, and the previous packet. What is read stands in bytes that start at the session;
 // past their end a byte is 0.
+#![tactic(auto)]
+
 ghost use Rattle.std.specs.Prelude.{◌≡◌};
-ghost use Rattle.device_session_bytes.specs.Layout.{stageBytes, owedBytes, sessionBytes, stageIn, owedIn, previousIn, sessionIn, sessionFlagsFit};
+ghost use Rattle.device_session_bytes.specs.Layout.{stage_bytes, owed_bytes, session_bytes, stage_in, owed_in, previous_in, session_in, session_flags_fit};
 
 use device_session::effect::Session;
 use device_session::owed::Owed;
@@ -30,7 +32,7 @@ pub const PREVIOUS_AT: usize = OWED_AT + OWED_SIZE;
 pub const SESSION_SIZE: usize = PREVIOUS_AT + LONG_SIZE;
 
 fn stage_bytes(stage: Stage) -> [u8; STAGE_SIZE]
-    ensures { result ≡ stageBytes stage }
+    ensures { result ≡ stage_bytes stage }
 {
     match stage {
         Stage::Idle => [0u8; STAGE_SIZE],
@@ -43,7 +45,7 @@ fn stage_bytes(stage: Stage) -> [u8; STAGE_SIZE]
 }
 
 fn owed_bytes(owed: Owed) -> [u8; OWED_SIZE]
-    ensures { result ≡ owedBytes owed }
+    ensures { result ≡ owed_bytes owed }
 {
     match owed {
         Owed::Nothing => [0u8; OWED_SIZE],
@@ -52,7 +54,7 @@ fn owed_bytes(owed: Owed) -> [u8; OWED_SIZE]
 }
 
 pub fn session_bytes(session: Session) -> [u8; SESSION_SIZE]
-    ensures { result ≡ sessionBytes session }
+    ensures { result ≡ session_bytes session }
 {
     let stage = session.stage;
     let owed = session.owed;
@@ -67,7 +69,7 @@ pub fn session_bytes(session: Session) -> [u8; SESSION_SIZE]
 }
 
 fn stage_in(stage: u8, slot: u8, token: u8, next: u16) -> Stage
-    ensures { result ≡ stageIn stage slot token next }
+    ensures { result ≡ stage_in stage slot token next }
 {
     if stage == 1 {
         return Stage::Offered(Offered { slot, token });
@@ -79,7 +81,7 @@ fn stage_in(stage: u8, slot: u8, token: u8, next: u16) -> Stage
 }
 
 fn owed_in(owed: u8, token: u8) -> Owed
-    ensures { result ≡ owedIn owed token }
+    ensures { result ≡ owed_in owed token }
 {
     if owed == 1 {
         Owed::Token(token)
@@ -90,7 +92,7 @@ fn owed_in(owed: u8, token: u8) -> Owed
 
 // The previous packet, in whatever stage; bytes too short for it are read as no packet.
 fn previous_in(q: &[u8]) -> [u8; LONG_SIZE]
-    ensures { result ≡ previousIn q.now }
+    ensures { result ≡ previous_in q.now }
 {
     let mut previous = [0u8; LONG_SIZE];
     if SESSION_SIZE <= q.len() {
@@ -101,7 +103,7 @@ fn previous_in(q: &[u8]) -> [u8; LONG_SIZE]
 
 // The session, unjudged.
 pub fn session_in(q: &[u8]) -> Session
-    ensures { result ≡ sessionIn q.now }
+    ensures { result ≡ session_in q.now }
 {
     let stage = stage_in(
         words::byte_at(q, 0),
@@ -120,7 +122,7 @@ pub fn session_in(q: &[u8]) -> Session
 
 // The flags are such as a session has.
 pub fn session_flags_fit(q: &[u8]) -> bool
-    ensures { result ≡ sessionFlagsFit q.now }
+    ensures { result ≡ session_flags_fit q.now }
 {
     (words::byte_at(q, 0) <= 2) & (words::byte_at(q, OWED_AT) <= 1)
 }

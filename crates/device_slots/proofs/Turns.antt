@@ -21,11 +21,11 @@ module _ {A B : Type 0} (f : A → B) (l : List A) (o : List B) where
     turn z w x e =
         let k : i < length o = omega arith in
         rw (add-one, drop-cons o i w k, set_at (map f (take i l)) (get_or o i w) (drop (suc i) o) x i front_length, take-suc l i z h, map-append f (take i l) (get_or l i z ∷ []), e)
-        (sym-snoc (map f (take i l)) (f (get_or l i z)) (drop (suc i) o))
+        (sym_snoc (map f (take i l)) (f (get_or l i z)) (drop (suc i) o))
       where
-        sym-snoc : (xs : List B) (a : B) (ys : List B) → xs ++ a ∷ ys ≡ (xs ++ (a ∷ [])) ++ ys
-        sym-snoc [] a ys = refl
-        sym-snoc (x ∷ xs) a ys = ap (λ (t : List B). x ∷ t) (sym-snoc xs a ys)
+        sym_snoc : (xs : List B) (a : B) (ys : List B) → xs ++ a ∷ ys ≡ (xs ++ (a ∷ [])) ++ ys
+        sym_snoc [] a ys = refl
+        sym_snoc (x ∷ xs) a ys = ap (λ (t : List B). x ∷ t) (sym_snoc xs a ys)
 
     -- a place whose turn has not come is as it was
     pub still : (w : B) → get_or (turned i) i w ≡ get_or o i w
@@ -34,8 +34,8 @@ module _ {A B : Type 0} (f : A → B) (l : List A) (o : List B) where
         rw (drop-cons o i w k) (get_or_at (map f (take i l)) (get_or o i w) (drop (suc i) o) w i front_length)
 
   -- at the end
-  pub all-turned : length l ≡ length o → (i : ℕ) → i ≡ length l → turned i ≡ map f l
-  all-turned same i e = rw (take_all i l (omega arith), drop_of_length-le o {i = i} (omega arith), append-nil)
+  pub all_turned : length l ≡ length o → (i : ℕ) → i ≡ length l → turned i ≡ map f l
+  all_turned same i e = rw (take_all i l (omega arith), drop_of_length-le o {i = i} (omega arith), append-nil)
 
 module _ {A : Type 0} where
   -- as many of the first n as there are
@@ -50,5 +50,5 @@ module _ {A : Type 0} where
   back (suc n) (x ∷ l) = back n l
 
   -- the first n are done after as many turns as there are of them
-  pub first-turned : (f : A → A) (l : List A) (n i : ℕ) → i ≡ length (take n l) → turned f l l i ≡ turned f l l n
-  first-turned f l n i e = rw (e, front n l, back n l)
+  pub first_turned : (f : A → A) (l : List A) (n i : ℕ) → i ≡ length (take n l) → turned f l l i ≡ turned f l l n
+  first_turned f l n i e = rw (e, front n l, back n l)

@@ -1,7 +1,7 @@
 -- The slots for components (document 01, "The device"): where one was found, all of them after a reset and in the version reply.
 use Rattle.std.specs.Prelude.{ℕ, Bool, true, false, List, ◌++◌, map, take, drop}
 use Rattle.wire_version.specs.declared.Running.{Running}
-use Rattle.device_component.specs.Record.{afterReset}
+use Rattle.device_component.specs.Record.{after_reset}
 use Rattle.device_component.specs.declared.record.Component.{Component}
 use Rattle.device_component.specs.declared.list.Found.{Found}
 use Rattle.device_component.specs.declared.list.Found.TheVariants.{Nothing, At}
@@ -11,14 +11,14 @@ abbrev pub slot_of : Found → ℕ
 slot_of Nothing = 0
 slot_of (At k) = k
 
-abbrev pub isAbsent : Found → Bool
-isAbsent Nothing = true
-isAbsent (At k) = false
+abbrev pub is_absent : Found → Bool
+is_absent Nothing = true
+is_absent (At k) = false
 
 -- the components after a reset; slots at or past the count stay
-abbrev pub resetComponents : ℕ → List Component → List Component
-resetComponents count components = map afterReset (take count components) ++ drop count components
+abbrev pub reset_components : ℕ → List Component → List Component
+reset_components count components = map after_reset (take count components) ++ drop count components
 
 -- a component in the version reply: its running version, with the device's platform
-abbrev pub runningOf : (platform : ℕ) → Component → Running
-runningOf platform c = record { version = c.running; id = c.fixed.id; platform = platform }
+abbrev pub running_of : (platform : ℕ) → Component → Running
+running_of platform c = record { version = c.running; id = c.fixed.id; platform = platform }

@@ -1,7 +1,7 @@
 // The components of all slots (document 01, "The device"): as they are listed, after a reset, and in the version reply.
 ghost use Rattle.std.specs.Prelude.{◌≡◌, map};
 ghost use Rattle.device_component.specs.Record.{listed};
-ghost use Rattle.device_slots.specs.Slots.{resetComponents, runningOf};
+ghost use Rattle.device_slots.specs.Slots.{reset_components, running_of};
 
 use device_component::list::within_slots;
 use device_component::record::{Component, Listed, blank_component};
@@ -28,7 +28,7 @@ pub fn reset_components(
     mut components: [Component; COMPONENT_LIMIT],
     count: u8,
 ) -> [Component; COMPONENT_LIMIT]
-    ensures { result ≡ resetComponents count components }
+    ensures { result ≡ reset_components count components }
 {
     let n = within_slots(count) as usize;
     let mut i: usize = 0;
@@ -42,7 +42,7 @@ pub fn reset_components(
 
 // A component in the version reply: its running version, with the device's platform.
 fn running(platform: u16, component: Component) -> Running
-    ensures { result ≡ runningOf platform component }
+    ensures { result ≡ running_of platform component }
 {
     let version = component.running;
     Running {
@@ -56,7 +56,7 @@ pub fn all_running(
     platform: u16,
     components: [Component; COMPONENT_LIMIT],
 ) -> [Running; COMPONENT_LIMIT]
-    ensures { result ≡ map (runningOf platform) components }
+    ensures { result ≡ map (running_of platform) components }
 {
     let none = no_component();
     let mut all = [none; COMPONENT_LIMIT];

@@ -1,7 +1,7 @@
 // The component in a slot (document 01, "The device").
 ghost use Rattle.std.specs.Prelude.{◌≡◌, set};
-ghost use Rattle.device_component.specs.Lists.{componentAt};
-ghost use Rattle.device_slots.specs.Slots.{slot_of, isAbsent};
+ghost use Rattle.device_component.specs.Lists.{component_at};
+ghost use Rattle.device_slots.specs.Slots.{slot_of, is_absent};
 
 use device_component::list::Found;
 use device_component::record::{Component, blank_component};
@@ -9,7 +9,7 @@ use wire::codes::COMPONENT_LIMIT;
 
 // The component in a slot; past the last slot there is none.
 pub fn component_at(components: [Component; COMPONENT_LIMIT], slot: u8) -> Component
-    ensures { result ≡ componentAt components slot }
+    ensures { result ≡ component_at components slot }
 {
     let at = slot as usize;
     if at < COMPONENT_LIMIT {
@@ -45,7 +45,7 @@ pub fn slot_of(f: Found) -> u8
 }
 
 pub fn is_absent(f: Found) -> bool
-    ensures { result ≡ isAbsent f }
+    ensures { result ≡ is_absent f }
 {
     match f {
         Found::Nothing => true,

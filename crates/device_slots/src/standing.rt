@@ -1,13 +1,13 @@
 // A component by its id: where it stands among those in use, and what it is.
 ghost use Rattle.std.specs.Prelude.{◌≡◌};
-ghost use Rattle.device_slots.specs.Standing.{standingOf};
+ghost use Rattle.device_slots.specs.Standing.{standing_of};
 
 use crate::slot::{component_at, slot_of};
 use device_component::list::{Found, find};
 use device_component::record::Component;
 use wire::codes::COMPONENT_LIMIT;
 
-#[derive(Drop)]
+#[derive(Clone, Copy)]
 pub struct Standing {
     pub at: Found,
     // Of an id that none has, the component in slot 0.
@@ -15,7 +15,7 @@ pub struct Standing {
 }
 
 pub fn standing_of(components: [Component; COMPONENT_LIMIT], count: u8, id: u8) -> Standing
-    ensures { result ≡ standingOf id count components }
+    ensures { result ≡ standing_of id count components }
 {
     let at = find(components, count, id);
     let component = component_at(components, slot_of(at));

@@ -31,9 +31,9 @@ abbrev then : {X Y : Type 0} → Option X → (X → Option Y) → Option Y
 then none k = none
 then (some x) k = k x
 
-abbrev where-so : {X : Type 0} → Bool → X → Option X
-where-so true x = some x
-where-so false x = none
+abbrev where_so : {X : Type 0} → Bool → X → Option X
+where_so true x = some x
+where_so false x = none
 
 -- a struct's fields' types, and a struct's fields
 abbrev types_of : Ty → Option (Sym × Tys)
@@ -63,17 +63,17 @@ part (field k ∷ st) τ o v = then (types_of τ) (λ s. then (fields_of v) (λ 
 part (deref π ∷ st) τ o v = none
 part (variant k ∷ st) τ o v = none
 
-abbrev this-or : Bool → Known → Option Known → Option Known
-this-or true k rest = some k
-this-or false k rest = rest
+abbrev this_or : Bool → Known → Option Known → Option Known
+this_or true k rest = some k
+this_or false k rest = rest
 
 abbrev find : List Known → ℕ → Option Known
 find [] i = none
-find (k ∷ ks) i = this-or (eqb k.index i) k (find ks i)
+find (k ∷ ks) i = this_or (eqb k.index i) k (find ks i)
 
 abbrev operand : List Known → Operand → Option Val
 operand ks (copy (place i st)) = then (find ks i) (λ k. then (part st k.type zero k.value) (λ r. some r.2))
-operand ks (int w n) = where-so (ltb n (2 ^ bits w)) (vint w n)
+operand ks (int w n) = where_so (ltb n (2 ^ bits w)) (vint w n)
 operand ks (int_neg w n) = none
 operand ks (int_big w n) = none
 operand ks (float f n) = none
@@ -96,9 +96,9 @@ right ks (addr_of p) = none
 right ks (repeat x n) = none
 
 -- ---- some is not none, and is one to one
-abbrev or-default : {X : Type 0} → X → Option X → X
-or-default d none = d
-or-default d (some x) = x
+abbrev or_default : {X : Type 0} → X → Option X → X
+or_default d none = d
+or_default d (some x) = x
 
 abbrev IsSome : {X : Type 0} → Option X → Type 0
 IsSome none = ⊥
@@ -108,31 +108,31 @@ not_none {ℓ} : {X : Type 0} {Y : Type ℓ} {x : X} → none ≡ some x → Y
 not_none e = absurd (subst IsSome (sym e) tt)
 
 same : {X : Type 0} {x y : X} → some x ≡ some y → x ≡ y
-same {X} {x} e = ap (or-default x) e
+same {X} {x} e = ap (or_default x) e
 
 after {ℓ} : {X Y : Type 0} {R : Type ℓ} (m : Option X) (k : X → Option Y) {y : Y} → then m k ≡ some y → ((x : X) → m ≡ some x → k x ≡ some y → R) → R
 after none k e go = not_none e
 after (some x) k e go = go x refl e
 
-is-struct : (τ : Ty) {s : Sym × Tys} → types_of τ ≡ some s → τ ≡ ty_struct s.0 s.1
-is-struct (ty_int w) e = not_none e
-is-struct ty_bool e = not_none e
-is-struct (ty_float f) e = not_none e
-is-struct ty_ptr e = not_none e
-is-struct (ty_ref κ μ τ) e = not_none e
-is-struct (ty_array τ n) e = not_none e
-is-struct ty_unit e = not_none e
-is-struct (ty_struct ν τs) e = ap (λ (s : Sym × Tys). ty_struct s.0 s.1) (same e)
-is-struct (ty_enum ν τss) e = not_none e
-is-struct (ty_named ν) e = not_none e
+is_struct : (τ : Ty) {s : Sym × Tys} → types_of τ ≡ some s → τ ≡ ty_struct s.0 s.1
+is_struct (ty_int w) e = not_none e
+is_struct ty_bool e = not_none e
+is_struct (ty_float f) e = not_none e
+is_struct ty_ptr e = not_none e
+is_struct (ty_ref κ μ τ) e = not_none e
+is_struct (ty_array τ n) e = not_none e
+is_struct ty_unit e = not_none e
+is_struct (ty_struct ν τs) e = ap (λ (s : Sym × Tys). ty_struct s.0 s.1) (same e)
+is_struct (ty_enum ν τss) e = not_none e
+is_struct (ty_named ν) e = not_none e
 
-is-fields : (v : Val) {vs : Vals} → fields_of v ≡ some vs → v ≡ vstruct vs
-is-fields vunit e = not_none e
-is-fields (vbool t) e = not_none e
-is-fields (vint w n) e = not_none e
-is-fields (vfloat f x) e = not_none e
-is-fields (vptr b o) e = not_none e
-is-fields (vstruct vs) e = ap vstruct (same e)
+is_fields : (v : Val) {vs : Vals} → fields_of v ≡ some vs → v ≡ vstruct vs
+is_fields vunit e = not_none e
+is_fields (vbool t) e = not_none e
+is_fields (vint w n) e = not_none e
+is_fields (vfloat f x) e = not_none e
+is_fields (vptr b o) e = not_none e
+is_fields (vstruct vs) e = ap vstruct (same e)
 
 module _ {M : Type 1} {𝓤 : Ura M} (𝓛 : Logic 𝓤) (E : Env 𝓤 𝓛.H) (Γ : List (Item 𝓤)) where
   -- each local is the environment's, and its cell stands in the context
@@ -150,7 +150,7 @@ module _ {M : Type 1} {𝓤 : Ura M} (𝓛 : Logic 𝓤) (E : Env 𝓤 𝓛.H) (
   found [] st i e = not_none e
   found (k' ∷ ks) st i {k} e = chosen (eqb k'.index i) (eqb→eq k'.index i) e (λ e'. found ks st.1.1 i e')
     where
-      chosen : (t : Bool) → (T t → k'.index ≡ i) → this-or t k' (find ks i) ≡ some k → (find ks i ≡ some k → Cell i k) → Cell i k
+      chosen : (t : Bool) → (T t → k'.index ≡ i) → this_or t k' (find ks i) ≡ some k → (find ks i ≡ some k → Cell i k) → Cell i k
       chosen true is e' later = subst (Cell i) (same e') (subst (λ (j : ℕ). Cell j k') (is tt) (st.0, st.1.0))
       chosen false is e' later = later e'
 
@@ -167,7 +167,7 @@ module _ {M : Type 1} {𝓤 : Ura M} (𝓛 : Logic 𝓤) (K : Type 0) (E : Env �
       after (types_of τ) (λ s. then (fields_of v) (λ vs. then (field_at zero s.1 k) (λ f. part st f.0 (o + f.1) (get_v vs k)))) e (λ s e₁ a.
       after (fields_of v) (λ vs. then (field_at zero s.1 k) (λ f. part st f.0 (o + f.1) (get_v vs k))) a (λ vs e₂ c.
       after (field_at zero s.1 k) (λ f. part st f.0 (o + f.1) (get_v vs k)) c (λ f e₃ d.
-      into s.0 s.1 vs f (is-struct τ e₁) (is-fields v e₂) e₃ (λ back' p'. goes t st f.0 (o + f.1) (get_v vs k) d j q b back' p'))))
+      into s.0 s.1 vs f (is_struct τ e₁) (is_fields v e₂) e₃ (λ back' p'. goes t st f.0 (o + f.1) (get_v vs k) d j q b back' p'))))
     where
       into : (ν : Sym) (τs : Tys) (vs : Vals) (f : Ty × ℕ) → τ ≡ ty_struct ν τs → v ≡ vstruct vs → field_at zero τs k ≡ some f → ((back' : Val → Item 𝓤) → Part K 𝓛 j q f.0 b (o + f.1) (get_v vs k) back' → Found j q b f.0 (o + f.1) st r) → Found j q b τ o (field k ∷ st) r
       into ν τs vs f is-τ is-v at-k go =
@@ -191,7 +191,7 @@ module _ {M : Type 1} {𝓤 : Ura M} (𝓛 : Logic 𝓤) (K : Type 0) (E : Env �
     one t (copy (place i st)) e = reads t i st e
     one t (int w n) {v} e = small (ltb n (2 ^ bits w)) (λ z. z) e
       where
-        small : (y : Bool) → (T y → T (ltb n (2 ^ bits w))) → where-so y (vint w n) ≡ some v → Opd K 𝓛 Γ E (int w n) v
+        small : (y : Bool) → (T y → T (ltb n (2 ^ bits w))) → where_so y (vint w n) ≡ some v → Opd K 𝓛 Γ E (int w n) v
         small true is e' = subst (Opd K 𝓛 Γ E (int w n)) (same e') (lit t (is tt))
         small false is e' = not_none e'
     one t (int_neg w n) e = not_none e

@@ -26,22 +26,22 @@ module _ {M : Type 1} {𝓤 : Ura M} {𝓛 : Logic 𝓤} {K : Type 0} {Γ : List
   -- nine locals are made: the last one's room stands first
   open 𝓛 use {H}
 
-  pub alloc-nine : K → {τ₀ τ₁ τ₂ τ₃ τ₄ τ₅ τ₆ τ₇ τ₈ : Ty} {h₀ h₁ h₂ h₃ h₄ h₅ h₆ h₇ h₈ : Home} {Kt : Env 𝓤 H → Goal 𝓤 H}
+  pub alloc_nine : K → {τ₀ τ₁ τ₂ τ₃ τ₄ τ₅ τ₆ τ₇ τ₈ : Ty} {h₀ h₁ h₂ h₃ h₄ h₅ h₆ h₇ h₈ : Home} {Kt : Env 𝓤 H → Goal 𝓤 H}
       → ((l₀ l₁ l₂ l₃ l₄ l₅ l₆ l₇ l₈ : ℕ) → Seq K 𝓛 (‵ (froom τ₈ l₈ zero) ∷ ‵ (fdies τ₈ l₈) ∷ ‵ (froom τ₇ l₇ zero) ∷ ‵ (fdies τ₇ l₇) ∷ ‵ (froom τ₆ l₆ zero) ∷ ‵ (fdies τ₆ l₆) ∷ ‵ (froom τ₅ l₅ zero) ∷ ‵ (fdies τ₅ l₅) ∷ ‵ (froom τ₄ l₄ zero) ∷ ‵ (fdies τ₄ l₄) ∷ ‵ (froom τ₃ l₃ zero) ∷ ‵ (fdies τ₃ l₃) ∷ ‵ (froom τ₂ l₂ zero) ∷ ‵ (fdies τ₂ l₂) ∷ ‵ (froom τ₁ l₁ zero) ∷ ‵ (fdies τ₁ l₁) ∷ ‵ (froom τ₀ l₀ zero) ∷ ‵ (fdies τ₀ l₀) ∷ Γ) (Kt ((τ₀, l₀) ∷ (τ₁, l₁) ∷ (τ₂, l₂) ∷ (τ₃, l₃) ∷ (τ₄, l₄) ∷ (τ₅, l₅) ∷ (τ₆, l₆) ∷ (τ₇, l₇) ∷ (τ₈, l₈) ∷ [])))
       → Seq K 𝓛 Γ (allocs (local τ₀ h₀ ∷ local τ₁ h₁ ∷ local τ₂ h₂ ∷ local τ₃ h₃ ∷ local τ₄ h₄ ∷ local τ₅ h₅ ∷ local τ₆ h₆ ∷ local τ₇ h₇ ∷ local τ₈ h₈ ∷ []) Kt)
-  alloc-nine t k = alloc1 t (λ l₀. alloc1 t (λ l₁. alloc1 t (λ l₂. alloc1 t (λ l₃. alloc1 t (λ l₄. alloc1 t (λ l₅. alloc1 t (λ l₆. alloc1 t (λ l₇. alloc1 t (λ l₈. alloc0 t $ k l₀ l₁ l₂ l₃ l₄ l₅ l₆ l₇ l₈)))))))))
+  alloc_nine t k = alloc1 t (λ l₀. alloc1 t (λ l₁. alloc1 t (λ l₂. alloc1 t (λ l₃. alloc1 t (λ l₄. alloc1 t (λ l₅. alloc1 t (λ l₆. alloc1 t (λ l₇. alloc1 t (λ l₈. alloc0 t $ k l₀ l₁ l₂ l₃ l₄ l₅ l₆ l₇ l₈)))))))))
 
 module _ {M : Type 1} {𝓤 : Ura M} {𝓛 : Logic 𝓤} {K : Type 0} where
   -- a local is freed, whatever it holds
   open 𝓛 use {H}
 
-  pub free-cell : K → {Γ : List (Item 𝓤)} {τ : Ty} {l : ℕ} {v : Val} {E : Env 𝓤 H} {g : Goal 𝓤 H} → Step K 𝓛 Γ (frees E g) (‵ (fat full_share τ l zero v) ∷ ‵ (fdies τ l) ∷ Γ) (frees ((τ, l) ∷ E) g)
-  free-cell t = step (λ s. forget t 0 refl $ free1 t $ s)
+  pub free_cell : K → {Γ : List (Item 𝓤)} {τ : Ty} {l : ℕ} {v : Val} {E : Env 𝓤 H} {g : Goal 𝓤 H} → Step K 𝓛 Γ (frees E g) (‵ (fat full_share τ l zero v) ∷ ‵ (fdies τ l) ∷ Γ) (frees ((τ, l) ∷ E) g)
+  free_cell t = step (λ s. forget t 0 refl $ free1 t $ s)
 
   -- nine locals are freed: the first one's cell stands first
-  pub free-nine : K → {Γ : List (Item 𝓤)} {τ₀ τ₁ τ₂ τ₃ τ₄ τ₅ τ₆ τ₇ τ₈ : Ty} {l₀ l₁ l₂ l₃ l₄ l₅ l₆ l₇ l₈ : ℕ} {v₀ v₁ v₂ v₃ v₄ v₅ v₆ v₇ v₈ : Val} {E : Env 𝓤 H} {g : Goal 𝓤 H}
+  pub free_nine : K → {Γ : List (Item 𝓤)} {τ₀ τ₁ τ₂ τ₃ τ₄ τ₅ τ₆ τ₇ τ₈ : Ty} {l₀ l₁ l₂ l₃ l₄ l₅ l₆ l₇ l₈ : ℕ} {v₀ v₁ v₂ v₃ v₄ v₅ v₆ v₇ v₈ : Val} {E : Env 𝓤 H} {g : Goal 𝓤 H}
       → Step K 𝓛 Γ (frees E g) (‵ (fat full_share τ₀ l₀ zero v₀) ∷ ‵ (fdies τ₀ l₀) ∷ ‵ (fat full_share τ₁ l₁ zero v₁) ∷ ‵ (fdies τ₁ l₁) ∷ ‵ (fat full_share τ₂ l₂ zero v₂) ∷ ‵ (fdies τ₂ l₂) ∷ ‵ (fat full_share τ₃ l₃ zero v₃) ∷ ‵ (fdies τ₃ l₃) ∷ ‵ (fat full_share τ₄ l₄ zero v₄) ∷ ‵ (fdies τ₄ l₄) ∷ ‵ (fat full_share τ₅ l₅ zero v₅) ∷ ‵ (fdies τ₅ l₅) ∷ ‵ (fat full_share τ₆ l₆ zero v₆) ∷ ‵ (fdies τ₆ l₆) ∷ ‵ (fat full_share τ₇ l₇ zero v₇) ∷ ‵ (fdies τ₇ l₇) ∷ ‵ (fat full_share τ₈ l₈ zero v₈) ∷ ‵ (fdies τ₈ l₈) ∷ Γ) (frees ((τ₀, l₀) ∷ (τ₁, l₁) ∷ (τ₂, l₂) ∷ (τ₃, l₃) ∷ (τ₄, l₄) ∷ (τ₅, l₅) ∷ (τ₆, l₆) ∷ (τ₇, l₇) ∷ (τ₈, l₈) ∷ E) g)
-  free-nine t = step (λ s. free-cell t $ free-cell t $ free-cell t $ free-cell t $ free-cell t $ free-cell t $ free-cell t $ free-cell t $ free-cell t $ s)
+  free_nine t = step (λ s. free_cell t $ free_cell t $ free_cell t $ free_cell t $ free_cell t $ free_cell t $ free_cell t $ free_cell t $ free_cell t $ s)
 
 -- a lent slice's type, by the type of its pointer
 abbrev pub Sliced : Sym → Ty → Ty
@@ -89,4 +89,4 @@ module _ {M : Type 1} {𝓤 : Ura M} {𝓛 : Logic 𝓤} {K : Type 0} where
       rewrite t 14 (λ (z : Val). ‵ (fat full_share α l₆ 0 z)) e refl $
       assigns t (computes t _ (refl, (refl, (refl, (refl, tt)))) x' is_x) (from t (hop t (look t 24 refl) (stop t))) (store_raw t 3 refl typed-x) $
       assigns t (of_opd t (load t (from t (stop t)) (look t 14 refl))) (from t (stop t)) (init t 26 refl typed') $
-      returns t (look t 26 refl) $ move t (26 ∷ 27 ∷ 24 ∷ 25 ∷ 22 ∷ 23 ∷ 20 ∷ 21 ∷ 18 ∷ 19 ∷ 16 ∷ 17 ∷ 14 ∷ 15 ∷ 12 ∷ 13 ∷ 10 ∷ 11 ∷ []) $ free-nine t $ free0 t $ k
+      returns t (look t 26 refl) $ move t (26 ∷ 27 ∷ 24 ∷ 25 ∷ 22 ∷ 23 ∷ 20 ∷ 21 ∷ 18 ∷ 19 ∷ 16 ∷ 17 ∷ 14 ∷ 15 ∷ 12 ∷ 13 ∷ 10 ∷ 11 ∷ []) $ free_nine t $ free0 t $ k

@@ -1,7 +1,9 @@
 // The firmware's own entry: the main loop lends its record, which is changed in place.
+#![tactic(auto)]
+
 ghost use Rattle.std.specs.Prelude.{◌≡◌};
 ghost use Rattle.device.specs.Refusals.{told};
-ghost use Rattle.device.specs.Entries.{serveEntry, serveStaging};
+ghost use Rattle.device.specs.Entries.{serve_entry, serve_staging};
 
 use device::answer::{Answer, Channel};
 use device::record::Device;
@@ -13,9 +15,9 @@ pub fn serve_in_place(
     staging: &mut [u8],
     report: &[u8],
 ) -> Answer
-    ensures { (told result ≡ serveEntry device.old channel staging.old report.now)
-        × (device.new ≡ (serveEntry device.old channel staging.old report.now).device)
-        × (staging.new ≡ serveStaging device.old channel staging.old report.now) }
+    ensures { (told result ≡ serve_entry device.old channel staging.old report.now)
+        × (device.new ≡ (serve_entry device.old channel staging.old report.now).device)
+        × (staging.new ≡ serve_staging device.old channel staging.old report.now) }
 {
     let d = *device;
     let out = d.serve(channel, staging, report);
@@ -25,7 +27,7 @@ pub fn serve_in_place(
 
 // A record by value, lent to the entry above: whoever calls this lends no record.
 pub fn serve_lent(device: Device, channel: Channel, staging: &mut [u8], report: &[u8]) -> Answer
-    ensures { (told result ≡ serveEntry device channel staging.old report.now) × (staging.new ≡ serveStaging device channel staging.old report.now) }
+    ensures { (told result ≡ serve_entry device channel staging.old report.now) × (staging.new ≡ serve_staging device channel staging.old report.now) }
 {
     let mut d = device;
     serve_in_place(&mut d, channel, staging, report)

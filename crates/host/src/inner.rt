@@ -2,9 +2,9 @@
 // written into lent bytes.
 ghost use Rattle.std.specs.Prelude.{◌≡◌, length};
 ghost use Rattle.bundle_layout.specs.Rows as rows;
-ghost use Rattle.host_packet.specs.Answer.{row_of, refusedBy};
-ghost use Rattle.host_packet.specs.Made.{made_of, toldInner};
-ghost use Rattle.host_packet.specs.Packet.{PACKET-SIZE};
+ghost use Rattle.host_packet.specs.Answer.{row_of, refused_by};
+ghost use Rattle.host_packet.specs.Made.{made_of, told_inner};
+ghost use Rattle.host_packet.specs.Packet.{packet_size};
 ghost use Rattle.host.specs.Inner.{inner_of, lent};
 
 use bundle_layout::BundleVerdict;
@@ -18,8 +18,8 @@ use wire::words;
 
 // A row refuses the step: the packet becomes zero, nothing is sent, and the record is unchanged.
 fn refused(packet: &mut [u8], refusal: StepRefusal, h: Host, cursor: usize) -> Stepped
-    requires { length packet.old ≡ PACKET-SIZE }
-    ensures { toldInner result packet.new ≡ record { step = refusedBy (row_of refusal) h; cursor = cursor } }
+    requires { length packet.old ≡ packet_size }
+    ensures { told_inner result packet.new ≡ record { step = refused_by (row_of refusal) h; cursor = cursor } }
 {
     words::fill(packet, 0);
     Stepped {
@@ -32,8 +32,8 @@ fn refused(packet: &mut [u8], refusal: StepRefusal, h: Host, cursor: usize) -> S
 
 // What a move sends, and the next record; N1 where the bundle lacks what is to be sent.
 fn moved(packet: &mut [u8], b: &[u8], hand: Body, cursor: usize, h: Host, m: Move) -> Stepped
-    requires { length packet.old ≡ PACKET-SIZE }
-    ensures { toldInner result packet.new ≡ made_of b.now hand cursor h m.host m.action }
+    requires { length packet.old ≡ packet_size }
+    ensures { told_inner result packet.new ≡ made_of b.now hand cursor h m.host m.action }
 {
     let next = m.host;
     let action = m.action;
@@ -69,8 +69,8 @@ fn inner_in(
     bundle: &[u8],
     reply: &[u8],
 ) -> Stepped
-    requires { length packet.old ≡ PACKET-SIZE }
-    ensures { toldInner result packet.new ≡ inner_of bundle.now (rows.row_of verdict place) count hand cursor h reply.now }
+    requires { length packet.old ≡ packet_size }
+    ensures { told_inner result packet.new ≡ inner_of bundle.now (rows.row_of verdict place) count hand cursor h reply.now }
 {
     if verdict.is_refused() {
         let row = StepRefusal::Bundle { verdict, place };
@@ -96,7 +96,7 @@ pub fn inner_step(
     bundle: &[u8],
     reply: &[u8],
 ) -> Stepped
-    ensures { toldInner result packet.new ≡ lent packet.old h cursor (inner_of bundle.now (rows.row_of verdict place) count hand cursor h reply.now) }
+    ensures { told_inner result packet.new ≡ lent packet.old h cursor (inner_of bundle.now (rows.row_of verdict place) count hand cursor h reply.now) }
 {
     if packet.len() == PACKET_SIZE {
         return inner_in(

@@ -3,7 +3,7 @@
 ghost use Rattle.std.specs.Prelude.{◌≡◌};
 ghost use Rattle.host_packet.specs.Answer.{told};
 ghost use Rattle.host.specs.Step.{step_of};
-ghost use Rattle.host.specs.Inner.{placeAfter, cursorAt};
+ghost use Rattle.host.specs.Inner.{place_after, cursor_at};
 
 use crate::inner::inner_step;
 use bundle::check;
@@ -16,7 +16,7 @@ use host_record::record::{Host, HostStage};
 
 // The place after the first `count` records that stand from `at` on; where there are fewer, the place after the last.
 fn place_after(b: &[u8], at: usize, end: u64, count: u64) -> usize
-    ensures { result ≡ placeAfter b.now at end count }
+    ensures { result ≡ place_after b.now at end count }
 {
     let mut place = at;
     let mut i: u64 = 0;
@@ -41,7 +41,7 @@ fn place_after(b: &[u8], at: usize, end: u64, count: u64) -> usize
 
 // The cursor of a record, found by a walk over the body in hand.
 pub fn cursor_for(b: &[u8], body: Body, stage: HostStage) -> usize
-    ensures { result ≡ cursorAt b.now body stage }
+    ensures { result ≡ cursor_at b.now body stage }
 {
     match stage {
         HostStage::Fresh => 0,

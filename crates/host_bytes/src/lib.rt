@@ -1,8 +1,10 @@
 // The host's record as bytes of a fixed length; and what the check of a bundle answers, with the cursor and the block that it is kept for, as bytes.
+#![tactic(auto)]
+
 ghost use Rattle.std.specs.Prelude.{◌≡◌, cond, ◌++◌, eqb, length, get_or, take, ◌+◌, ◌≤◌};
 ghost use Rattle.wire.specs.Bytes.{number, bytes_at};
-ghost use Rattle.bundle.specs.Contents.{toldChecked};
-ghost use Rattle.host_bytes.specs.Layout.{ROW-AT, ENTRY-AT, COUNT-AT, LENGTH-IN, RECORDS-IN, BODY-SIZE, BODIES-START, HAND-START, CONTENTS-SIZE, flagByte, hostBytes, areFlags, readHost, bodiesBytes, handBytes, noPlace, contentsBytes, bodyRead, cursorIn, areContents, isKept, keptIn, refusedHost};
+ghost use Rattle.bundle.specs.Contents.{told_checked};
+ghost use Rattle.host_bytes.specs.Layout.{row_offset, entry_offset, count_at, length_offset, records_offset, body_part_size, bodies_start, hand_start, contents_size, flag_byte, host_bytes, are_flags, read_host, bodies_bytes, hand_bytes, no_place, contents_bytes, body_read, cursor_in, are_contents, is_kept, kept_in, refused_host};
 
 use crate::put::{WORD_SIZE, put_words};
 use crate::stage::{SENDING, passed_in, stage_in, stage_words};
@@ -66,13 +68,13 @@ const RECORDS_IN: u16 = LENGTH_IN + WORD_SIZE;
 const BODY_SIZE: u16 = RECORDS_IN + WORD_SIZE;
 
 fn flag_byte(holds: bool) -> u8
-    ensures { result ≡ flagByte holds }
+    ensures { result ≡ flag_byte holds }
 {
     if holds { 1 } else { 0 }
 }
 
 pub fn host_bytes(h: Host) -> [u8; HOST_SIZE]
-    ensures { result ≡ hostBytes h }
+    ensures { result ≡ host_bytes h }
 {
     let stage = h.stage;
     let s = stage_words(stage);
@@ -89,7 +91,7 @@ pub fn host_bytes(h: Host) -> [u8; HOST_SIZE]
 
 // A record that N1 refuses over every bundle.
 fn refused_host() -> Host
-    ensures { result ≡ refusedHost }
+    ensures { result ≡ refused_host }
 {
     Host {
         token: 0,
@@ -104,7 +106,7 @@ fn refused_host() -> Host
 
 // Each flag is one that a record has: the stage, the number of an end, and the three booleans.
 fn are_flags(stage: u8, end: u32, skipped: u8, landed: u8, passed: u8) -> bool
-    ensures { result ≡ areFlags stage end skipped landed passed }
+    ensures { result ≡ are_flags stage end skipped landed passed }
 {
     (stage <= 7)
         & (((stage != 7) | (end <= 4)) & ((skipped <= 1) & ((landed <= 1) & (passed <= 1))))
@@ -112,7 +114,7 @@ fn are_flags(stage: u8, end: u32, skipped: u8, landed: u8, passed: u8) -> bool
 
 // Bytes of another length, or with a flag that no record has, are read as a record that N1 refuses. What the stage has no use for is not looked at.
 pub fn read_host(b: &[u8]) -> Host
-    ensures { result ≡ readHost b.now }
+    ensures { result ≡ read_host b.now }
 {
     let number = words::byte_at(b, STAGE_START);
     let first = words::word32_at(b, FIRST_AT);
@@ -144,7 +146,7 @@ fn entry_named(row: u8, place: u8) -> u8
 
 // The bodies, one after the other, after the first three bytes.
 fn with_bodies(mut out: [u8; CONTENTS_SIZE], table: [Entry; OFFER_LIMIT]) -> [u8; CONTENTS_SIZE]
-    ensures { take HAND-START result ≡ take BODIES-START out ++ bodiesBytes table }
+    ensures { take hand_start result ≡ take bodies_start out ++ bodies_bytes table }
 {
     let mut i: u16 = 0;
     while (i as usize) < OFFER_LIMIT {
@@ -158,7 +160,7 @@ fn with_bodies(mut out: [u8; CONTENTS_SIZE], table: [Entry; OFFER_LIMIT]) -> [u8
 
 // What the check answers, with no block in hand and the cursor at 0.
 pub fn contents_bytes(c: Checked) -> [u8; CONTENTS_SIZE]
-    ensures { result ≡ contentsBytes (toldChecked c) noPlace 0 }
+    ensures { result ≡ contents_bytes (told_checked c) no_place 0 }
 {
     let verdict = c.verdict;
     let table = c.table;
@@ -174,26 +176,26 @@ pub fn contents_bytes(c: Checked) -> [u8; CONTENTS_SIZE]
 
 // The row that the contents keep, the entry that it names, and the count of offers.
 pub fn row_in(q: &[u8]) -> u8
-    ensures { result ≡ get_or q.now ROW-AT 0 }
+    ensures { result ≡ get_or q.now row_offset 0 }
 {
     words::byte_at(q, ROW_AT)
 }
 
 pub fn entry_in(q: &[u8]) -> u8
-    ensures { result ≡ get_or q.now ENTRY-AT 0 }
+    ensures { result ≡ get_or q.now entry_offset 0 }
 {
     words::byte_at(q, ENTRY_AT)
 }
 
 pub fn count_in(q: &[u8]) -> u8
-    ensures { result ≡ get_or q.now COUNT-AT 0 }
+    ensures { result ≡ get_or q.now count_at 0 }
 {
     words::byte_at(q, COUNT_AT)
 }
 
 // Bytes that a check may have left.
 pub fn are_contents(q: &[u8]) -> bool
-    ensures { result ≡ areContents q.now }
+    ensures { result ≡ are_contents q.now }
 {
     let row = row_in(q);
     let count = count_in(q);
@@ -203,8 +205,8 @@ pub fn are_contents(q: &[u8]) -> bool
 
 // Where a body stands, and how many records it has, from its bytes.
 fn body_from(q: &[u8], at: u16) -> Body
-    requires { at + BODY-SIZE ≤ CONTENTS-SIZE }
-    ensures { result ≡ record { start = number (bytes_at 4 at q.now); end = number (bytes_at 4 at q.now) + number (bytes_at 4 (at + LENGTH-IN) q.now); records = number (bytes_at 4 (at + RECORDS-IN) q.now) } }
+    requires { at + body_part_size ≤ contents_size }
+    ensures { result ≡ record { start = number (bytes_at 4 at q.now); end = number (bytes_at 4 at q.now) + number (bytes_at 4 (at + length_offset) q.now); records = number (bytes_at 4 (at + records_offset) q.now) } }
 {
     let offset = words::word32_at(q, at);
     let length = words::word32_at(q, at + LENGTH_IN);
@@ -217,7 +219,7 @@ fn body_from(q: &[u8], at: u16) -> Body
 
 // The body of an entry of the contents; past the most offers it is empty, and so in bytes of another length than contents have.
 pub fn read_body(q: &[u8], i: u32) -> Body
-    ensures { result ≡ bodyRead q.now i }
+    ensures { result ≡ body_read q.now i }
 {
     if (q.len() == CONTENTS_SIZE) & ((i as usize) < OFFER_LIMIT) {
         body_from(q, BODIES_START + i as u16 * BODY_SIZE)
@@ -232,7 +234,7 @@ pub fn read_body(q: &[u8], i: u32) -> Body
 
 // The cursor is kept for the block whose reply is awaited.
 pub fn is_kept(q: &[u8], stage: HostStage) -> bool
-    ensures { result ≡ isKept q.now stage }
+    ensures { result ≡ is_kept q.now stage }
 {
     let s = stage_words(stage);
     let entry = words::word32_at(q, HAND_START);
@@ -242,7 +244,7 @@ pub fn is_kept(q: &[u8], stage: HostStage) -> bool
 
 // A cursor that was stored is a place in a bundle, so a usize of 32 bits holds it too.
 pub fn read_cursor(q: &[u8]) -> usize
-    ensures { result ≡ cursorIn q.now }
+    ensures { result ≡ cursor_in q.now }
 {
     let low = words::word32_at(q, CURSOR_START);
     let high = words::word32_at(q, CURSOR_HIGH_AT);
@@ -251,7 +253,7 @@ pub fn read_cursor(q: &[u8]) -> usize
 
 // A block, and the cursor behind its record, are stored; bytes of another length than contents stay as they are.
 fn store_hand(q: &mut [u8], entry: u32, block: u32, cursor: usize)
-    ensures { q.new ≡ cond (eqb (length q.old) CONTENTS-SIZE) (take HAND-START q.old ++ handBytes (record { entry = entry; block = block }) cursor) q.old }
+    ensures { q.new ≡ cond (eqb (length q.old) contents_size) (take hand_start q.old ++ hand_bytes (record { entry = entry; block = block }) cursor) q.old }
 {
     if q.len() == CONTENTS_SIZE {
         let hand = [entry, block];
@@ -263,7 +265,7 @@ fn store_hand(q: &mut [u8], entry: u32, block: u32, cursor: usize)
 
 // The block and the cursor are kept where that block's reply is awaited.
 pub fn keep(q: &mut [u8], stage: HostStage, cursor: usize)
-    ensures { q.new ≡ keptIn q.old stage cursor }
+    ensures { q.new ≡ kept_in q.old stage cursor }
 {
     let s = stage_words(stage);
     if s.number == SENDING {

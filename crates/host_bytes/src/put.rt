@@ -1,6 +1,6 @@
 // Words are stored from a place on.
 ghost use Rattle.std.specs.Prelude.{◌≡◌, ◌++◌, length, take, drop, ◌+◌, ◌*◌, ◌≤◌};
-ghost use Rattle.host_bytes.specs.Layout.{WORD-SIZE, wordsBytes};
+ghost use Rattle.host_bytes.specs.Layout.{word_size, words_bytes};
 
 use wire::words;
 
@@ -10,8 +10,8 @@ pub(crate) const WORD_SIZE: u16 = 4;
 const STEP: usize = WORD_SIZE as usize;
 
 pub(crate) fn put_words(out: &mut [u8], at: u16, values: &[u32])
-    requires { at + length values.now * WORD-SIZE ≤ length out.old }
-    ensures { out.new ≡ take at out.old ++ (wordsBytes values.now ++ drop (at + length values.now * WORD-SIZE) out.old) }
+    requires { at + length values.now * word_size ≤ length out.old }
+    ensures { out.new ≡ take at out.old ++ (words_bytes values.now ++ drop (at + length values.now * word_size) out.old) }
 {
     let mut i = 0;
     while i < values.len() {

@@ -1,6 +1,6 @@
 // What the host awaits as a number and two words, zero where the stage has none: the entry and its BUSY replies, the entry and the block, or the end.
 ghost use Rattle.std.specs.Prelude.{◌≡◌};
-ghost use Rattle.host_bytes.specs.Layout.{stageWords, passedIn, end_in, stageIn};
+ghost use Rattle.host_bytes.specs.Layout.{stage_words, passed_in, end_in, stage_in};
 
 use host_record::record::{Awaited, End, HostStage, Place, Turn};
 
@@ -9,7 +9,7 @@ pub(crate) const SENDING: u8 = 5;
 
 pub const ENDED: u8 = 7;
 
-#[derive(Drop)]
+#[derive(Clone, Copy)]
 pub(crate) struct StageWords {
     pub number: u8,
     pub first: u32,
@@ -17,7 +17,7 @@ pub(crate) struct StageWords {
 }
 
 pub(crate) fn stage_words(stage: HostStage) -> StageWords
-    ensures { result ≡ stageWords stage }
+    ensures { result ≡ stage_words stage }
 {
     match stage {
         HostStage::Fresh => StageWords {
@@ -65,7 +65,7 @@ pub(crate) fn stage_words(stage: HostStage) -> StageWords
 
 // A reply was passed over while a block's is awaited; never in another stage.
 pub(crate) fn passed_in(stage: HostStage) -> bool
-    ensures { result ≡ passedIn stage }
+    ensures { result ≡ passed_in stage }
 {
     match stage {
         HostStage::Fresh => false,
@@ -92,7 +92,7 @@ fn end_in(number: u32, status: u32) -> End
 }
 
 pub(crate) fn stage_in(stage: u8, first: u32, second: u32, passed: bool) -> HostStage
-    ensures { result ≡ stageIn stage first second passed }
+    ensures { result ≡ stage_in stage first second passed }
 {
     match stage {
         1 => HostStage::Opening,

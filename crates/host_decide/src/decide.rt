@@ -1,7 +1,7 @@
 // What the host decides on a reply (document 01, "The host"; document 02, A4): the table of rows by stage and reply, the ends H1 to H4, the replay rule, and
 // the copy of a reply that is passed over. No byte of a bundle is looked at.
 ghost use Rattle.std.specs.Prelude.{◌≡◌, ◌<◌};
-ghost use Rattle.host_record.specs.Record.{withBit};
+ghost use Rattle.host_record.specs.Record.{with_bit};
 ghost use Rattle.host_decide.specs.Decide as decided;
 ghost use Rattle.host_record.specs.Spare.{Spare, SpareIn, SpareCounts};
 
@@ -73,7 +73,7 @@ fn list(h: Host) -> Move
 // The offer of an entry, or code 2 after the last.
 fn offer_from(n: u32, entry: u32, h: Host) -> Move
     requires { Spare h.packets }
-    ensures { result ≡ decided.offerFrom n entry h }
+    ensures { result ≡ decided.offer_from n entry h }
 {
     if entry < n {
         sends(
@@ -93,7 +93,7 @@ fn offer_from(n: u32, entry: u32, h: Host) -> Move
 // A block is sent, and its reply awaited.
 fn send_block(p: Place, h: Host) -> Move
     requires { Spare h.packets }
-    ensures { result ≡ decided.sendBlock p h }
+    ensures { result ≡ decided.send_block p h }
 {
     let sent = Awaited {
         place: p,
@@ -104,7 +104,7 @@ fn send_block(p: Place, h: Host) -> Move
 
 // A reply is passed over: nothing is sent, and nothing changes but the note that one was passed over.
 fn pass_over(p: Place, h: Host) -> Move
-    ensures { result ≡ decided.passOver p h }
+    ensures { result ≡ decided.pass_over p h }
 {
     let passed = Awaited {
         place: p,
@@ -136,7 +136,7 @@ fn noted(h: Host, status: u8) -> Host
 // The mask with bit i set.
 fn with_bit(mask: u32, i: u32) -> u32
     requires { i < 32 }
-    ensures { result ≡ withBit mask i }
+    ensures { result ≡ with_bit mask i }
 {
     mask | (1 << i)
 }
@@ -221,7 +221,7 @@ fn hears(row: usize, n: u32, t: Turn, h: Host, reply: &[u8]) -> Move
 // After a block is taken: the next one, or the offer is completed and the next offer is due.
 fn goes_on(n: u32, last: bool, p: Place, h: Host) -> Move
     requires { SpareCounts h × (p.entry < 32) × Spare p.block }
-    ensures { result ≡ decided.goesOn n last p h }
+    ensures { result ≡ decided.goes_on n last p h }
 {
     if last {
         offer_from(n, p.entry + 1, completes(h, p.entry))
@@ -238,7 +238,7 @@ fn goes_on(n: u32, last: bool, p: Place, h: Host) -> Move
 
 // The reply just taken, once more: the first such while the next block's is awaited.
 fn repeats_taken(a: Awaited, r: ContentReply) -> bool
-    ensures { result ≡ decided.repeatsTaken a r }
+    ensures { result ≡ decided.repeats_taken a r }
 {
     let block = a.place.block;
     if block == 0 {
@@ -250,7 +250,7 @@ fn repeats_taken(a: Awaited, r: ContentReply) -> bool
 // On a 16-byte reply to a block: the reply just taken once more, H2 by its sequence, H1.
 fn hears_reply(n: u32, last: bool, a: Awaited, h: Host, r: ContentReply) -> Move
     requires { SpareCounts h × (a.place.entry < 32) × Spare a.place.block }
-    ensures { result ≡ decided.hearsReply n last a h r }
+    ensures { result ≡ decided.hears_reply n last a h r }
 {
     let p = a.place;
     if repeats_taken(a, r) {
@@ -268,7 +268,7 @@ fn hears_reply(n: u32, last: bool, a: Awaited, h: Host, r: ContentReply) -> Move
 // On a reply to a block: H2 by its length first.
 fn hears_block(n: u32, last: bool, a: Awaited, h: Host, reply: &[u8]) -> Move
     requires { SpareCounts h × (a.place.entry < 32) × Spare a.place.block }
-    ensures { result ≡ decided.hearsBlock n last a h reply.now }
+    ensures { result ≡ decided.hears_block n last a h reply.now }
 {
     if reply.len() != REPLY {
         return ends(h, End::Foreign);
@@ -281,7 +281,7 @@ fn hears_block(n: u32, last: bool, a: Awaited, h: Host, reply: &[u8]) -> Move
 // What the host does, by its stage; a fresh host and an ended one await no reply.
 pub(crate) fn decide(h: Host, n: u32, last: bool, reply: &[u8]) -> Move
     requires { SpareCounts h × SpareIn h.stage }
-    ensures { result ≡ decided.decideOf n last h reply.now }
+    ensures { result ≡ decided.decide_of n last h reply.now }
 {
     let stage = h.stage;
     let none = Turn { entry: 0, busy: 0 };

@@ -1,6 +1,8 @@
 // What the host decides on a reply (document 01, "The host"): N1, or what to send and the next record.
+#![tactic(auto)]
+
 ghost use Rattle.std.specs.Prelude.{◌≡◌};
-ghost use Rattle.host_decide.specs.Decide.{decisionOf};
+ghost use Rattle.host_decide.specs.Decide.{decision_of};
 
 use crate::decide::decide;
 use host_record::fits::{breaks, last_in};
@@ -9,7 +11,7 @@ use host_record::record::{Host, Place};
 pub mod decide; // decide.rt: what the host does on a reply
 
 // What to send; no bundle bytes are needed to decide it.
-#[derive(Drop)]
+#[derive(Clone, Copy)]
 pub enum Action {
     Nothing,
     // With its code.
@@ -20,14 +22,14 @@ pub enum Action {
     Block(Place),
 }
 
-#[derive(Drop)]
+#[derive(Clone, Copy)]
 pub struct Move {
     pub action: Action,
     pub host: Host,
 }
 
 // The row that refuses the record, or the move.
-#[derive(Drop)]
+#[derive(Clone, Copy)]
 pub enum Decided {
     N1,
     Moves(Move),
@@ -35,7 +37,7 @@ pub enum Decided {
 
 // Over a bundle of n offers, where the body in hand has k records: N1, or the move.
 pub fn decision(n: u8, k: u32, h: Host, reply: &[u8]) -> Decided
-    ensures { result ≡ decisionOf n k h reply.now }
+    ensures { result ≡ decision_of n k h reply.now }
 {
     if breaks(n, k, h) {
         return Decided::N1;

@@ -6,15 +6,15 @@ use lib.Dec.{eqb}
 use Rattle.host_packet.specs.Packet.{flags_of}
 
 -- they have no bit but the two
-pub flags-sound : (first last : Bool) → eqb (flags_of first last % 64) 0 ≡ true
-flags-sound true true = refl
-flags-sound true false = refl
-flags-sound false true = refl
-flags-sound false false = refl
+pub flags_sound : (first last : Bool) → eqb (flags_of first last % 64) 0 ≡ true
+flags_sound true true = refl
+flags_sound true false = refl
+flags_sound false true = refl
+flags_sound false false = refl
 
 -- the bit that says that a block is the last
-pub flags-last : (first last : Bool) → eqb (flags_of first last / 64 % 2) 1 ≡ last
-flags-last true true = refl
-flags-last true false = refl
-flags-last false true = refl
-flags-last false false = refl
+pub flags_last : (first last : Bool) → eqb (flags_of first last / 64 % 2) 1 ≡ last
+flags_last true true = refl
+flags_last true false = refl
+flags_last false true = refl
+flags_last false false = refl

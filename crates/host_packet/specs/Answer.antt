@@ -1,9 +1,9 @@
 -- What a step answers (document 01, "The host" and rows B, N1).
 use Rattle.std.specs.Prelude.{ℕ, ◌-◌, Bool, true, false, List, [], ◌∷◌, ◌++◌, length, take, replicate}
-use Rattle.wire.specs.Codes.{SHORT-SIZE}
+use Rattle.wire.specs.Codes.{short_size}
 use Rattle.bundle_layout.specs.Rows as bundle
 use Rattle.host_record.specs.declared.record.Host.{Host}
-use Rattle.host_packet.specs.Packet.{PACKET-SIZE}
+use Rattle.host_packet.specs.Packet.{packet_size}
 use Rattle.host_packet.specs.declared.answer.Sent.{Sent}
 use Rattle.host_packet.specs.declared.answer.Sent.TheVariants as sent
 use Rattle.host_packet.specs.declared.answer.StepRefusal.{StepRefusal}
@@ -13,10 +13,10 @@ use Rattle.host_packet.specs.declared.answer.StepAnswer.{StepAnswer}
 -- the rows of document 01 that a step gives out
 pub data Row : Type 0 where
   served : Row
-  B : (number entry : ℕ) → Row
-  N : ℕ → Row
+  row_b : (number entry : ℕ) → Row
+  row_n : ℕ → Row
 
--- what a step answers: the row, the packet that is sent, if any, its bytes filled up to PACKET-SIZE by zeros, and the next record
+-- what a step answers: the row, the packet that is sent, if any, its bytes filled up to packet_size by zeros, and the next record
 pub record Step : Type 0 where
   pub row : Row
   pub sent : List (List ℕ)
@@ -24,45 +24,45 @@ pub record Step : Type 0 where
   pub host : Host
 
 abbrev pub filled : List (List ℕ) → List ℕ
-filled [] = replicate PACKET-SIZE 0
-filled (p ∷ ps) = p ++ replicate (PACKET-SIZE - length p) 0
+filled [] = replicate packet_size 0
+filled (p ∷ ps) = p ++ replicate (packet_size - length p) 0
 
 -- a refused step: its row, nothing sent, a packet of zeros, the record unchanged
-abbrev pub refusedBy : Row → Host → Step
-refusedBy row h = record { row = row; sent = []; packet = replicate PACKET-SIZE 0; host = h }
+abbrev pub refused_by : Row → Host → Step
+refused_by row h = record { row = row; sent = []; packet = replicate packet_size 0; host = h }
 
 -- the row of a refusal
 abbrev pub row_of : StepRefusal → Row
 row_of refusal.Served = served
-row_of (refusal.Bundle verdict place) = B (bundle.number_of verdict) place
-row_of refusal.N1 = N 1
+row_of (refusal.Bundle verdict place) = row_b (bundle.number_of verdict) place
+row_of refusal.N1 = row_n 1
 
 -- the number of a row, 0 where none refuses; the entry that it names, or 0; and whether it refuses
 abbrev pub number_of : Row → ℕ
 number_of served = 0
-number_of (B k entry) = k
-number_of (N k) = k
+number_of (row_b k entry) = k
+number_of (row_n k) = k
 
-abbrev pub entryOf : Row → ℕ
-entryOf served = 0
-entryOf (B k entry) = entry
-entryOf (N k) = 0
+abbrev pub entry_of : Row → ℕ
+entry_of served = 0
+entry_of (row_b k entry) = entry
+entry_of (row_n k) = 0
 
 abbrev pub is_refused : Row → Bool
 is_refused served = false
-is_refused (B k entry) = true
-is_refused (N k) = true
+is_refused (row_b k entry) = true
+is_refused (row_n k) = true
 
 -- how many bytes are sent
 abbrev pub size_of : Sent → ℕ
 size_of sent.Nothing = 0
-size_of sent.Offer = SHORT-SIZE
-size_of sent.Content = PACKET-SIZE
+size_of sent.Offer = short_size
+size_of sent.Content = packet_size
 
-abbrev pub sentBy : Sent → List ℕ → List (List ℕ)
-sentBy sent.Nothing packet = []
-sentBy sent.Offer packet = take SHORT-SIZE packet ∷ []
-sentBy sent.Content packet = packet ∷ []
+abbrev pub sent_by : Sent → List ℕ → List (List ℕ)
+sent_by sent.Nothing packet = []
+sent_by sent.Offer packet = take short_size packet ∷ []
+sent_by sent.Content packet = packet ∷ []
 
 abbrev pub told : StepAnswer → Step
-told a = record { row = row_of a.refusal; sent = sentBy a.sent a.packet; packet = a.packet; host = a.host }
+told a = record { row = row_of a.refusal; sent = sent_by a.sent a.packet; packet = a.packet; host = a.host }

@@ -1,7 +1,7 @@
 // What an action sends, over the body in hand of a bundle that was checked once, and a cursor, the place of the record after the one in hand.
 ghost use Rattle.std.specs.Prelude.{◌≡◌, [], length, replicate};
-ghost use Rattle.host_packet.specs.Packet.{PACKET-SIZE};
-ghost use Rattle.host_packet.specs.Made.{recordStart, laidOffer, laidBlock, laid_of, written_of, laidBy};
+ghost use Rattle.host_packet.specs.Packet.{packet_size};
+ghost use Rattle.host_packet.specs.Made.{record_start, laid_offer, laid_block, laid_of, written_of, laid_by};
 
 use crate::answer::{Sent, Written};
 use crate::packet;
@@ -17,7 +17,7 @@ use wire::words;
 
 // Nothing is sent.
 fn none(packet: &mut [u8], served: bool, cursor: usize) -> Written
-    ensures { laidBy result packet.new ≡ record { served = served; sent = []; packet = replicate (length packet.old) 0; cursor = cursor } }
+    ensures { laid_by result packet.new ≡ record { served = served; sent = []; packet = replicate (length packet.old) 0; cursor = cursor } }
 {
     words::fill(packet, 0);
     let sent = Sent::Nothing;
@@ -30,8 +30,8 @@ fn none(packet: &mut [u8], served: bool, cursor: usize) -> Written
 
 // The offer of an entry; where the bytes do not have it, N1.
 fn written_offer(packet: &mut [u8], b: &[u8], cursor: usize, entry: u32, token: u8) -> Written
-    requires { length packet.old ≡ PACKET-SIZE }
-    ensures { laidBy result packet.new ≡ laidOffer b.now cursor token entry }
+    requires { length packet.old ≡ packet_size }
+    ensures { laid_by result packet.new ≡ laid_offer b.now cursor token entry }
 {
     if (HEAD as u64) + (ENTRY as u64) * (entry as u64 + 1) <= b.len() as u64 {
         packet::offer(packet, b, entry, token);
@@ -47,15 +47,15 @@ fn written_offer(packet: &mut [u8], b: &[u8], cursor: usize, entry: u32, token: 
 
 // Where the record of block k starts: at the body's start, or at the cursor.
 fn start_of(body: Body, cursor: usize, k: u32) -> usize
-    ensures { result ≡ recordStart body cursor k }
+    ensures { result ≡ record_start body cursor k }
 {
     if k == 0 { body.start } else { cursor }
 }
 
 // The block of the record that stands at its start; where none stands there, N1.
 fn written_block(packet: &mut [u8], b: &[u8], body: Body, cursor: usize, p: Place) -> Written
-    requires { length packet.old ≡ PACKET-SIZE }
-    ensures { laidBy result packet.new ≡ laidBlock b.now body cursor p }
+    requires { length packet.old ≡ packet_size }
+    ensures { laid_by result packet.new ≡ laid_block b.now body cursor p }
 {
     let at = start_of(body, cursor, p.block);
     let r = next_record(b, at, body.end);
@@ -88,8 +88,8 @@ fn written_in(
     action: Action,
     token: u8,
 ) -> Written
-    requires { length packet.old ≡ PACKET-SIZE }
-    ensures { laidBy result packet.new ≡ laid_of b.now body cursor token action }
+    requires { length packet.old ≡ packet_size }
+    ensures { laid_by result packet.new ≡ laid_of b.now body cursor token action }
 {
     match action {
         Action::Nothing => none(packet, true, cursor),
@@ -123,7 +123,7 @@ pub fn written(
     action: Action,
     token: u8,
 ) -> Written
-    ensures { laidBy result packet.new ≡ written_of packet.old b.now body cursor token action }
+    ensures { laid_by result packet.new ≡ written_of packet.old b.now body cursor token action }
 {
     if packet.len() == PACKET_SIZE {
         written_in(packet, b, body, cursor, action, token)

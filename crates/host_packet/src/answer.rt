@@ -1,6 +1,6 @@
 // What a step of the host answers.
 ghost use Rattle.std.specs.Prelude.{◌≡◌};
-ghost use Rattle.host_packet.specs.Answer.{row_of, number_of, entryOf, is_refused, size_of};
+ghost use Rattle.host_packet.specs.Answer.{row_of, number_of, entry_of, is_refused, size_of};
 
 use crate::packet::PACKET_SIZE;
 use bundle_layout::BundleVerdict;
@@ -8,7 +8,7 @@ use host_record::record::Host;
 use wire::codes::SHORT_SIZE;
 
 // Served, or the row that refuses the step.
-#[derive(Drop)]
+#[derive(Clone, Copy)]
 pub enum StepRefusal {
     Served,
     // The bundle's row, with its entry.
@@ -30,7 +30,7 @@ impl StepRefusal {
 
     // The entry that the row names, or 0.
     pub fn entry(self) -> u8
-        ensures { result ≡ entryOf (row_of self) }
+        ensures { result ≡ entry_of (row_of self) }
     {
         match self {
             StepRefusal::Served => 0,
@@ -55,7 +55,7 @@ impl StepRefusal {
 }
 
 // What is sent: nothing, the short packet at the start of the bytes, or all of them.
-#[derive(Drop)]
+#[derive(Clone, Copy)]
 pub enum Sent {
     Nothing,
     Offer,
@@ -75,7 +75,7 @@ impl Sent {
     }
 }
 
-#[derive(Drop)]
+#[derive(Clone, Copy)]
 pub struct StepAnswer {
     pub refusal: StepRefusal,
     pub sent: Sent,
@@ -85,7 +85,7 @@ pub struct StepAnswer {
 }
 
 // What was written into the packet: whether the step is served, what is sent, and the place of the record after the one in hand.
-#[derive(Drop)]
+#[derive(Clone, Copy)]
 pub struct Written {
     pub served: bool,
     pub sent: Sent,
@@ -93,7 +93,7 @@ pub struct Written {
 }
 
 // What the inner step answers beside the packet that it writes: the row, what is sent, the next record, and the place of the record after the one in hand.
-#[derive(Drop)]
+#[derive(Clone, Copy)]
 pub struct Stepped {
     pub refusal: StepRefusal,
     pub sent: Sent,

@@ -1,9 +1,9 @@
 // The packets that are sent, each written into PACKET_SIZE lent bytes, zero past its end.
 ghost use Rattle.std.specs.Prelude.{◌≡◌, ◌++◌, ◌+◌, ◌-◌, ◌≤◌, length, set, take, drop, replicate};
-ghost use Rattle.wire.specs.Codes.{NOTIFY-ON-READY, SHORT-SIZE, DATA-SIZE};
-ghost use Rattle.wire_offer.specs.Signal.{informationBytes, extendedBytes};
+ghost use Rattle.wire.specs.Codes.{notify_on_ready, short_size, packet_data_size};
+ghost use Rattle.wire_offer.specs.Signal.{information_bytes, extended_bytes};
 ghost use Rattle.bundle_layout.specs.Layout.{table_end};
-ghost use Rattle.host_packet.specs.Packet.{PACKET-SIZE, flags_of, blockBytes};
+ghost use Rattle.host_packet.specs.Packet.{packet_size, flags_of, block_bytes};
 
 use bundle_layout::limits::{ENTRY, HEAD};
 use host_record::record::sequence;
@@ -18,24 +18,24 @@ pub const PACKET_SIZE: usize = LONG_SIZE;
 
 // A short packet at the start, and zeros after it.
 fn lay(packet: &mut [u8], p: [u8; SHORT_SIZE])
-    requires { length packet.old ≡ PACKET-SIZE }
-    ensures { packet.new ≡ p ++ replicate (PACKET-SIZE - SHORT-SIZE) 0 }
+    requires { length packet.old ≡ packet_size }
+    ensures { packet.new ≡ p ++ replicate (packet_size - short_size) 0 }
 {
     words::copy(&mut packet[0..SHORT_SIZE], &p);
     words::fill(&mut packet[SHORT_SIZE..PACKET_SIZE], 0);
 }
 
 pub(crate) fn information(packet: &mut [u8], code: u8, token: u8)
-    requires { length packet.old ≡ PACKET-SIZE }
-    ensures { packet.new ≡ informationBytes (record { code = code; token = token }) ++ replicate (PACKET-SIZE - SHORT-SIZE) 0 }
+    requires { length packet.old ≡ packet_size }
+    ensures { packet.new ≡ information_bytes (record { code = code; token = token }) ++ replicate (packet_size - short_size) 0 }
 {
     let p = build_information(Signal { code, token });
     lay(packet, p);
 }
 
 pub(crate) fn notify(packet: &mut [u8], token: u8)
-    requires { length packet.old ≡ PACKET-SIZE }
-    ensures { packet.new ≡ extendedBytes (record { code = NOTIFY-ON-READY; token = token }) ++ replicate (PACKET-SIZE - SHORT-SIZE) 0 }
+    requires { length packet.old ≡ packet_size }
+    ensures { packet.new ≡ extended_bytes (record { code = notify_on_ready; token = token }) ++ replicate (packet_size - short_size) 0 }
 {
     let p = build_extended(Signal {
         code: codes::NOTIFY_ON_READY,
@@ -46,8 +46,8 @@ pub(crate) fn notify(packet: &mut [u8], token: u8)
 
 // The offer of an entry: the table's with our token in byte 3.
 pub(crate) fn offer(packet: &mut [u8], b: &[u8], entry: u32, token: u8)
-    requires { (length packet.old ≡ PACKET-SIZE) × (table_end (entry + 1) ≤ length b.now) }
-    ensures { packet.new ≡ set (take SHORT-SIZE (drop (table_end entry) b.now)) 3 token ++ replicate (PACKET-SIZE - SHORT-SIZE) 0 }
+    requires { (length packet.old ≡ packet_size) × (table_end (entry + 1) ≤ length b.now) }
+    ensures { packet.new ≡ set (take short_size (drop (table_end entry) b.now)) 3 token ++ replicate (packet_size - short_size) 0 }
 {
     let at = HEAD + ENTRY * (entry as usize);
     let end = at + SHORT_SIZE;
@@ -82,8 +82,8 @@ pub(crate) fn block(
     start: usize,
     size: u8,
 )
-    requires { (length packet.old ≡ PACKET-SIZE) × (1 ≤ size) × (size ≤ DATA-SIZE) × (start + size ≤ length b.now) }
-    ensures { packet.new ≡ blockBytes k last (record { address = address; bytes = take size (drop start b.now) }) }
+    requires { (length packet.old ≡ packet_size) × (1 ≤ size) × (size ≤ packet_data_size) × (start + size ≤ length b.now) }
+    ensures { packet.new ≡ block_bytes k last (record { address = address; bytes = take size (drop start b.now) }) }
 {
     let n = size as usize;
     let end = start + n;

@@ -38,85 +38,85 @@ pub record FitsHost (h : Host) : Type 0 where
   pub passes : h.passes < 256 ^ 4
 
 -- a block that was just sent: no reply was passed over yet (document 02, A4)
-abbrev pub sentAt : Place → Awaited
-sentAt p = record { place = p; passed = false }
+abbrev pub sent_at : Place → Awaited
+sent_at p = record { place = p; passed = false }
 
 -- a block whose own reply is still awaited after one was passed over
 abbrev pub passed_at : Place → Awaited
 passed_at p = record { place = p; passed = true }
 
 -- a host that has sent nothing
-abbrev pub freshHost : ℕ → Host
-freshHost token = record { token = token; stage = Fresh; mask = 0; packets = 0; passes = 0; skipped = false; landed = false }
+abbrev pub fresh_host : ℕ → Host
+fresh_host token = record { token = token; stage = Fresh; mask = 0; packets = 0; passes = 0; skipped = false; landed = false }
 
 -- bit i of a mask
-abbrev pub hasBit : (mask i : ℕ) → Bool
-hasBit mask i = eqb (mask / 2 ^ i % 2) 1
+abbrev pub has_bit : (mask i : ℕ) → Bool
+has_bit mask i = eqb (mask / 2 ^ i % 2) 1
 
 -- the mask with bit i set, whether it was set or not
-abbrev pub withBit : (mask i : ℕ) → ℕ
-withBit mask i = cond (hasBit mask i) mask (mask + 2 ^ i)
+abbrev pub with_bit : (mask i : ℕ) → ℕ
+with_bit mask i = cond (has_bit mask i) mask (mask + 2 ^ i)
 
 -- the sequence of block k
-abbrev pub sequenceOf : ℕ → ℕ
-sequenceOf k = k % 65536
+abbrev pub sequence_of : ℕ → ℕ
+sequence_of k = k % 65536
 
 -- how far a host is, by the names of document 01: running, done, or an end H1 (with the content status) to H4
 pub data Ending : Type 0 where
   running : Ending
   done : Ending
-  H1 : (status : ℕ) → Ending
-  H2 : Ending
-  H3 : Ending
-  H4 : Ending
+  row_h1 : (status : ℕ) → Ending
+  row_h2 : Ending
+  row_h3 : Ending
+  row_h4 : Ending
 
-abbrev pub endingOf : End → Ending
-endingOf end.Done = done
-endingOf (end.Status s) = H1 s
-endingOf end.Foreign = H2
-endingOf end.Unexpected = H3
-endingOf end.Busy = H4
+abbrev pub ending_of : End → Ending
+ending_of end.Done = done
+ending_of (end.Status s) = row_h1 s
+ending_of end.Foreign = row_h2
+ending_of end.Unexpected = row_h3
+ending_of end.Busy = row_h4
 
 -- the number of the end, 0 where the host runs or is done; and the content status of H1, 0 otherwise
 abbrev pub number_of : Ending → ℕ
 number_of running = 0
 number_of done = 0
-number_of (H1 status) = 1
-number_of H2 = 2
-number_of H3 = 3
-number_of H4 = 4
+number_of (row_h1 status) = 1
+number_of row_h2 = 2
+number_of row_h3 = 3
+number_of row_h4 = 4
 
-abbrev pub statusOf : Ending → ℕ
-statusOf running = 0
-statusOf done = 0
-statusOf (H1 status) = status
-statusOf H2 = 0
-statusOf H3 = 0
-statusOf H4 = 0
+abbrev pub status_of : Ending → ℕ
+status_of running = 0
+status_of done = 0
+status_of (row_h1 status) = status
+status_of row_h2 = 0
+status_of row_h3 = 0
+status_of row_h4 = 0
 
-abbrev pub endingIn : HostStage → Ending
-endingIn Fresh = running
-endingIn Opening = running
-endingIn Listing = running
-endingIn (Offering t) = running
-endingIn (Waiting t) = running
-endingIn (Sending a) = running
-endingIn Closing = running
-endingIn (Ended e) = endingOf e
+abbrev pub ending_in : HostStage → Ending
+ending_in Fresh = running
+ending_in Opening = running
+ending_in Listing = running
+ending_in (Offering t) = running
+ending_in (Waiting t) = running
+ending_in (Sending a) = running
+ending_in Closing = running
+ending_in (Ended e) = ending_of e
 
-abbrev pub toldProgress : Progress → Ending
-toldProgress progress.Running = running
-toldProgress (progress.Ended e) = endingOf e
+abbrev pub told_progress : Progress → Ending
+told_progress progress.Running = running
+told_progress (progress.Ended e) = ending_of e
 
-abbrev pub hasEnded : HostStage → Bool
-hasEnded Fresh = false
-hasEnded Opening = false
-hasEnded Listing = false
-hasEnded (Offering t) = false
-hasEnded (Waiting t) = false
-hasEnded (Sending a) = false
-hasEnded Closing = false
-hasEnded (Ended e) = true
+abbrev pub has_ended : HostStage → Bool
+has_ended Fresh = false
+has_ended Opening = false
+has_ended Listing = false
+has_ended (Offering t) = false
+has_ended (Waiting t) = false
+has_ended (Sending a) = false
+has_ended Closing = false
+has_ended (Ended e) = true
 
 -- the fields of the report
 pub record Reported : Type 0 where
@@ -127,20 +127,20 @@ pub record Reported : Type 0 where
   pub ending : Ending
 
 -- the report: completed offers are the ones in the mask
-unfoldable pub reportOf : Host → Reported
-reportOf h = record {
+unfoldable pub report_of : Host → Reported
+report_of h = record {
   completed = ones h.mask;
   mask = h.mask;
   packets = h.packets;
   passes = h.passes;
-  ending = endingIn h.stage;
+  ending = ending_in h.stage;
 }
 
-abbrev pub toldReport : Report → Reported
-toldReport r = record {
+abbrev pub told_report : Report → Reported
+told_report r = record {
   completed = r.completed;
   mask = r.mask;
   packets = r.packets;
   passes = r.passes;
-  ending = toldProgress r.progress;
+  ending = told_progress r.progress;
 }

@@ -1,7 +1,7 @@
 // Row N1: a record that does not fit the bundle, decided in constant time by how many offers the bundle has and how many records the body in hand has. And
 // whether a block is the last of its body.
 ghost use Rattle.std.specs.Prelude.{◌≡◌, ◌^◌, leb};
-ghost use Rattle.host_record.specs.Fits.{turnBreaks, placeBreaks, stageBreaks, recordBreaks, isLastOf, last_of, entryBody, bodyOn, inHand};
+ghost use Rattle.host_record.specs.Fits.{turn_breaks, place_breaks, stage_breaks, record_breaks, is_last_of, last_of, entry_body, body_on, in_hand};
 
 use crate::record::{Host, HostStage, PACKET_LIMIT, Place, Turn};
 use bundle_layout::Entry;
@@ -11,7 +11,7 @@ use bundle_layout::limits::OFFER_LIMIT;
 pub const BUSY_LIMIT: u32 = 8;
 
 // The body of an entry: where it starts and ends, and how many records it has.
-#[derive(Drop)]
+#[derive(Clone, Copy)]
 pub struct Body {
     pub start: usize,
     pub end: u64,
@@ -19,7 +19,7 @@ pub struct Body {
 }
 
 pub fn body_of(e: Entry) -> Body
-    ensures { result ≡ entryBody e }
+    ensures { result ≡ entry_body e }
 {
     Body {
         start: e.offset as usize,
@@ -30,7 +30,7 @@ pub fn body_of(e: Entry) -> Body
 
 // The body of entry i; past the table it is empty.
 pub fn body_at(table: [Entry; OFFER_LIMIT], i: u32) -> Body
-    ensures { result ≡ bodyOn table i }
+    ensures { result ≡ body_on table i }
 {
     if i < OFFER_LIMIT as u32 {
         let e = table[i as usize];
@@ -46,20 +46,20 @@ pub fn body_at(table: [Entry; OFFER_LIMIT], i: u32) -> Body
 
 // N1: points at an entry that the bundle lacks, or counts over 8 BUSY.
 fn turn_breaks(n: u8, t: Turn) -> bool
-    ensures { result ≡ turnBreaks n t }
+    ensures { result ≡ turn_breaks n t }
 {
     (n as u32 <= t.entry) | (BUSY_LIMIT < t.busy)
 }
 
 // N1: points at an entry or a body record that the bundle lacks; no bundle has an entry past the limit.
 fn place_breaks(n: u8, k: u32, p: Place) -> bool
-    ensures { result ≡ placeBreaks n k p }
+    ensures { result ≡ place_breaks n k p }
 {
     (n as u32 <= p.entry) | ((OFFER_LIMIT as u32 <= p.entry) | (k <= p.block))
 }
 
 fn stage_breaks(n: u8, k: u32, stage: HostStage) -> bool
-    ensures { result ≡ stageBreaks n k stage }
+    ensures { result ≡ stage_breaks n k stage }
 {
     match stage {
         HostStage::Fresh => false,
@@ -89,7 +89,7 @@ fn mask_breaks(n: u8, mask: u32) -> bool
 
 // N1: .. more passes than offers, 2^31 or more packets, or a mask bit past its offers.
 pub fn breaks(n: u8, k: u32, h: Host) -> bool
-    ensures { result ≡ recordBreaks n k h }
+    ensures { result ≡ record_breaks n k h }
 {
     let stage = h.stage;
     let points = stage_breaks(n, k, stage);
@@ -99,7 +99,7 @@ pub fn breaks(n: u8, k: u32, h: Host) -> bool
 
 // The block in hand is the last of its body, which has k records.
 pub fn is_last(k: u32, p: Place) -> bool
-    ensures { result ≡ isLastOf k p }
+    ensures { result ≡ is_last_of k p }
 {
     (p.block as u64) + 1 == k as u64
 }
@@ -124,7 +124,7 @@ pub fn last_in(k: u32, stage: HostStage) -> bool
 
 // The entry in hand, and 0 where there is none.
 pub fn in_hand(stage: HostStage) -> u32
-    ensures { result ≡ inHand stage }
+    ensures { result ≡ in_hand stage }
 {
     match stage {
         HostStage::Fresh => 0,

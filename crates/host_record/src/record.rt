@@ -1,6 +1,6 @@
 // The host's record (document 01, "The host").
 ghost use Rattle.std.specs.Prelude.{◌≡◌};
-ghost use Rattle.host_record.specs.Record.{freshHost, endingOf, number_of, statusOf, endingIn, toldProgress, toldReport, reportOf, sequenceOf};
+ghost use Rattle.host_record.specs.Record.{fresh_host, ending_of, number_of, status_of, ending_in, told_progress, told_report, report_of, sequence_of};
 
 use crate::report::{Progress, Report};
 
@@ -8,28 +8,28 @@ use crate::report::{Progress, Report};
 pub const PACKET_LIMIT: u32 = 0x80000000;
 
 // The offer in hand, and the BUSY replies that it had in this pass.
-#[derive(Drop)]
+#[derive(Clone, Copy)]
 pub struct Turn {
     pub entry: u32,
     pub busy: u32,
 }
 
 // A block: its entry, and its number in the entry's body.
-#[derive(Drop)]
+#[derive(Clone, Copy)]
 pub struct Place {
     pub entry: u32,
     pub block: u32,
 }
 
 // The block whose reply is awaited, and whether a copy of the reply before it was passed over meanwhile (document 02, A4).
-#[derive(Drop)]
+#[derive(Clone, Copy)]
 pub struct Awaited {
     pub place: Place,
     pub passed: bool,
 }
 
 // How a session ends.
-#[derive(Drop)]
+#[derive(Clone, Copy)]
 pub enum End {
     Done,
     // H1: a content status that is not 0.
@@ -45,7 +45,7 @@ pub enum End {
 impl End {
     // The number of the row that ends it, 0 where it is done.
     pub fn number(self) -> u8
-        ensures { result ≡ number_of (endingOf self) }
+        ensures { result ≡ number_of (ending_of self) }
     {
         match self {
             End::Done => 0,
@@ -58,7 +58,7 @@ impl End {
 
     // The content status of H1, and 0 otherwise.
     pub fn status(self) -> u8
-        ensures { result ≡ statusOf (endingOf self) }
+        ensures { result ≡ status_of (ending_of self) }
     {
         match self {
             End::Done => 0,
@@ -71,7 +71,7 @@ impl End {
 }
 
 // What the host awaits.
-#[derive(Drop)]
+#[derive(Clone, Copy)]
 pub enum HostStage {
     // Nothing was sent yet.
     Fresh,
@@ -90,7 +90,7 @@ pub enum HostStage {
     Ended(End),
 }
 
-#[derive(Drop)]
+#[derive(Clone, Copy)]
 pub struct Host {
     pub token: u8,
     pub stage: HostStage,
@@ -105,14 +105,14 @@ pub struct Host {
 
 // The sequence of block k.
 pub fn sequence(k: u32) -> u16
-    ensures { result ≡ sequenceOf k }
+    ensures { result ≡ sequence_of k }
 {
     (k % 65536) as u16
 }
 
 // How far a host is.
 fn progress(stage: HostStage) -> Progress
-    ensures { toldProgress result ≡ endingIn stage }
+    ensures { told_progress result ≡ ending_in stage }
 {
     match stage {
         HostStage::Fresh => Progress::Running,
@@ -129,7 +129,7 @@ fn progress(stage: HostStage) -> Progress
 impl Host {
     // A host that has sent nothing.
     pub fn fresh(token: u8) -> Self
-        ensures { result ≡ freshHost token }
+        ensures { result ≡ fresh_host token }
     {
         Host {
             token,
@@ -144,7 +144,7 @@ impl Host {
 
     // The completed offers are the ones in the mask.
     pub fn report(self) -> Report
-        ensures { toldReport result ≡ reportOf self }
+        ensures { told_report result ≡ report_of self }
     {
         let stage = self.stage;
         let how = progress(stage);

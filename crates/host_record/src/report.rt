@@ -1,13 +1,13 @@
 // The fields of the report (document 01, "The host").
 use crate::record::End;
 
-#[derive(Drop)]
+#[derive(Clone, Copy)]
 pub enum Progress {
     Running,
     Ended(End),
 }
 
-#[derive(Drop)]
+#[derive(Clone, Copy)]
 pub struct Report {
     // How many offers were completed, and which.
     pub completed: u32,

@@ -2,54 +2,54 @@
 use Rattle.std.specs.Prelude.{ℕ, cond, List, [], ◌∷◌, ltb, get_or}
 
 -- the step codes of the table; the cells with no step end with H3
-abbrev pub NONE : ℕ
-NONE = 0
+abbrev pub step_none : ℕ
+step_none = 0
 
-abbrev pub LIST : ℕ
-LIST = 1
+abbrev pub step_list : ℕ
+step_list = 1
 
-abbrev pub OFFER : ℕ
-OFFER = 2
+abbrev pub step_offer : ℕ
+step_offer = 2
 
-abbrev pub SEND : ℕ
-SEND = 3
+abbrev pub step_send : ℕ
+step_send = 3
 
-abbrev pub NEXT-OFFER : ℕ
-NEXT-OFFER = 4
+abbrev pub step_next_offer : ℕ
+step_next_offer = 4
 
-abbrev pub WAIT : ℕ
-WAIT = 5
+abbrev pub step_wait : ℕ
+step_wait = 5
 
-abbrev pub SAME : ℕ
-SAME = 6
+abbrev pub step_same : ℕ
+step_same = 6
 
-abbrev pub DECIDE : ℕ
-DECIDE = 7
+abbrev pub step_decide : ℕ
+step_decide = 7
 
 -- the rows of the table, by stage
-abbrev pub OPENING : ℕ
-OPENING = 0
+abbrev pub opening_row : ℕ
+opening_row = 0
 
-abbrev pub LISTING : ℕ
-LISTING = 1
+abbrev pub listing_row : ℕ
+listing_row = 1
 
-abbrev pub OFFERING : ℕ
-OFFERING = 2
+abbrev pub offering_row : ℕ
+offering_row = 2
 
-abbrev pub WAITING : ℕ
-WAITING = 3
+abbrev pub waiting_row : ℕ
+waiting_row = 3
 
-abbrev pub CLOSING : ℕ
-CLOSING = 4
+abbrev pub closing_row : ℕ
+closing_row = 4
 
 -- rows: opening, listing, offering, waiting, closing; columns: SKIP, ACCEPT, REJECT, BUSY, READY, any other status
 unfoldable pub table : List (List ℕ)
 table =
-    (NONE ∷ LIST ∷ NONE ∷ NONE ∷ NONE ∷ NONE ∷ [])
-    ∷ (NONE ∷ OFFER ∷ NONE ∷ NONE ∷ NONE ∷ NONE ∷ [])
-    ∷ (NEXT-OFFER ∷ SEND ∷ NEXT-OFFER ∷ WAIT ∷ NONE ∷ NONE ∷ [])
-    ∷ (NONE ∷ NONE ∷ NONE ∷ NONE ∷ SAME ∷ NONE ∷ [])
-    ∷ (NONE ∷ DECIDE ∷ NONE ∷ NONE ∷ NONE ∷ NONE ∷ [])
+    (step_none ∷ step_list ∷ step_none ∷ step_none ∷ step_none ∷ step_none ∷ [])
+    ∷ (step_none ∷ step_offer ∷ step_none ∷ step_none ∷ step_none ∷ step_none ∷ [])
+    ∷ (step_next_offer ∷ step_send ∷ step_next_offer ∷ step_wait ∷ step_none ∷ step_none ∷ [])
+    ∷ (step_none ∷ step_none ∷ step_none ∷ step_none ∷ step_same ∷ step_none ∷ [])
+    ∷ (step_none ∷ step_decide ∷ step_none ∷ step_none ∷ step_none ∷ step_none ∷ [])
     ∷ []
 
 -- the column of a status

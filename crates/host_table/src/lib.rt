@@ -1,4 +1,6 @@
 // The host's next step, a table of rows by stage and reply class (document 01, "The host").
+#![tactic(auto)]
+
 ghost use Rattle.std.specs.Prelude.{◌≡◌};
 ghost use Rattle.host_table.specs.Table.{class_of, cell};
 

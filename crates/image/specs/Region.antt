@@ -14,8 +14,8 @@ abbrev pub place_of : Region → RegionAddress → StagingOffset
 place_of r a = record { 0 = r.base.0 + a.0 }
 
 -- the region lies in a buffer of n bytes, and its end is a staging offset, which has 32 bits
-abbrev pub isInside : Region → ℕ → Bool
-isInside r n = leb (r.base.0 + r.len) n && ltb (r.base.0 + r.len) (2 ^ 32)
+abbrev pub is_inside : Region → ℕ → Bool
+is_inside r n = leb (r.base.0 + r.len) n && ltb (r.base.0 + r.len) (2 ^ 32)
 
 -- n bytes at an address lie in the region: a sum of numbers, which does not wrap
 abbrev pub holds : Region → RegionAddress → ℕ → Bool
@@ -26,8 +26,8 @@ unfoldable pub within : (base len : ℕ) → (List ℕ → List ℕ) → List �
 within base len f s = take base s ++ (f (take len (drop base s)) ++ drop (base + len) s)
 
 -- the bytes of a region
-unfoldable pub regionBytes : Region → List ℕ → List ℕ
-regionBytes r s = take r.len (drop r.base.0 s)
+unfoldable pub region_bytes : Region → List ℕ → List ℕ
+region_bytes r s = take r.len (drop r.base.0 s)
 
 -- what an erase leaves of n bytes
 unfoldable pub blank : ℕ → List ℕ
@@ -38,10 +38,10 @@ unfoldable pub put : (at : ℕ) → (bytes l : List ℕ) → List ℕ
 put at bytes l = take at l ++ (bytes ++ drop (at + length bytes) l)
 
 -- the buffer after the region's erase; a region that the buffer does not hold changes nothing
-unfoldable pub eraseOf : Region → List ℕ → List ℕ
-eraseOf r s = cond (isInside r (length s)) (within r.base.0 r.len (λ old. blank r.len) s) s
+unfoldable pub erase_of : Region → List ℕ → List ℕ
+erase_of r s = cond (is_inside r (length s)) (within r.base.0 r.len (λ old. blank r.len) s) s
 
 -- the buffer after a write: the bytes stand from the offset of the address on; bytes that the region does not hold change nothing, and so does a region
 -- that the buffer does not hold
-unfoldable pub writeOf : Region → RegionAddress → (bytes s : List ℕ) → List ℕ
-writeOf r a bytes s = cond (isInside r (length s) && holds r a (length bytes)) (put (place_of r a).0 bytes s) s
+unfoldable pub write_of : Region → RegionAddress → (bytes s : List ℕ) → List ℕ
+write_of r a bytes s = cond (is_inside r (length s) && holds r a (length bytes)) (put (place_of r a).0 bytes s) s

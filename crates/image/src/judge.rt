@@ -1,14 +1,14 @@
 // The image in a region: bytes 0-3 its version, byte 4 its component, the last two bytes the CRC of all before them, high byte first.
 ghost use Rattle.std.specs.Prelude.{◌≡◌, ◌+◌, ◌*◌};
-ghost use Rattle.image.specs.Judge.{imageIn};
-ghost use Rattle.image.specs.Region.{regionBytes};
+ghost use Rattle.image.specs.Judge.{image_in};
+ghost use Rattle.image.specs.Region.{region_bytes};
 
 use crate::region::Region;
 use crc16::crc16;
 use wire::version::Version;
 use wire::words::least;
 
-#[derive(Drop)]
+#[derive(Clone, Copy)]
 pub enum Image {
     // Its CRC is wrong.
     Damaged,
@@ -27,7 +27,7 @@ fn high_first(high: u8, low: u8) -> u16
 
 // What these bytes are, for the component with this id: CRC first, then id, then the version that they bear.
 pub fn examine(m: &[u8], id: u8) -> Image
-    ensures { result ≡ imageIn m.now id }
+    ensures { result ≡ image_in m.now id }
 {
     let n = m.len();
     if n < 8 {
@@ -48,7 +48,7 @@ pub fn examine(m: &[u8], id: u8) -> Image
 impl Region {
     // The image in the region; of a region that is not wholly in the buffer, in the bytes that are.
     pub fn image(self, staging: &[u8], id: u8) -> Image
-        ensures { result ≡ imageIn (regionBytes self staging.now) id }
+        ensures { result ≡ image_in (region_bytes self staging.now) id }
     {
         let start = least(self.base.number() as usize, staging.len());
         let end = start + least(self.len as usize, staging.len() - start);

@@ -1,13 +1,13 @@
 // A region of the staging buffer. An address inside a region and an offset into the buffer are two types, and only the region's base turns an address
 // into an offset.
 ghost use Rattle.std.specs.Prelude.{◌≡◌, ◌+◌, ◌^◌, ◌≤◌, ◌<◌, length};
-ghost use Rattle.image.specs.Region.{place_of, isInside, holds as holdsBytes, put as putBytes, eraseOf, writeOf};
+ghost use Rattle.image.specs.Region.{place_of, is_inside, holds as holds_bytes, put as put_bytes, erase_of, write_of};
 
 use wire::address::RegionAddress;
 use wire::words::{copy, fill};
 
 // An offset into the staging buffer.
-#[derive(Drop)]
+#[derive(Clone, Copy)]
 pub struct StagingOffset(u32);
 
 impl StagingOffset {
@@ -26,7 +26,7 @@ impl StagingOffset {
     }
 }
 
-#[derive(Drop)]
+#[derive(Clone, Copy)]
 pub struct Region {
     pub base: StagingOffset,
     pub len: u32,
@@ -38,7 +38,7 @@ const ERASED: u8 = 0xFF;
 // The bytes go into the buffer, from the offset on.
 fn put(staging: &mut [u8], place: StagingOffset, bytes: &[u8])
     requires { place.0 + length bytes.now ≤ length staging.old }
-    ensures { staging.new ≡ putBytes place.0 bytes.now staging.old }
+    ensures { staging.new ≡ put_bytes place.0 bytes.now staging.old }
 {
     let at = place.0 as usize;
     let end = at + bytes.len();
@@ -48,7 +48,7 @@ fn put(staging: &mut [u8], place: StagingOffset, bytes: &[u8])
 impl Region {
     // It lies in a buffer of n bytes, and its end is a staging offset.
     pub fn is_inside(self, n: usize) -> bool
-        ensures { result ≡ isInside self n }
+        ensures { result ≡ is_inside self n }
     {
         let end = (self.base.0 as u64) + (self.len as u64);
         (end <= (n as u64)) & (end < 0x100000000)
@@ -56,7 +56,7 @@ impl Region {
 
     // It holds n bytes at an address. The sum of the two is not formed, so it does not wrap.
     pub fn holds(self, a: RegionAddress, n: usize) -> bool
-        ensures { result ≡ holdsBytes self a n }
+        ensures { result ≡ holds_bytes self a n }
     {
         let len = self.len as usize;
         if len < n {
@@ -75,7 +75,7 @@ impl Region {
 
     // Each of its bytes becomes 0xFF; a region that the buffer does not hold is left alone.
     pub fn erase(self, staging: &mut [u8])
-        ensures { staging.new ≡ eraseOf self staging.old }
+        ensures { staging.new ≡ erase_of self staging.old }
     {
         let base = self.base.0 as usize;
         let end = ((self.base.0 as u64) + (self.len as u64)) as usize;
@@ -86,7 +86,7 @@ impl Region {
 
     // The bytes go in from the offset of the address on; nothing is written where the region does not hold them, or the buffer does not hold the region.
     pub fn write(self, a: RegionAddress, staging: &mut [u8], bytes: &[u8])
-        ensures { staging.new ≡ writeOf self a bytes.now staging.old }
+        ensures { staging.new ≡ write_of self a bytes.now staging.old }
     {
         if self.is_inside(staging.len()) & self.holds(a, bytes.len()) {
             put(staging, self.place_of(a), bytes);

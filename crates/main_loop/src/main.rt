@@ -2,7 +2,7 @@
 #![tactic(auto)]
 
 ghost use Rattle.std.specs.Prelude.{◌≡◌, true};
-ghost use Rattle.device.specs.Entries.{serveEntry, serveStaging};
+ghost use Rattle.device.specs.Entries.{serve_entry, serve_staging};
 
 use device::answer::Channel;
 use device::record::Device;
@@ -147,8 +147,8 @@ fn turn(
     packet: &[u8],
 ) -> io::Result<()>
     ensures { frame.served ≡ true
-        → (device.new ≡ (serveEntry device.old frame.channel staging.old packet.now).device)
-        × (staging.new ≡ serveStaging device.old frame.channel staging.old packet.now) }
+        → (device.new ≡ (serve_entry device.old frame.channel staging.old packet.now).device)
+        × (staging.new ≡ serve_staging device.old frame.channel staging.old packet.now) }
 {
     if frame.served {
         let answer = serve_in_place(device, frame.channel, staging, packet);

@@ -1,12 +1,14 @@
 // The CRC both ways, by the table of `crc16` and bit by bit as the base took it, for the measurement of tests/speed: the updater does not call this crate.
+#![tactic(auto)]
+
 ghost use Rattle.std.specs.Prelude.{◌≡◌};
-ghost use Rattle.crc16.specs.Crc.{bitStep, byteStep, crcOf};
+ghost use Rattle.crc16.specs.Crc.{bit_step, byte_step, crc_of};
 
 use crc16::crc16;
 
 // One bit: the register shifted left, with the polynomial where the bit that is shifted out is 1.
 fn bit_step(r: u16) -> u16
-    ensures { result ≡ bitStep r }
+    ensures { result ≡ bit_step r }
 {
     if r < 0x8000 {
         r << 1
@@ -17,7 +19,7 @@ fn bit_step(r: u16) -> u16
 
 // One byte: into the high half of the register, then eight bits.
 fn byte_step(r: u16, b: u8) -> u16
-    ensures { result ≡ byteStep r b }
+    ensures { result ≡ byte_step r b }
 {
     let mut x = r ^ ((b as u16) << 8);
     let mut k: usize = 0;
@@ -30,7 +32,7 @@ fn byte_step(r: u16, b: u8) -> u16
 
 #[unsafe(no_mangle)]
 pub extern "C" fn crc16_by_bits(bytes: &[u8]) -> u16
-    ensures { result ≡ crcOf bytes.now }
+    ensures { result ≡ crc_of bytes.now }
 {
     let mut r: u16 = 0;
     let mut i = 0;
@@ -43,7 +45,7 @@ pub extern "C" fn crc16_by_bits(bytes: &[u8]) -> u16
 
 #[unsafe(no_mangle)]
 pub extern "C" fn crc16_by_table(bytes: &[u8]) -> u16
-    ensures { result ≡ crcOf bytes.now }
+    ensures { result ≡ crc_of bytes.now }
 {
     crc16(bytes)
 }

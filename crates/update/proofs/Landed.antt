@@ -11,279 +11,279 @@ use lib.Dec.{T, T_not, not_T, ltb, leb, eqb, eqb_refl, eqb→eq, leb→le, le→
 use lib.ListN.{length, set, length-set}
 use lib.Seq.{get_or-set_same, get_or-set_other, map-set_same}
 use Rattle.wire.specs.Checks.{any}
-use Rattle.wire.specs.Version.{releaseOf}
+use Rattle.wire.specs.Version.{release_of}
 use Rattle.wire_offer.specs.declared.offer.OfferFields.{OfferFields}
-use Rattle.device_component.specs.Lists.{componentAt}
-use Rattle.device_component.specs.Record.{isPending, withStaged, blankComponent}
-use Rattle.device_component.specs.Versions.{imageVersionFits}
+use Rattle.device_component.specs.Lists.{component_at}
+use Rattle.device_component.specs.Record.{is_pending, with_staged, blank_component}
+use Rattle.device_component.specs.Versions.{image_version_fits}
 use Rattle.device_component.specs.declared.record.Component.{Component}
 use Rattle.device_component.specs.declared.record.Staged.TheVariants as staged
 use Rattle.device_component.specs.declared.list.Found.{Found}
 use Rattle.device_component.specs.declared.list.Found.TheVariants as found
-use Rattle.device_component.proofs.list.Laws.{find_at, find-same}
-use Rattle.device_component.proofs.rule.Laws.{offer-release}
+use Rattle.device_component.proofs.list.Laws.{find_at, find_same}
+use Rattle.device_component.proofs.rule.Laws.{offer_release}
 use Rattle.update_passes.specs.Sets.{Set, In, ins, none, from}
-use Rattle.update_passes.specs.Passes.{Offers, needMet}
-use Rattle.update_passes.proofs.Tests.{bool_cases, or_inl, or_inr, or_cases, both, and_l, and_r, is_true, holds, fails, T-ext, and-false}
-use Rattle.update_passes.proofs.Sets.{ins-old, ins-new, in-from, from_in, some_out, some_in}
-use Rattle.bundle_layout.specs.Layout.{countIn}
+use Rattle.update_passes.specs.Passes.{Offers, need_met}
+use Rattle.update_passes.proofs.Tests.{bool_cases, or_inl, or_inr, or_cases, both, and_l, and_r, is_true, holds, fails, true_ext, and_false}
+use Rattle.update_passes.proofs.Sets.{ins_old, ins_new, in_from, from_in, some_out, some_in}
+use Rattle.bundle_layout.specs.Layout.{count_in}
 use Rattle.bundle.proofs.Accepted.{Accepted}
-use Rattle.device_slots.specs.Slots.{slot_of, isAbsent}
+use Rattle.device_slots.specs.Slots.{slot_of, is_absent}
 use Rattle.device_offering.specs.Offer as offering
 use Rattle.device_offering.specs.Offer.{below}
-use Rattle.device.specs.Offer.{needUnmet}
-use Rattle.device.specs.Record.{find, component, toIdle, idleWith}
-use Rattle.device.specs.Refusals.{breaksD1}
+use Rattle.device.specs.Offer.{need_unmet}
+use Rattle.device.specs.Record.{find, component, to_idle, idle_with}
+use Rattle.device.specs.Refusals.{breaks_d1}
 use Rattle.device.specs.declared.record.Device.{Device}
-use Rattle.device.proofs.Opened.{staged-passes}
-use Rattle.host.specs.Step.{blocksAt}
-use Rattle.update.specs.Claim.{offerAt, isEligible, isMet, feeds, NotTargeted}
-use Rattle.update.proofs.Eligible.{ids-apart, rejected, rejected-is, no_slot, absent-rejected, pending-rejected, Fresher, eligible-says}
+use Rattle.device.proofs.Opened.{staged_passes}
+use Rattle.host.specs.Step.{blocks_at}
+use Rattle.update.specs.Claim.{offer_at, is_eligible, is_met, feeds, NotTargeted}
+use Rattle.update.proofs.Eligible.{ids_apart, rejected, rejected_is, no_slot, absent_rejected, pending_rejected, Fresher, eligible_says}
 
 -- a slot was found there
-abbrev isSlot : Found → ℕ → Bool
-isSlot found.Nothing k = false
-isSlot (found.At l) k = eqb l k
+abbrev is_slot : Found → ℕ → Bool
+is_slot found.Nothing k = false
+is_slot (found.At l) k = eqb l k
 
 -- the slot that the test names
-slot_is : (f : Found) (k : ℕ) → T (isSlot f k) → f ≡ found.At k
+slot_is : (f : Found) (k : ℕ) → T (is_slot f k) → f ≡ found.At k
 slot_is found.Nothing k t = absurd t
 slot_is (found.At l) k t = ap found.At (eqb→eq l k t)
 
 -- the test of a slot that was found
-is-slot : (f : Found) (k : ℕ) → f ≡ found.At k → T (isSlot f k)
-is-slot f k e = rw e (eqb_refl k)
+is_slot_lem : (f : Found) (k : ℕ) → f ≡ found.At k → T (is_slot f k)
+is_slot_lem f k e = rw e (eqb_refl k)
 
 -- a number that is not below
 at_least : (x l : ℕ) → l ≤ x → T (not (ltb x l))
 at_least x l h = not_T (ltb x l) (λ v. omega (arith, ltb→lt x l v))
 
 -- two equal slots
-pub same-slot : (f : Found) (k l : ℕ) → f ≡ found.At k → f ≡ found.At l → k ≡ l
-same-slot f k l e e' = cc
+pub same_slot : (f : Found) (k l : ℕ) → f ≡ found.At k → f ≡ found.At l → k ≡ l
+same_slot f k l e e' = cc
 
 -- an offer of a bundle is one of its numbers
-pub numbered : (b : List ℕ) (i : ℕ) → i < countIn b → In i (from 0 (countIn b))
-numbered b i l = from_in (countIn b) 0 i (omega arith) (omega arith)
+pub numbered : (b : List ℕ) (i : ℕ) → i < count_in b → In i (from 0 (count_in b))
+numbered b i l = from_in (count_in b) 0 i (omega arith) (omega arith)
 
 -- and the other way round
-pub below-count : (b : List ℕ) (i : ℕ) → In i (from 0 (countIn b)) → i < countIn b
-below-count b i m = omega (arith, in-from (countIn b) 0 i m)
+pub below_count : (b : List ℕ) (i : ℕ) → In i (from 0 (count_in b)) → i < count_in b
+below_count b i m = omega (arith, in_from (count_in b) 0 i m)
 
 module _ (b : List ℕ) (α : Accepted b) (d : Device) where
   -- the offers, as the passes see them
   abbrev pub offers : Offers
   offers = record {
-    eligible = λ i. isEligible (toIdle d) (offerAt b i);
-    met = needMet (λ i. isMet (toIdle d) (offerAt b i)) (λ j i. feeds (offerAt b j) (offerAt b i)) (from 0 (countIn b));
-    records = λ i. length (blocksAt b i);
+    eligible = λ i. is_eligible (to_idle d) (offer_at b i);
+    met = need_met (λ i. is_met (to_idle d) (offer_at b i)) (λ j i. feeds (offer_at b j) (offer_at b i)) (from 0 (count_in b));
+    records = λ i. length (blocks_at b i);
   }
 
   -- a member of the set for the component in slot k
   pub record Source (S : Set) (k : ℕ) : Type 0 where
     pub j : ℕ
-    pub listed : j < countIn b
+    pub listed : j < count_in b
     pub member : T (S j)
-    pub here : find d (offerAt b j).id ≡ found.At k
+    pub here : find d (offer_at b j).id ≡ found.At k
 
   -- there is one, or none
   pub decide : (S : Set) (k : ℕ) → Source S k ⊎ NotTargeted d b S k
   decide S k =
-      bool_cases (any for (from 0 (countIn b)))
-      (λ t. let x = some_out (from 0 (countIn b)) for t in
+      bool_cases (any for (from 0 (count_in b)))
+      (λ t. let x = some_out (from 0 (count_in b)) for t in
       inl (record {
         j = x.j;
-        listed = below-count b x.j x.listed;
+        listed = below_count b x.j x.listed;
         member = and_l (S x.j) _ x.has;
-        here = slot_is (find d (offerAt b x.j).id) k (and_r (S x.j) _ x.has);
+        here = slot_is (find d (offer_at b x.j).id) k (and_r (S x.j) _ x.has);
       }))
-      (λ t. inr (λ i l m e. T_not (any for (from 0 (countIn b))) t
-      (some_in (from 0 (countIn b)) for i (numbered b i l) (both (S i) (isSlot (find d (offerAt b i).id) k) m (is-slot (find d (offerAt b i).id) k e)))))
+      (λ t. inr (λ i l m e. T_not (any for (from 0 (count_in b))) t
+      (some_in (from 0 (count_in b)) for i (numbered b i l) (both (S i) (is_slot (find d (offer_at b i).id) k) m (is_slot_lem (find d (offer_at b i).id) k e)))))
     where
       for : ℕ → Bool
-      for j = S j && isSlot (find d (offerAt b j).id) k
+      for j = S j && is_slot (find d (offer_at b j).id) k
 
   -- what is found of an offer's component
-  pub at_slot : (i k : ℕ) → find d (offerAt b i).id ≡ found.At k → (k < d.count) × (k < length d.components) × ((component d k).fixed.id ≡ (offerAt b i).id)
-  at_slot i k e = find_at (offerAt b i).id d.count d.components k e
+  pub at_slot : (i k : ℕ) → find d (offer_at b i).id ≡ found.At k → (k < d.count) × (k < length d.components) × ((component d k).fixed.id ≡ (offer_at b i).id)
+  at_slot i k e = find_at (offer_at b i).id d.count d.components k e
 
   -- two offers for one slot are one
-  pub one-offer : (i j k : ℕ) → i < countIn b → j < countIn b → find d (offerAt b i).id ≡ found.At k → find d (offerAt b j).id ≡ found.At k → i ≡ j
-  one-offer i j k l m e e' = ids-apart b α i j l m (sym (at_slot i k e).2 ∙ (at_slot j k e').2)
+  pub one_offer : (i j k : ℕ) → i < count_in b → j < count_in b → find d (offer_at b i).id ≡ found.At k → find d (offer_at b j).id ≡ found.At k → i ≡ j
+  one_offer i j k l m e e' = ids_apart b α i j l m (sym (at_slot i k e).2 ∙ (at_slot j k e').2)
 
   -- the components of a device on which a set has landed
   pub record Holding (S : Set) (ps : List Component) : Type 0 where
     pub slots : length ps ≡ length d.components
     pub ids : map (λ c. c.fixed.id) ps ≡ map (λ c. c.fixed.id) d.components
-    pub members : (i k : ℕ) → i < countIn b → T (S i) → find d (offerAt b i).id ≡ found.At k → componentAt ps k ≡ withStaged (component d k) (offerAt b i).version
-    pub others : (k : ℕ) → NotTargeted d b S k → componentAt ps k ≡ component d k
-    pub d1 : breaksD1 (idleWith d ps) ≡ false
+    pub members : (i k : ℕ) → i < count_in b → T (S i) → find d (offer_at b i).id ≡ found.At k → component_at ps k ≡ with_staged (component d k) (offer_at b i).version
+    pub others : (k : ℕ) → NotTargeted d b S k → component_at ps k ≡ component d k
+    pub d1 : breaks_d1 (idle_with d ps) ≡ false
 
   -- at the start
-  pub holding-none : breaksD1 (toIdle d) ≡ false → Holding none d.components
-  holding-none h = record { slots = refl; ids = refl; members = λ i k l m. absurd m; others = λ k s. refl; d1 = h }
+  pub holding_none : breaks_d1 (to_idle d) ≡ false → Holding none d.components
+  holding_none h = record { slots = refl; ids = refl; members = λ i k l m. absurd m; others = λ k s. refl; d1 = h }
 
   module _ (S : Set) (ps : List Component) (h : Holding S ps) where
     -- ids have not changed
-    pub same-find : (id : ℕ) → find (idleWith d ps) id ≡ find d id
-    same-find id = find-same id d.count ps d.components h.ids
+    pub same_find : (id : ℕ) → find (idle_with d ps) id ≡ find d id
+    same_find id = find_same id d.count ps d.components h.ids
 
-    module _ (e : ℕ) (l : e < countIn b) where
+    module _ (e : ℕ) (l : e < count_in b) where
       -- the slot of an offer that has not landed is spared
-      pub spared : (k : ℕ) → S e ≡ false → find d (offerAt b e).id ≡ found.At k → NotTargeted d b S k
-      spared k out f i m t g = true≢false (sym (is_true (S i) t) ∙ ap S (one-offer i e k m l g f) ∙ out)
+      pub spared : (k : ℕ) → S e ≡ false → find d (offer_at b e).id ≡ found.At k → NotTargeted d b S k
+      spared k out f i m t g = true≢false (sym (is_true (S i) t) ∙ ap S (one_offer i e k m l g f) ∙ out)
 
       -- one landing more
-      pub holding-more : (k : ℕ) → S e ≡ false → find d (offerAt b e).id ≡ found.At k
-          → imageVersionFits (component d k) (offerAt b e).version ≡ true
-          → Holding (ins S e) (set ps k (withStaged (componentAt ps k) (offerAt b e).version))
-      holding-more k out f new =
+      pub holding_more : (k : ℕ) → S e ≡ false → find d (offer_at b e).id ≡ found.At k
+          → image_version_fits (component d k) (offer_at b e).version ≡ true
+          → Holding (ins S e) (set ps k (with_staged (component_at ps k) (offer_at b e).version))
+      holding_more k out f new =
           record {
             slots = length-set ps k _ ∙ h.slots;
-            ids = map-set_same (λ (c : Component). c.fixed.id) ps k _ blankComponent refl ∙ h.ids;
+            ids = map-set_same (λ (c : Component). c.fixed.id) ps k _ blank_component refl ∙ h.ids;
             members = λ i j m t g. by i j m t g (ℕ_discrete i e);
-            others = λ j s. get_or-set_other ps k j _ blankComponent (λ z. s e l (ins-new S e) (f ∙ ap found.At (sym z))) ∙ h.others j (λ i m t. s i m (ins-old S e i t));
-            d1 = staged-passes d ps k (at_slot e k f).0 h.d1 (offerAt b e).version (rw was new);
+            others = λ j s. get_or-set_other ps k j _ blank_component (λ z. s e l (ins_new S e) (f ∙ ap found.At (sym z))) ∙ h.others j (λ i m t. s i m (ins_old S e i t));
+            d1 = staged_passes d ps k (at_slot e k f).0 h.d1 (offer_at b e).version (rw was new);
           }
         where
-          was : componentAt ps k ≡ component d k
+          was : component_at ps k ≡ component d k
           was = h.others k (spared k out f)
 
-          by : (i j : ℕ) → i < countIn b → T (ins S e i) → find d (offerAt b i).id ≡ found.At j → Dec (i ≡ e)
-              → componentAt (set ps k (withStaged (componentAt ps k) (offerAt b e).version)) j ≡ withStaged (component d j) (offerAt b i).version
+          by : (i j : ℕ) → i < count_in b → T (ins S e i) → find d (offer_at b i).id ≡ found.At j → Dec (i ≡ e)
+              → component_at (set ps k (with_staged (component_at ps k) (offer_at b e).version)) j ≡ with_staged (component d j) (offer_at b i).version
           by i j m t g (yes q) =
-              let z : j ≡ k = same-slot (find d (offerAt b e).id) j k (subst (λ (n : ℕ). find d (offerAt b n).id ≡ found.At j) q g) f in
-              rw (q, z) (get_or-set_same ps k _ blankComponent (omega (arith, (at_slot e k f).1, h.slots)) ∙ ap (λ (c : Component). withStaged c (offerAt b e).version) was)
+              let z : j ≡ k = same_slot (find d (offer_at b e).id) j k (subst (λ (n : ℕ). find d (offer_at b n).id ≡ found.At j) q g) f in
+              rw (q, z) (get_or-set_same ps k _ blank_component (omega (arith, (at_slot e k f).1, h.slots)) ∙ ap (λ (c : Component). with_staged c (offer_at b e).version) was)
           by i j m t g (no q) =
-              get_or-set_other ps k j _ blankComponent (λ z. q (one-offer i e k m l (g ∙ ap found.At z) f))
+              get_or-set_other ps k j _ blank_component (λ z. q (one_offer i e k m l (g ∙ ap found.At z) f))
               ∙ h.members i j m (or_cases (eqb i e) (S i) (λ z. absurd (q (eqb→eq i e z))) (λ z. z) t) g
 
       -- an offer is eligible where it was at the start and has not landed
-      pub eligible-now : isEligible (idleWith d ps) (offerAt b e) ≡ (not (S e) && isEligible (toIdle d) (offerAt b e))
-      eligible-now =
-          rejected-is d ps o ∙ ap (λ (f : Found). not (rejected d.platform o f (componentAt ps (slot_of f)))) (same-find o.id)
+      pub eligible_now : is_eligible (idle_with d ps) (offer_at b e) ≡ (not (S e) && is_eligible (to_idle d) (offer_at b e))
+      eligible_now =
+          rejected_is d ps o ∙ ap (λ (f : Found). not (rejected d.platform o f (component_at ps (slot_of f)))) (same_find o.id)
           ∙ go (find d o.id) refl (S e) refl
-          ∙ ap (λ (x : Bool). not (S e) && x) (sym (rejected-is d d.components o))
+          ∙ ap (λ (x : Bool). not (S e) && x) (sym (rejected_is d d.components o))
         where
           -- the offer
           o : OfferFields
-          o = offerAt b e
+          o = offer_at b e
 
           go : (f : Found) → find d o.id ≡ f → (x : Bool) → S e ≡ x
-              → not (rejected d.platform o f (componentAt ps (slot_of f))) ≡ (not (S e) && not (rejected d.platform o f (component d (slot_of f))))
-          go found.Nothing f x z = rw (absent-rejected d.platform o (componentAt ps 0), absent-rejected d.platform o (component d 0)) (sym (and-false (not (S e))))
+              → not (rejected d.platform o f (component_at ps (slot_of f))) ≡ (not (S e) && not (rejected d.platform o f (component d (slot_of f))))
+          go found.Nothing f x z = rw (absent_rejected d.platform o (component_at ps 0), absent_rejected d.platform o (component d 0)) (sym (and_false (not (S e))))
           go (found.At k) f true z =
-              rw (pending-rejected d.platform o k (componentAt ps k) (ap (λ (c : Component). isPending c.staged) (h.members e k l (holds (S e) z) f)), z)
+              rw (pending_rejected d.platform o k (component_at ps k) (ap (λ (c : Component). is_pending c.staged) (h.members e k l (holds (S e) z) f)), z)
           go (found.At k) f false z = rw (h.others k (spared k z f), z)
 
       -- a member that meets the need
       record Feeding (j : ℕ) : Type 0 where
         member : T (S j)
-        for : (offerAt b j).id ≡ (offerAt b e).need
-        enough : (offerAt b e).least ≤ releaseOf (offerAt b j).version
+        for : (offer_at b j).id ≡ (offer_at b e).need
+        enough : (offer_at b e).least ≤ release_of (offer_at b j).version
 
       -- the test of a member
       abbrev fed : ℕ → Bool
-      fed j = S j && (not (eqb j e) && feeds (offerAt b j) (offerAt b e))
+      fed j = S j && (not (eqb j e) && feeds (offer_at b j) (offer_at b e))
 
       -- what that test says
       feeding : (j : ℕ) → T (fed j) → Feeding j
       feeding j t =
-          let u = and_r (not (eqb j e)) (feeds (offerAt b j) (offerAt b e)) (and_r (S j) _ t) in
-          let w = and_r (not (eqb (offerAt b e).need 0)) _ u in
+          let u = and_r (not (eqb j e)) (feeds (offer_at b j) (offer_at b e)) (and_r (S j) _ t) in
+          let w = and_r (not (eqb (offer_at b e).need 0)) _ u in
           record {
             member = and_l (S j) _ t;
-            for = eqb→eq (offerAt b j).id (offerAt b e).need (and_l (eqb (offerAt b j).id (offerAt b e).need) _ w);
-            enough = leb→le (offerAt b e).least (releaseOf (offerAt b j).version) (and_r (eqb (offerAt b j).id (offerAt b e).need) _ w);
+            for = eqb→eq (offer_at b j).id (offer_at b e).need (and_l (eqb (offer_at b j).id (offer_at b e).need) _ w);
+            enough = leb→le (offer_at b e).least (release_of (offer_at b j).version) (and_r (eqb (offer_at b j).id (offer_at b e).need) _ w);
           }
 
-      module _ (fair : (j : ℕ) → j < countIn b → T (S j) → T (isEligible (toIdle d) (offerAt b j))) (out : S e ≡ false) where
+      module _ (fair : (j : ℕ) → j < count_in b → T (S j) → T (is_eligible (to_idle d) (offer_at b j))) (out : S e ≡ false) where
         -- the offer
         abbrev o : OfferFields
-        o = offerAt b e
+        o = offer_at b e
 
         -- the numbers of the offers
         abbrev os : List ℕ
-        os = from 0 (countIn b)
+        os = from 0 (count_in b)
 
         -- the slot of a member that feeds
-        fed-slot : (j : ℕ) → j < countIn b → Feeding j → Fresher d (offerAt b j)
-        fed-slot j m y = eligible-says d (offerAt b j) (fair j m y.member)
+        fed_slot : (j : ℕ) → j < count_in b → Feeding j → Fresher d (offer_at b j)
+        fed_slot j m y = eligible_says d (offer_at b j) (fair j m y.member)
 
         -- where there is a need, the two ways to meet it agree
-        meets-slot : (f : Found) → find d o.need ≡ f → eqb o.need 0 ≡ false
-            → not (isAbsent f || below (componentAt ps (slot_of f)) o.least) ≡ (not (isAbsent f || below (component d (slot_of f)) o.least) || any fed os)
-        meets-slot found.Nothing g z =
+        meets_slot : (f : Found) → find d o.need ≡ f → eqb o.need 0 ≡ false
+            → not (is_absent f || below (component_at ps (slot_of f)) o.least) ≡ (not (is_absent f || below (component d (slot_of f)) o.least) || any fed os)
+        meets_slot found.Nothing g z =
             sym (fails (any fed os)
-            (λ t. let x = some_out os fed t in let y = feeding x.j x.has in let w = fed-slot x.j (below-count b x.j x.listed) y in
+            (λ t. let x = some_out os fed t in let y = feeding x.j x.has in let w = fed_slot x.j (below_count b x.j x.listed) y in
             no_slot w.slot (sym g ∙ ap (find d) (sym y.for) ∙ w.here)))
-        meets-slot (found.At k) g z = go (decide S k)
+        meets_slot (found.At k) g z = go (decide S k)
           where
             was : Bool
             was = not (below (component d k) o.least)
 
-            its-id : (component d k).fixed.id ≡ o.need
-            its-id = (find_at o.need d.count d.components k g).2
+            its_id : (component d k).fixed.id ≡ o.need
+            its_id = (find_at o.need d.count d.components k g).2
 
             -- a member that feeds is for slot k
-            fed-here : (j : ℕ) → j < countIn b → (y : Feeding j) → find d (offerAt b j).id ≡ found.At k
-            fed-here j m y = ap (find d) y.for ∙ g
+            fed_here : (j : ℕ) → j < count_in b → (y : Feeding j) → find d (offer_at b j).id ≡ found.At k
+            fed_here j m y = ap (find d) y.for ∙ g
 
-            go : Source S k ⊎ NotTargeted d b S k → not (below (componentAt ps k) o.least) ≡ (not (below (component d k) o.least) || any fed os)
+            go : Source S k ⊎ NotTargeted d b S k → not (below (component_at ps k) o.least) ≡ (not (below (component d k) o.least) || any fed os)
             go (inr s) =
                 rw (h.others k s)
-                (T-ext was (was || any fed os) (or_inl was (any fed os))
+                (true_ext was (was || any fed os) (or_inl was (any fed os))
                 (or_cases was (any fed os) (λ t. t)
-                (λ t. let x = some_out os fed t in let m = below-count b x.j x.listed in let y = feeding x.j x.has in
-                absurd (s x.j m y.member (fed-here x.j m y)))))
+                (λ t. let x = some_out os fed t in let m = below_count b x.j x.listed in let y = feeding x.j x.has in
+                absurd (s x.j m y.member (fed_here x.j m y)))))
             go (inl x) =
                 rw (h.members x.j k x.listed x.member x.here)
-                (T-ext (not (ltb (releaseOf (offerAt b x.j).version) o.least)) (was || any fed os)
+                (true_ext (not (ltb (release_of (offer_at b x.j).version) o.least)) (was || any fed os)
                 (λ t. or_inr was (any fed os) (some_in os fed x.j (numbered b x.j x.listed) (there (nltb→le _ _ t))))
                 (or_cases was (any fed os) stays
-                (λ t. let y = some_out os fed t in let m = below-count b y.j y.listed in let u = feeding y.j y.has in
-                let q : y.j ≡ x.j = one-offer y.j x.j k m x.listed (fed-here y.j m u) x.here in
-                at_least (releaseOf (offerAt b x.j).version) o.least (subst (λ (n : ℕ). (offerAt b e).least ≤ releaseOf (offerAt b n).version) q u.enough))))
+                (λ t. let y = some_out os fed t in let m = below_count b y.j y.listed in let u = feeding y.j y.has in
+                let q : y.j ≡ x.j = one_offer y.j x.j k m x.listed (fed_here y.j m u) x.here in
+                at_least (release_of (offer_at b x.j).version) o.least (subst (λ (n : ℕ). (offer_at b e).least ≤ release_of (offer_at b n).version) q u.enough))))
               where
-                w : Fresher d (offerAt b x.j)
-                w = eligible-says d (offerAt b x.j) (fair x.j x.listed x.member)
+                w : Fresher d (offer_at b x.j)
+                w = eligible_says d (offer_at b x.j) (fair x.j x.listed x.member)
 
                 here : w.slot ≡ k
-                here = same-slot (find d (offerAt b x.j).id) w.slot k w.here x.here
+                here = same_slot (find d (offer_at b x.j).id) w.slot k w.here x.here
 
                 free : (component d k).staged ≡ staged.Nothing
                 free = subst (λ (n : ℕ). (component d n).staged ≡ staged.Nothing) here w.free
 
-                older : releaseOf (component d k).running < releaseOf (offerAt b x.j).version
-                older = subst (λ (n : ℕ). releaseOf (component d n).running < releaseOf (offerAt b x.j).version) here (offer-release (component d w.slot) (offerAt b x.j).version w.newer)
+                older : release_of (component d k).running < release_of (offer_at b x.j).version
+                older = subst (λ (n : ℕ). release_of (component d n).running < release_of (offer_at b x.j).version) here (offer_release (component d w.slot) (offer_at b x.j).version w.newer)
 
                 other : eqb x.j e ≡ false
                 other = fails (eqb x.j e) (λ t. true≢false (sym (is_true (S x.j) x.member) ∙ ap S (eqb→eq x.j e t) ∙ out))
 
-                there : o.least ≤ releaseOf (offerAt b x.j).version → T (fed x.j)
+                there : o.least ≤ release_of (offer_at b x.j).version → T (fed x.j)
                 there c =
                     rw (other, z)
                     (both (S x.j) _ x.member
-                    (both (eqb (offerAt b x.j).id o.need) _
-                    (holds _ (eq-eqb (offerAt b x.j).id o.need (sym (at_slot x.j k x.here).2 ∙ its-id)))
-                    (le→leb o.least (releaseOf (offerAt b x.j).version) c)))
+                    (both (eqb (offer_at b x.j).id o.need) _
+                    (holds _ (eq-eqb (offer_at b x.j).id o.need (sym (at_slot x.j k x.here).2 ∙ its_id)))
+                    (le→leb o.least (release_of (offer_at b x.j).version) c)))
 
-                stays : T (not (below (component d k) o.least)) → T (not (ltb (releaseOf (offerAt b x.j).version) o.least))
+                stays : T (not (below (component d k) o.least)) → T (not (ltb (release_of (offer_at b x.j).version) o.least))
                 stays t =
-                    let a : o.least ≤ releaseOf (component d k).running = nltb→le (releaseOf (component d k).running) o.least (rw free at t) in
-                    at_least (releaseOf (offerAt b x.j).version) o.least (omega (arith, older))
+                    let a : o.least ≤ release_of (component d k).running = nltb→le (release_of (component d k).running) o.least (rw free at t) in
+                    at_least (release_of (offer_at b x.j).version) o.least (omega (arith, older))
 
         -- the need, as the device judges it
-        pub meets-now : isMet (idleWith d ps) (offerAt b e) ≡ offers.met S e
-        unfolding offering.needUnmet
-        meets-now = go (eqb o.need 0) refl
+        pub meets_now : is_met (idle_with d ps) (offer_at b e) ≡ offers.met S e
+        unfolding offering.need_unmet
+        meets_now = go (eqb o.need 0) refl
           where
             go : (x : Bool) → eqb o.need 0 ≡ x
-                → not (not (eqb o.need 0) && (isAbsent (find (idleWith d ps) o.need) || below (componentAt ps (slot_of (find (idleWith d ps) o.need))) o.least))
-                ≡ (not (not (eqb o.need 0) && (isAbsent (find d o.need) || below (component d (slot_of (find d o.need))) o.least)) || any fed os)
+                → not (not (eqb o.need 0) && (is_absent (find (idle_with d ps) o.need) || below (component_at ps (slot_of (find (idle_with d ps) o.need))) o.least))
+                ≡ (not (not (eqb o.need 0) && (is_absent (find d o.need) || below (component d (slot_of (find d o.need))) o.least)) || any fed os)
             go true z = rw z
             go false z =
-                ap (λ (x : Bool). not (not x && (isAbsent (find (idleWith d ps) o.need) || below (componentAt ps (slot_of (find (idleWith d ps) o.need))) o.least))) z
-                ∙ ap (λ (f : Found). not (isAbsent f || below (componentAt ps (slot_of f)) o.least)) (same-find o.need)
-                ∙ meets-slot (find d o.need) refl z
-                ∙ ap (λ (x : Bool). not (not x && (isAbsent (find d o.need) || below (component d (slot_of (find d o.need))) o.least)) || any fed os) (sym z)
+                ap (λ (x : Bool). not (not x && (is_absent (find (idle_with d ps) o.need) || below (component_at ps (slot_of (find (idle_with d ps) o.need))) o.least))) z
+                ∙ ap (λ (f : Found). not (is_absent f || below (component_at ps (slot_of f)) o.least)) (same_find o.need)
+                ∙ meets_slot (find d o.need) refl z
+                ∙ ap (λ (x : Bool). not (not x && (is_absent (find d o.need) || below (component d (slot_of (find d o.need))) o.least)) || any fed os) (sym z)

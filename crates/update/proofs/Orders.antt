@@ -5,20 +5,20 @@ use mathlib.Core.Logic.{◌⊎◌, inl, inr}
 use mathlib.Core.List.{List}
 use lib.Dec.{T}
 use lib.Seq.{ext_get_or}
-use Rattle.wire_offer.specs.Offer.{fieldsIn}
+use Rattle.wire_offer.specs.Offer.{fields_in}
 use Rattle.wire_offer.specs.declared.offer.OfferFields.{OfferFields}
-use Rattle.bundle_records.specs.Parse.{recordsOf, blocksOf}
-use Rattle.device_component.specs.Lists.{componentAt}
-use Rattle.device_component.specs.Record.{blankComponent, withStaged}
+use Rattle.bundle_records.specs.Parse.{records_of, blocks_of}
+use Rattle.device_component.specs.Lists.{component_at}
+use Rattle.device_component.specs.Record.{blank_component, with_staged}
 use Rattle.device_component.specs.declared.list.Found.TheVariants.{At}
 use Rattle.update_passes.specs.Sets.{Set}
-use Rattle.update_passes.proofs.Tests.{T-ext}
-use Rattle.bundle_layout.specs.Layout.{countIn, offerIn, bodyIn}
+use Rattle.update_passes.proofs.Tests.{true_ext}
+use Rattle.bundle_layout.specs.Layout.{count_in, offer_in, body_in}
 use Rattle.bundle.proofs.Accepted.{Accepted}
-use Rattle.device.specs.Record.{find, component, toIdle, idleWith}
+use Rattle.device.specs.Record.{find, component, to_idle, idle_with}
 use Rattle.device.specs.declared.record.Device.{Device}
-use Rattle.host.specs.Step.{entryAt, blocksAt}
-use Rattle.update.specs.Claim.{offerAt, image_of, isEligible, isMet, feeds, Fed, Closed, Smallest, NotTargeted, Leaves, Fills}
+use Rattle.host.specs.Step.{entry_at, blocks_at}
+use Rattle.update.specs.Claim.{offer_at, image_of, is_eligible, is_met, feeds, Fed, Closed, Smallest, NotTargeted, Leaves, Fills}
 use Rattle.update.specs.Demand.{Reordered}
 use Rattle.update.proofs.Landed.{Source, decide}
 
@@ -28,97 +28,97 @@ flip b b' π = record {
   to = π.back;
   back = π.to;
   count = sym π.count;
-  to-listed = λ j l. rw π.count (π.back-listed j (rw π.count at l));
-  back-listed = λ i l. rw π.count (π.to-listed i (rw π.count at l));
+  to_listed = λ j l. rw π.count (π.back_listed j (rw π.count at l));
+  back_listed = λ i l. rw π.count (π.to_listed i (rw π.count at l));
   back_to = λ j l. π.to_back j (rw π.count at l);
   to_back = λ i l. π.back_to i (rw π.count at l);
-  offers = λ j l. let m : j < countIn b = rw π.count at l in sym (π.offers (π.back j) (π.back-listed j m)) ∙ ap (λ (k : ℕ). offerIn (entryAt b' k)) (π.to_back j m);
-  bodies = λ j l. let m : j < countIn b = rw π.count at l in sym (π.bodies (π.back j) (π.back-listed j m)) ∙ ap (λ (k : ℕ). bodyIn b' (entryAt b' k)) (π.to_back j m);
+  offers = λ j l. let m : j < count_in b = rw π.count at l in sym (π.offers (π.back j) (π.back_listed j m)) ∙ ap (λ (k : ℕ). offer_in (entry_at b' k)) (π.to_back j m);
+  bodies = λ j l. let m : j < count_in b = rw π.count at l in sym (π.bodies (π.back j) (π.back_listed j m)) ∙ ap (λ (k : ℕ). body_in b' (entry_at b' k)) (π.to_back j m);
 }
 
 module _ (b b' : List ℕ) (π : Reordered b b') where
   -- the offer of an entry, and its records
-  pub same-offer : (i : ℕ) → i < countIn b → offerAt b' (π.to i) ≡ offerAt b i
-  same-offer i l = ap fieldsIn (π.offers i l)
+  pub same_offer : (i : ℕ) → i < count_in b → offer_at b' (π.to i) ≡ offer_at b i
+  same_offer i l = ap fields_in (π.offers i l)
 
   -- the records of its body
-  pub same_blocks : (i : ℕ) → i < countIn b → blocksAt b' (π.to i) ≡ blocksAt b i
-  same_blocks i l = ap (λ (x : List ℕ). blocksOf (recordsOf x)) (π.bodies i l)
+  pub same_blocks : (i : ℕ) → i < count_in b → blocks_at b' (π.to i) ≡ blocks_at b i
+  same_blocks i l = ap (λ (x : List ℕ). blocks_of (records_of x)) (π.bodies i l)
 
   -- the number of an entry is one of the other bundle
-  listed : (i : ℕ) → i < countIn b → π.to i < countIn b'
-  listed i l = rw π.count (π.to-listed i l)
+  listed : (i : ℕ) → i < count_in b → π.to i < count_in b'
+  listed i l = rw π.count (π.to_listed i l)
 
   -- a closed set, carried over, is closed
   pub carried : (d : Device) (C : Set) → Closed d b' C → Closed d b (λ k. C (π.to k))
   carried d C closed i l e n =
-      closed (π.to i) (listed i l) (subst (λ (o : OfferFields). T (isEligible (toIdle d) o)) (sym (same-offer i l)) e) (moved n)
+      closed (π.to i) (listed i l) (subst (λ (o : OfferFields). T (is_eligible (to_idle d) o)) (sym (same_offer i l)) e) (moved n)
     where
-      moved : T (isMet (toIdle d) (offerAt b i)) ⊎ Fed b (λ k. C (π.to k)) i → T (isMet (toIdle d) (offerAt b' (π.to i))) ⊎ Fed b' C (π.to i)
-      moved (inl m) = inl (subst (λ (o : OfferFields). T (isMet (toIdle d) o)) (sym (same-offer i l)) m)
+      moved : T (is_met (to_idle d) (offer_at b i)) ⊎ Fed b (λ k. C (π.to k)) i → T (is_met (to_idle d) (offer_at b' (π.to i))) ⊎ Fed b' C (π.to i)
+      moved (inl m) = inl (subst (λ (o : OfferFields). T (is_met (to_idle d) o)) (sym (same_offer i l)) m)
       moved (inr f) =
           inr (record {
             by = π.to f.by;
             listed = listed f.by f.listed;
             other = λ q. f.other (sym (π.back_to f.by f.listed) ∙ ap π.back q ∙ π.back_to i l);
             member = f.member;
-            meets = subst (λ (o : OfferFields). T (feeds (offerAt b' (π.to f.by)) o)) (sym (same-offer i l)) (subst (λ (o : OfferFields). T (feeds o (offerAt b i))) (sym (same-offer f.by f.listed)) f.meets);
+            meets = subst (λ (o : OfferFields). T (feeds (offer_at b' (π.to f.by)) o)) (sym (same_offer i l)) (subst (λ (o : OfferFields). T (feeds o (offer_at b i))) (sym (same_offer f.by f.listed)) f.meets);
           })
 
 -- the set of the one order is that of the other
-pub same_set : (b b' : List ℕ) (π : Reordered b b') (d : Device) (X X' : Set) → Smallest d b X → Smallest d b' X' → (i : ℕ) → i < countIn b → X' (π.to i) ≡ X i
+pub same_set : (b b' : List ℕ) (π : Reordered b b') (d : Device) (X X' : Set) → Smallest d b X → Smallest d b' X' → (i : ℕ) → i < count_in b → X' (π.to i) ≡ X i
 same_set b b' π d X X' s s' i l =
-    T-ext (X' (π.to i)) (X i)
+    true_ext (X' (π.to i)) (X i)
     (λ t. subst (λ (k : ℕ). T (X k)) (π.back_to i l)
-    (s'.least (λ k. X (π.back k)) (carried b' b (flip b b' π) d X s.closed) (π.to i) (rw π.count (π.to-listed i l)) t))
+    (s'.least (λ k. X (π.back k)) (carried b' b (flip b b' π) d X s.closed) (π.to i) (rw π.count (π.to_listed i l)) t))
     (s.least (λ k. X' (π.to k)) (carried b b' π d X' s'.closed) i l)
 
-module _ (b b' : List ℕ) (π : Reordered b b') (d : Device) (X X' : Set) (same : (i : ℕ) → i < countIn b → X' (π.to i) ≡ X i) where
+module _ (b b' : List ℕ) (π : Reordered b b') (d : Device) (X X' : Set) (same : (i : ℕ) → i < count_in b → X' (π.to i) ≡ X i) where
   -- a member of the one is a member of the other
-  there : (i : ℕ) → i < countIn b → T (X i) → T (X' (π.to i))
+  there : (i : ℕ) → i < count_in b → T (X i) → T (X' (π.to i))
   there i l t = subst T (sym (same i l)) t
 
   -- and the other way round
-  here : (j : ℕ) → j < countIn b → T (X' j) → T (X (π.back j))
-  here j l t = subst T (same (π.back j) (π.back-listed j l)) (subst (λ (k : ℕ). T (X' k)) (sym (π.to_back j l)) t)
+  here : (j : ℕ) → j < count_in b → T (X' j) → T (X (π.back j))
+  here j l t = subst T (same (π.back j) (π.back_listed j l)) (subst (λ (k : ℕ). T (X' k)) (sym (π.to_back j l)) t)
 
   -- its component is found in the same slot
-  finds : (i k : ℕ) → i < countIn b → find d (offerAt b i).id ≡ At k → find d (offerAt b' (π.to i)).id ≡ At k
-  finds i k l f = ap (λ (o : OfferFields). find d o.id) (same-offer b b' π i l) ∙ f
+  finds : (i k : ℕ) → i < count_in b → find d (offer_at b i).id ≡ At k → find d (offer_at b' (π.to i)).id ≡ At k
+  finds i k l f = ap (λ (o : OfferFields). find d o.id) (same_offer b b' π i l) ∙ f
 
   -- and the other way round
-  finds-back : (j k : ℕ) → j < countIn b → find d (offerAt b' j).id ≡ At k → find d (offerAt b (π.back j)).id ≡ At k
-  finds-back j k l f =
-      ap (λ (o : OfferFields). find d o.id) (sym (same-offer b b' π (π.back j) (π.back-listed j l))) ∙ ap (λ (i : ℕ). find d (offerAt b' i).id) (π.to_back j l) ∙ f
+  finds_back : (j k : ℕ) → j < count_in b → find d (offer_at b' j).id ≡ At k → find d (offer_at b (π.back j)).id ≡ At k
+  finds_back j k l f =
+      ap (λ (o : OfferFields). find d o.id) (sym (same_offer b b' π (π.back j) (π.back_listed j l))) ∙ ap (λ (i : ℕ). find d (offer_at b' i).id) (π.to_back j l) ∙ f
 
   -- what the one set leaves, the other does
-  pub same-leaves : (d' : Device) → Leaves d b' X' d' → Leaves d b X d'
-  same-leaves d' h =
+  pub same_leaves : (d' : Device) → Leaves d b' X' d' → Leaves d b X d'
+  same_leaves d' h =
       record {
         same = h.same;
         slots = h.slots;
         members = λ i k l t f.
-            h.members (π.to i) k (rw π.count (π.to-listed i l)) (there i l t) (finds i k l f)
-            ∙ ap (λ (o : OfferFields). withStaged (component d k) o.version) (same-offer b b' π i l);
-        others = λ k s. h.others k (λ j l t f. let m : j < countIn b = rw π.count at l in s (π.back j) (π.back-listed j m) (here j m t) (finds-back j k m f));
+            h.members (π.to i) k (rw π.count (π.to_listed i l)) (there i l t) (finds i k l f)
+            ∙ ap (λ (o : OfferFields). with_staged (component d k) o.version) (same_offer b b' π i l);
+        others = λ k s. h.others k (λ j l t f. let m : j < count_in b = rw π.count at l in s (π.back j) (π.back_listed j m) (here j m t) (finds_back j k m f));
       }
 
   -- so it is for the staging buffer
-  pub same-fills : (s r : List ℕ) → Fills d b' X' s r → Fills d b X s r
-  same-fills s r h =
+  pub same_fills : (s r : List ℕ) → Fills d b' X' s r → Fills d b X s r
+  same_fills s r h =
       record {
         long = h.long;
         images = λ i k l t f.
-            h.images (π.to i) k (rw π.count (π.to-listed i l)) (there i l t) (finds i k l f)
+            h.images (π.to i) k (rw π.count (π.to_listed i l)) (there i l t) (finds i k l f)
             ∙ ap (image_of (component d k).fixed.region.len) (same_blocks b b' π i l);
-        rest = λ j u. h.rest j (λ i k l t f. let m : i < countIn b = rw π.count at l in u (π.back i) k (π.back-listed i m) (here i m t) (finds-back i k m f));
+        rest = λ j u. h.rest j (λ i k l t f. let m : i < count_in b = rw π.count at l in u (π.back i) k (π.back_listed i m) (here i m t) (finds_back i k m f));
       }
 
 -- the set decides the device
-pub leaves-same : (b : List ℕ) → Accepted b → (d : Device) (X : Set) (d' d'' : Device) → Leaves d b X d' → Leaves d b X d'' → d' ≡ d''
-leaves-same b α d X d' d'' h h' =
-    h.same ∙ ap (idleWith d) (ext_get_or blankComponent d'.components d''.components (h.slots ∙ sym h'.slots) (λ k l. at k (decide b α d X k))) ∙ sym h'.same
+pub leaves_same : (b : List ℕ) → Accepted b → (d : Device) (X : Set) (d' d'' : Device) → Leaves d b X d' → Leaves d b X d'' → d' ≡ d''
+leaves_same b α d X d' d'' h h' =
+    h.same ∙ ap (idle_with d) (ext_get_or blank_component d'.components d''.components (h.slots ∙ sym h'.slots) (λ k l. at k (decide b α d X k))) ∙ sym h'.same
   where
-    at : (k : ℕ) → Source b α d X k ⊎ NotTargeted d b X k → componentAt d'.components k ≡ componentAt d''.components k
+    at : (k : ℕ) → Source b α d X k ⊎ NotTargeted d b X k → component_at d'.components k ≡ component_at d''.components k
     at k (inl x) = h.members x.j k x.listed x.member x.here ∙ sym (h'.members x.j k x.listed x.member x.here)
     at k (inr s) = h.others k s ∙ sym (h'.others k s)

@@ -5,8 +5,8 @@ use lib.ListN.{length, length-map}
 use mir.Val.{Val}
 use denote.Laws.{Is}
 use Rattle.device_component.specs.contracts.record.Component as C
-use Rattle.device_component.proofs.record.Ranges.{components-range}
-use Rattle.device_session.proofs.effect.Ranges.{session-range}
+use Rattle.device_component.proofs.record.Ranges.{components_range}
+use Rattle.device_session.proofs.effect.Ranges.{session_range}
 use Rattle.device.specs.Record.{FitsDevice}
 use Rattle.device.specs.declared.record.Device.{Device}
 use Rattle.device.specs.contracts.record.Device as D
@@ -14,8 +14,8 @@ use Rattle.update.specs.declared.turn.BothEnds.{BothEnds}
 use Rattle.update.specs.contracts.turn.BothEnds as E
 
 -- a device
-pub device-fits : (d : Device) (vs : List Val) → Is D.the_row d vs → FitsDevice d
-device-fits d vs h =
+pub device_fits : (d : Device) (vs : List Val) → Is D.the_row d vs → FitsDevice d
+device_fits d vs h =
     let f = h.1.1 in
     let a = f.1.1.1.0 in
     record {
@@ -23,10 +23,10 @@ device-fits d vs h =
       staging = f.1.0.1;
       count = f.1.1.0.1;
       slots = sym (length-map d.components (C.the_field).into) ∙ a.1.0.1;
-      each = components-range d.components a.0 a.1.1;
-      session = session-range d.session _ f.1.1.1.1.0;
+      each = components_range d.components a.0 a.1.1;
+      session = session_range d.session _ f.1.1.1.1.0;
     }
 
 -- the last reply of both ends
-pub reply-length : (e : BothEnds) (vs : List Val) → Is E.the_row e vs → length e.replies.reply ≡ 16
-reply-length e vs h = sym (length-map e.replies.reply (λ v. v)) ∙ h.1.1.1.1.0.1.1.1.0.1.0.1
+pub reply_length : (e : BothEnds) (vs : List Val) → Is E.the_row e vs → length e.replies.reply ≡ 16
+reply_length e vs h = sym (length-map e.replies.reply (λ v. v)) ∙ h.1.1.1.1.0.1.1.1.0.1.0.1

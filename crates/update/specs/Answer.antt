@@ -2,9 +2,9 @@
 use Rattle.std.specs.Prelude.{ℕ, Bool, true, false, not, List, [], ◌∷◌, eqb, length}
 use Rattle.wire.specs.Checks.{first_of}
 use Rattle.bundle_layout.specs.Rows as bundle
-use Rattle.device.specs.Refusals.{breaksD1}
+use Rattle.device.specs.Refusals.{breaks_d1}
 use Rattle.device.specs.declared.record.Device.{Device}
-use Rattle.host_record.specs.Record.{freshHost, Reported, reportOf, toldReport}
+use Rattle.host_record.specs.Record.{fresh_host, Reported, report_of, told_report}
 use Rattle.update.specs.declared.RunRefusal.{RunRefusal}
 use Rattle.update.specs.declared.RunRefusal.TheVariants as refusal
 use Rattle.update.specs.declared.RunAnswer.{RunAnswer}
@@ -13,30 +13,30 @@ use Rattle.update.specs.Run.{System, once, last_of}
 -- the rows of document 01 that a run gives out
 pub data Row : Type 0 where
   served : Row
-  B : (number entry : ℕ) → Row
-  D : ℕ → Row
+  row_b : (number entry : ℕ) → Row
+  row_d : ℕ → Row
 
 abbrev pub row_of : RunRefusal → Row
 row_of refusal.Served = served
-row_of (refusal.Bundle verdict place) = B (bundle.number_of verdict) place
-row_of refusal.D1 = D 1
-row_of refusal.D2 = D 2
+row_of (refusal.Bundle verdict place) = row_b (bundle.number_of verdict) place
+row_of refusal.D1 = row_d 1
+row_of refusal.D2 = row_d 2
 
 -- the number of a row, 0 where none refuses; the entry that it names, or 0; and whether it refuses
 abbrev pub number_of : Row → ℕ
 number_of served = 0
-number_of (B k entry) = k
-number_of (D k) = k
+number_of (row_b k entry) = k
+number_of (row_d k) = k
 
-abbrev pub entryOf : Row → ℕ
-entryOf served = 0
-entryOf (B k entry) = entry
-entryOf (D k) = 0
+abbrev pub entry_of : Row → ℕ
+entry_of served = 0
+entry_of (row_b k entry) = entry
+entry_of (row_d k) = 0
 
 abbrev pub is_refused : Row → Bool
 is_refused served = false
-is_refused (B k entry) = true
-is_refused (D k) = true
+is_refused (row_b k entry) = true
+is_refused (row_d k) = true
 
 -- what a run answers: its row, the report, the next record, and every byte of the staging buffer
 pub record Ran : Type 0 where
@@ -47,32 +47,32 @@ pub record Ran : Type 0 where
 
 -- the report of a host that has sent nothing
 abbrev pub unsent : (token : ℕ) → Reported
-unsent token = reportOf (freshHost token)
+unsent token = report_of (fresh_host token)
 
 -- a refused run: nothing sent and nothing changed
-abbrev pub refusedBy : Row → (token : ℕ) → Device → (staging : List ℕ) → Ran
-refusedBy row token d staging = record { row = row; report = unsent token; device = d; staging = staging }
+abbrev pub refused_by : Row → (token : ℕ) → Device → (staging : List ℕ) → Ran
+refused_by row token d staging = record { row = row; report = unsent token; device = d; staging = staging }
 
 abbrev pub ended : System → Ran
-ended s = record { row = served; report = reportOf s.host; device = s.device; staging = s.staging }
+ended s = record { row = served; report = report_of s.host; device = s.device; staging = s.staging }
 
 -- D1, then D2
-abbrev pub deviceRow : Device → (staging : List ℕ) → Row
-deviceRow d staging = first_of ((breaksD1 d, D 1) ∷ (not (eqb (length staging) d.staging_len), D 2) ∷ []) served
+abbrev pub device_row : Device → (staging : List ℕ) → Row
+device_row d staging = first_of ((breaks_d1 d, row_d 1) ∷ (not (eqb (length staging) d.staging_len), row_d 2) ∷ []) served
 
-abbrev pub ranBy : Row → (b : List ℕ) → (token : ℕ) → Device → (staging : List ℕ) → Ran
-ranBy served b token d staging = ended (last_of b once token d staging [])
-ranBy (B k entry) b token d staging = refusedBy (B k entry) token d staging
-ranBy (D k) b token d staging = refusedBy (D k) token d staging
+abbrev pub ran_by : Row → (b : List ℕ) → (token : ℕ) → Device → (staging : List ℕ) → Ran
+ran_by served b token d staging = ended (last_of b once token d staging [])
+ran_by (row_b k entry) b token d staging = refused_by (row_b k entry) token d staging
+ran_by (row_d k) b token d staging = refused_by (row_d k) token d staging
 
 -- the bundle's rows first, since the host steps first; then the device's
-abbrev pub firstRow : bundle.Row → Device → (staging : List ℕ) → Row
-firstRow bundle.served d staging = deviceRow d staging
-firstRow (bundle.B k entry) d staging = B k entry
+abbrev pub first_row : bundle.Row → Device → (staging : List ℕ) → Row
+first_row bundle.served d staging = device_row d staging
+first_row (bundle.row_b k entry) d staging = row_b k entry
 
 unfoldable pub run_of : (b : List ℕ) → (token : ℕ) → Device → (staging : List ℕ) → Ran
-run_of b token d staging = ranBy (firstRow (bundle.bundleRow b) d staging) b token d staging
+run_of b token d staging = ran_by (first_row (bundle.bundle_row b) d staging) b token d staging
 
 -- an answer of the code in these terms, with the staging buffer as it was left
 abbrev pub told : RunAnswer → (staging : List ℕ) → Ran
-told a staging = record { row = row_of a.refusal; report = toldReport a.report; device = a.device; staging = staging }
+told a staging = record { row = row_of a.refusal; report = told_report a.report; device = a.device; staging = staging }

@@ -16,12 +16,12 @@ abbrev pub way_of : BothEnds → List (List ℕ)
 way_of e = cond e.replies.due (e.replies.reply ∷ []) []
 
 -- the reply that the host is handed, and no bytes where there is none
-abbrev pub replyOf : BothEnds → List ℕ
-replyOf e = cond e.replies.due e.replies.reply []
+abbrev pub reply_of : BothEnds → List ℕ
+reply_of e = cond e.replies.due e.replies.reply []
 
 -- both ends, with the staging buffer, the packet whose reply is awaited, and the list of what was sent
-abbrev pub systemOf : BothEnds → (staging : List ℕ) → (awaited : List (List ℕ)) → List Exchange → System
-systemOf e staging awaited trace = record {
+abbrev pub system_of : BothEnds → (staging : List ℕ) → (awaited : List (List ℕ)) → List Exchange → System
+system_of e staging awaited trace = record {
   host = e.host;
   device = e.device;
   staging = staging;
@@ -32,11 +32,11 @@ systemOf e staging awaited trace = record {
 
 -- a system has come to these ends, whatever was sent on the way
 abbrev pub Comes : System → BothEnds → (staging : List ℕ) → Type 0
-Comes s e staging = (awaited : List (List ℕ)) × (trace : List Exchange) × (s ≡ systemOf e staging awaited trace)
+Comes s e staging = (awaited : List (List ℕ)) × (trace : List Exchange) × (s ≡ system_of e staging awaited trace)
 
 -- the host's step at its cursor, over an accepted bundle of so many offers, with the body in hand
-abbrev pub stepFrom : (b : List ℕ) → (count : ℕ) → (hand : Body) → BothEnds → InnerStep
-stepFrom b count hand e = inner_of b bundle.served count hand e.cursor e.host (replyOf e)
+abbrev pub step_from : (b : List ℕ) → (count : ℕ) → (hand : Body) → BothEnds → InnerStep
+step_from b count hand e = inner_of b bundle.served count hand e.cursor e.host (reply_of e)
 
 -- both ends after a step of the host that came to this record and cursor, and the device's answer to it
 abbrev pub after_of : Host → (cursor : ℕ) → Answer → BothEnds
@@ -47,10 +47,10 @@ after_of host cursor a = record { host = host; device = a.device; replies = a.re
 abbrev pub Delivered : List (List ℕ) → BothEnds → (staging : List ℕ) → Answer → (staging : List ℕ) → Type 0
 Delivered sent e staging a staging' =
     (x : Step) → x.sent ≡ sent → (cursor : ℕ) → (awaited : List (List ℕ)) → (trace : List Exchange)
-    → Comes (turned once x (systemOf e staging awaited trace)) (after_of x.host cursor a) staging'
+    → Comes (turned once x (system_of e staging awaited trace)) (after_of x.host cursor a) staging'
 
 -- one turn: the host's step, what it sends is answered, and the cursor is kept
 abbrev pub Turned : (b : List ℕ) → (count : ℕ) → (hand : Body) → BothEnds → (staging : List ℕ) → BothEnds → (staging : List ℕ) → Type 0
 Turned b count hand e staging e' staging' =
-    (e'.cursor ≡ (stepFrom b count hand e).cursor)
-    × ((awaited : List (List ℕ)) → (trace : List Exchange) → Comes (turned once (stepFrom b count hand e).step (systemOf e staging awaited trace)) e' staging')
+    (e'.cursor ≡ (step_from b count hand e).cursor)
+    × ((awaited : List (List ℕ)) → (trace : List Exchange) → Comes (turned once (step_from b count hand e).step (system_of e staging awaited trace)) e' staging')

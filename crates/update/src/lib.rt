@@ -1,6 +1,8 @@
 // Both ends: the run of a fresh host against a device, and what it answers.
+#![tactic(auto)]
+
 ghost use Rattle.std.specs.Prelude.{◌≡◌};
-ghost use Rattle.update.specs.Answer.{row_of, number_of, entryOf, is_refused, refusedBy, run_of, told};
+ghost use Rattle.update.specs.Answer.{row_of, number_of, entry_of, is_refused, refused_by, run_of, told};
 ghost use Rattle.update.specs.Demand.{DemandOf};
 
 use crate::turn::run_to_end;
@@ -13,7 +15,7 @@ use host_record::report::Report;
 pub mod turn; // turn.rt: one turn, and the turns until the host has ended
 
 // Served, or the row that refuses the run.
-#[derive(Drop)]
+#[derive(Clone, Copy)]
 pub enum RunRefusal {
     Served,
     // The bundle's row, with its entry.
@@ -38,7 +40,7 @@ impl RunRefusal {
 
     // The entry that a bundle's row names, or 0.
     pub fn entry(self) -> u8
-        ensures { result ≡ entryOf (row_of self) }
+        ensures { result ≡ entry_of (row_of self) }
     {
         match self {
             RunRefusal::Served => 0,
@@ -65,7 +67,7 @@ impl RunRefusal {
 }
 
 // A refused run sends nothing and changes nothing.
-#[derive(Drop)]
+#[derive(Clone, Copy)]
 pub struct RunAnswer {
     pub refusal: RunRefusal,
     pub report: Report,
@@ -74,7 +76,7 @@ pub struct RunAnswer {
 
 // A refused run sends nothing and changes nothing.
 fn refused(refusal: RunRefusal, token: u8, device: Device) -> RunAnswer
-    ensures { told result ≡ refusedBy (row_of refusal) token device }
+    ensures { told result ≡ refused_by (row_of refusal) token device }
 {
     let host = Host::fresh(token);
     let report = host.report();

@@ -1,11 +1,11 @@
 // A fresh host and a device in turn, over the contents of a bundle that was checked once, so that the work is linear in the packets.
 ghost use Rattle.std.specs.Prelude.{◌≡◌, cond, [], length};
-ghost use Rattle.wire.specs.Codes.{SHORT-SIZE};
+ghost use Rattle.wire.specs.Codes.{short_size};
 ghost use Rattle.bundle_layout.specs.Rows as rows;
-ghost use Rattle.bundle.specs.Contents.{toldChecked, checkOf};
-ghost use Rattle.host_record.specs.Record.{hasEnded};
-ghost use Rattle.host_packet.specs.Packet.{PACKET-SIZE};
-ghost use Rattle.host_packet.specs.Answer.{sentBy};
+ghost use Rattle.bundle.specs.Contents.{told_checked, check_of};
+ghost use Rattle.host_record.specs.Record.{has_ended};
+ghost use Rattle.host_packet.specs.Packet.{packet_size};
+ghost use Rattle.host_packet.specs.Answer.{sent_by};
 ghost use Rattle.update.specs.Run.{once, last_of};
 ghost use Rattle.update.specs.Turn.{Comes, Delivered, Turned};
 
@@ -21,7 +21,7 @@ use host_record::record::{Host, HostStage};
 use wire::codes::SHORT_SIZE;
 
 // Both ends between two turns.
-#[derive(Drop)]
+#[derive(Clone, Copy)]
 pub struct BothEnds {
     pub host: Host,
     pub device: Device,
@@ -33,7 +33,7 @@ pub struct BothEnds {
 
 // The host has ended.
 fn has_ended(stage: HostStage) -> bool
-    ensures { result ≡ hasEnded stage }
+    ensures { result ≡ has_ended stage }
 {
     match stage {
         HostStage::Fresh => false,
@@ -49,15 +49,15 @@ fn has_ended(stage: HostStage) -> bool
 
 // How many bytes of the last reply the host receives: all where one was due, otherwise none.
 fn heard(due: bool) -> usize
-    ensures { result ≡ cond due SHORT-SIZE 0 }
+    ensures { result ≡ cond due short_size 0 }
 {
     if due { SHORT_SIZE } else { 0 }
 }
 
 // What the host sent is answered; where it sent nothing, the device stays, and no reply is on its way.
 fn deliver(sent: Sent, packet: &[u8], e: BothEnds, staging: &mut [u8]) -> Answer
-    requires { length packet.now ≡ PACKET-SIZE }
-    ensures { Delivered (sentBy sent packet.now) e staging.old result staging.new }
+    requires { length packet.now ≡ packet_size }
+    ensures { Delivered (sent_by sent packet.now) e staging.old result staging.new }
 {
     let device = e.device;
     match sent {
@@ -115,7 +115,7 @@ pub(crate) fn run_to_end(
     device: Device,
     staging: &mut [u8],
 ) -> BothEnds
-    requires { (toldChecked checked ≡ checkOf bundle.now) × (rows.bundleRow bundle.now ≡ rows.served) }
+    requires { (told_checked checked ≡ check_of bundle.now) × (rows.bundle_row bundle.now ≡ rows.served) }
     ensures { Comes (last_of bundle.now once token device staging.old []) result staging.new }
 {
     let host = Host::fresh(token);

@@ -13,23 +13,23 @@ use Rattle.update_passes.specs.Sets.{Set, Sub, In, all, ins, from, weight, one}
 use Rattle.update_passes.proofs.Tests.{or_inl, or_inr, or_cases, bool_cases, is_true, is_false}
 
 -- one member more: the old ones, the new one, and where it stays inside
-pub ins-old : (S : Set) (i : ℕ) → Sub S (ins S i)
-ins-old S i k t = or_inr (eqb k i) (S k) t
+pub ins_old : (S : Set) (i : ℕ) → Sub S (ins S i)
+ins_old S i k t = or_inr (eqb k i) (S k) t
 
 -- the new member is one
-pub ins-new : (S : Set) (i : ℕ) → T (ins S i i)
-ins-new S i = or_inl (eqb i i) (S i) (eqb_refl i)
+pub ins_new : (S : Set) (i : ℕ) → T (ins S i i)
+ins_new S i = or_inl (eqb i i) (S i) (eqb_refl i)
 
 -- where the new member is in C, all of them are
-pub ins-sub : (S C : Set) (i : ℕ) → Sub S C → T (C i) → Sub (ins S i) C
-ins-sub S C i sub c k t =
+pub ins_sub : (S C : Set) (i : ℕ) → Sub S C → T (C i) → Sub (ins S i) C
+ins_sub S C i sub c k t =
     or_cases (eqb k i) (S k) (λ e. subst (λ (n : ℕ). T (C n)) (sym (eqb→eq k i e)) c) (sub k) t
 
 -- the numbers from k on
-pub in-from : (m k i : ℕ) → In i (from k m) → (k ≤ i) × (i < k + m)
-in-from zero k i h = absurd h
-in-from (suc m) k i (inl e) = omega arith
-in-from (suc m) k i (inr h) = omega (arith, in-from m (suc k) i h)
+pub in_from : (m k i : ℕ) → In i (from k m) → (k ≤ i) × (i < k + m)
+in_from zero k i h = absurd h
+in_from (suc m) k i (inl e) = omega arith
+in_from (suc m) k i (inr h) = omega (arith, in_from m (suc k) i h)
 
 -- every number in between is one of them
 pub from_in : (m k i : ℕ) → k ≤ i → i < k + m → In i (from k m)
@@ -66,41 +66,41 @@ some_in (k ∷ ks) p j (inl q) t = or_inl (p k) (any p ks) (subst (λ (n : ℕ).
 some_in (k ∷ ks) p j (inr m) t = or_inr (p k) (any p ks) (some_in ks p j m t)
 
 -- weights grow with the set
-cond-mono : (a b : Bool) (n : ℕ) → (T a → T b) → cond a n zero ≤ cond b n zero
-cond-mono true true n h = omega arith
-cond-mono true false n h = absurd (h tt)
-cond-mono false true n h = omega arith
-cond-mono false false n h = omega arith
+cond_mono : (a b : Bool) (n : ℕ) → (T a → T b) → cond a n zero ≤ cond b n zero
+cond_mono true true n h = omega arith
+cond_mono true false n h = absurd (h tt)
+cond_mono false true n h = omega arith
+cond_mono false false n h = omega arith
 
 -- a larger set weighs no less
-pub weight-mono : (f : ℕ → ℕ) (A B : Set) → Sub A B → (os : List ℕ) → weight f A os ≤ weight f B os
-weight-mono f A B sub [] = omega arith
-weight-mono f A B sub (i ∷ is) = omega (arith, weight-mono f A B sub is, cond-mono (A i) (B i) (f i) (sub i))
+pub weight_mono : (f : ℕ → ℕ) (A B : Set) → Sub A B → (os : List ℕ) → weight f A os ≤ weight f B os
+weight_mono f A B sub [] = omega arith
+weight_mono f A B sub (i ∷ is) = omega (arith, weight_mono f A B sub is, cond_mono (A i) (B i) (f i) (sub i))
 
 -- a new member adds its weight
-pub weight-ins : (f : ℕ → ℕ) (S : Set) (i : ℕ) → T (not (S i)) → (os : List ℕ) → In i os → weight f S os + f i ≤ weight f (ins S i) os
-weight-ins f S i new [] m = absurd m
-weight-ins f S i new (j ∷ js) (inl e) =
+pub weight_ins : (f : ℕ → ℕ) (S : Set) (i : ℕ) → T (not (S i)) → (os : List ℕ) → In i os → weight f S os + f i ≤ weight f (ins S i) os
+weight_ins f S i new [] m = absurd m
+weight_ins f S i new (j ∷ js) (inl e) =
     rw (← e)
     (rw (is_false (S i) new, is_true (eqb i i) (eqb_refl i))
-    (omega (arith, weight-mono f S (ins S i) (ins-old S i) js)))
-weight-ins f S i new (j ∷ js) (inr m) =
-    omega (arith, weight-ins f S i new js m, cond-mono (S j) (ins S i j) (f j) (ins-old S i j))
+    (omega (arith, weight_mono f S (ins S i) (ins_old S i) js)))
+weight_ins f S i new (j ∷ js) (inr m) =
+    omega (arith, weight_ins f S i new js m, cond_mono (S j) (ins S i j) (f j) (ins_old S i j))
 
 -- all together weigh the most
-pub weight-all : (f : ℕ → ℕ) (S : Set) (os : List ℕ) → weight f S os ≤ weight f all os
-weight-all f S os = weight-mono f S all (λ k t. tt) os
+pub weight_all : (f : ℕ → ℕ) (S : Set) (os : List ℕ) → weight f S os ≤ weight f all os
+weight_all f S os = weight_mono f S all (λ k t. tt) os
 
 -- as many as the list has, at the most
-pub weight-length : (S : Set) (os : List ℕ) → weight one S os ≤ length os
-weight-length S [] = omega arith
-weight-length S (i ∷ is) = omega (arith, weight-length S is, cond-mono (S i) true 1 (λ t. tt))
+pub weight_length : (S : Set) (os : List ℕ) → weight one S os ≤ length os
+weight_length S [] = omega arith
+weight_length S (i ∷ is) = omega (arith, weight_length S is, cond_mono (S i) true 1 (λ t. tt))
 
 -- a set that counts as many as the list has holds all of the list
-pub weight-full : (S : Set) (os : List ℕ) → length os ≤ weight one S os → (i : ℕ) → In i os → T (S i)
-weight-full S [] h i m = absurd m
-weight-full S (j ∷ js) h i (inl e) = rw e (bool_cases (S j) (λ t. t) (λ t. absurd (few t)))
+pub weight_full : (S : Set) (os : List ℕ) → length os ≤ weight one S os → (i : ℕ) → In i os → T (S i)
+weight_full S [] h i m = absurd m
+weight_full S (j ∷ js) h i (inl e) = rw e (bool_cases (S j) (λ t. t) (λ t. absurd (few t)))
   where
     few : T (not (S j)) → ⊥
-    few t = omega (arith, weight-length S js, rw (is_false (S j) t) at h)
-weight-full S (j ∷ js) h i (inr m) = weight-full S js (omega (arith, cond-mono (S j) true 1 (λ t. tt))) i m
+    few t = omega (arith, weight_length S js, rw (is_false (S j) t) at h)
+weight_full S (j ∷ js) h i (inr m) = weight_full S js (omega (arith, cond_mono (S j) true 1 (λ t. tt))) i m

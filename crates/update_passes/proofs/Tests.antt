@@ -28,16 +28,16 @@ or_cases true b f g t = f tt
 or_cases false b f g t = g t
 
 -- neither of two tests: not the first
-pub nor-l : (a b : Bool) → T (not (a || b)) → T (not a)
-nor-l false b t = tt
+pub nor_l : (a b : Bool) → T (not (a || b)) → T (not a)
+nor_l false b t = tt
 
 -- neither of two tests: not the second
-pub nor-r : (a b : Bool) → T (not (a || b)) → T (not b)
-nor-r false b t = t
+pub nor_r : (a b : Bool) → T (not (a || b)) → T (not b)
+nor_r false b t = t
 
 -- a test that does not fail
-pub not-not : (a : Bool) → T (not (not a)) → T a
-not-not true t = tt
+pub not_not : (a : Bool) → T (not (not a)) → T a
+not_not true t = tt
 
 -- both of two tests
 pub both : (a b : Bool) → T a → T b → T (a && b)
@@ -74,23 +74,23 @@ fails true t = absurd (t tt)
 fails false t = refl
 
 -- two tests that hold together are one
-pub T-ext : (a b : Bool) → (T a → T b) → (T b → T a) → a ≡ b
-T-ext true true f g = refl
-T-ext true false f g = absurd (f tt)
-T-ext false true f g = absurd (g tt)
-T-ext false false f g = refl
+pub true_ext : (a b : Bool) → (T a → T b) → (T b → T a) → a ≡ b
+true_ext true true f g = refl
+true_ext true false f g = absurd (f tt)
+true_ext false true f g = absurd (g tt)
+true_ext false false f g = refl
 
 -- either of two tests, one of which holds
-pub or-true : (x : Bool) → (x || true) ≡ true
-or-true true = refl
-or-true false = refl
+pub or_true : (x : Bool) → (x || true) ≡ true
+or_true true = refl
+or_true false = refl
 
 -- either of two tests, one of which fails
-pub or-false : (x : Bool) → (x || false) ≡ x
-or-false true = refl
-or-false false = refl
+pub or_false : (x : Bool) → (x || false) ≡ x
+or_false true = refl
+or_false false = refl
 
 -- both of two tests, one of which fails
-pub and-false : (x : Bool) → (x && false) ≡ false
-and-false true = refl
-and-false false = refl
+pub and_false : (x : Bool) → (x && false) ≡ false
+and_false true = refl
+and_false false = refl

@@ -34,9 +34,9 @@ unfoldable pub answered : Offers → Pass → ℕ → Pass
 answered y p i = cond (p.set i || not (y.eligible i)) p (cond (y.met p.set i) (lands y p i) (skips p))
 
 -- the offers of a list, in order
-unfoldable pub passOver : Offers → List ℕ → Pass → Pass
-passOver y [] p = p
-passOver y (i ∷ is) p = passOver y is (answered y p i)
+unfoldable pub pass_over : Offers → List ℕ → Pass → Pass
+pass_over y [] p = p
+pass_over y (i ∷ is) p = pass_over y is (answered y p i)
 
 -- some passes: what has landed, how many they were, the records that they sent
 pub record Passes : Type 0 where
@@ -50,16 +50,16 @@ unpassed = record { set = none; passes = zero; sent = zero }
 
 module _ (y : Offers) (os : List ℕ) where
   -- a pass from a set on
-  unfoldable pub onePass : Set → Pass
-  onePass S = passOver y os (opened S)
+  unfoldable pub one_pass : Set → Pass
+  one_pass S = pass_over y os (opened S)
 
   -- one pass more
   unfoldable pub onward : Passes → Passes
-  onward r = record { set = (onePass r.set).set; passes = suc r.passes; sent = r.sent + (onePass r.set).sent }
+  onward r = record { set = (one_pass r.set).set; passes = suc r.passes; sent = r.sent + (one_pass r.set).sent }
 
   -- that pass has a skip and a landing
   abbrev pub again : Passes → Bool
-  again r = (onePass r.set).skipped && (onePass r.set).landed
+  again r = (one_pass r.set).skipped && (one_pass r.set).landed
 
   -- passes until one lacks a skip or a landing, and at most so many
   unfoldable pub repeat : ℕ → Passes → Passes
@@ -67,12 +67,12 @@ module _ (y : Offers) (os : List ℕ) where
   repeat (suc f) r = cond (again r) (repeat f (onward r)) (onward r)
 
   -- as many passes as there are offers, at the most
-  unfoldable pub passesOf : Passes
-  passesOf = repeat (length os) unpassed
+  unfoldable pub passes_of : Passes
+  passes_of = repeat (length os) unpassed
 
   -- code 0, the codes 1 and 2 and the offers of each pass, and the records
-  abbrev pub packetsOf : ℕ
-  packetsOf = 1 + passesOf.passes * (length os + 2) + passesOf.sent
+  abbrev pub packets_of : ℕ
+  packets_of = 1 + passes_of.passes * (length os + 2) + passes_of.sent
 
   -- closed: each eligible offer whose need the set meets is a member
   abbrev pub Closed : Set → Type 0
@@ -80,10 +80,10 @@ module _ (y : Offers) (os : List ℕ) where
 
   -- what the passes come to
   pub record Reached : Type 0 where
-    pub closed : Closed passesOf.set
-    pub least : (C : Set) → Closed C → Sub passesOf.set C
-    pub few : passesOf.passes ≤ length os
-    pub bound : packetsOf ≤ 1 + length os * (length os + 2) + weight y.records all os
+    pub closed : Closed passes_of.set
+    pub least : (C : Set) → Closed C → Sub passes_of.set C
+    pub few : passes_of.passes ≤ length os
+    pub bound : packets_of ≤ 1 + length os * (length os + 2) + weight y.records all os
 
 -- what meets a need, a larger set meets too
 abbrev pub Monotone : Offers → Type 0
@@ -94,10 +94,10 @@ abbrev pub PassesReach : Type 0
 PassesReach = (y : Offers) (os : List ℕ) → Monotone y → Reached y os
 
 -- the need of an offer: met at the start, or given by another member
-abbrev pub needMet : (start : ℕ → Bool) → (gives : ℕ → ℕ → Bool) → List ℕ → Set → ℕ → Bool
-needMet start gives os S i = start i || any (λ j. S j && (not (eqb j i) && gives j i)) os
+abbrev pub need_met : (start : ℕ → Bool) → (gives : ℕ → ℕ → Bool) → List ℕ → Set → ℕ → Bool
+need_met start gives os S i = start i || any (λ j. S j && (not (eqb j i) && gives j i)) os
 
 -- so the need is monotone
 abbrev pub NeedMonotone : Type 0
 NeedMonotone = (start : ℕ → Bool) (gives : ℕ → ℕ → Bool) (os : List ℕ) (eligible : ℕ → Bool) (records : ℕ → ℕ)
-    → Monotone (record { eligible = eligible; met = needMet start gives os; records = records })
+    → Monotone (record { eligible = eligible; met = need_met start gives os; records = records })

@@ -5,17 +5,17 @@ use native.Mathlib.Omega.{arith}
 use lib.ListN.{replicate}
 use Rattle.device_component.specs.declared.list.Found.{Found}
 use Rattle.device_component.specs.declared.list.Found.TheVariants.{Nothing, At}
-use Rattle.bundle_cut.specs.Cut.{leading, reach, piece_at, cutFrom}
-use Rattle.bundle_given.specs.Given.{entriesOf, imageAt}
-use Rattle.bundle_writer.specs.Bundle.{madeBundle}
-use Rattle.bundle_writer.specs.Rows.{firstBreaking, rowW3, writeRow}
+use Rattle.bundle_cut.specs.Cut.{leading, reach, piece_at, cut_from}
+use Rattle.bundle_given.specs.Given.{entries_of, image_at}
+use Rattle.bundle_writer.specs.Bundle.{made_bundle}
+use Rattle.bundle_writer.specs.Rows.{first_breaking, row_w3, write_row}
 use Rattle.update.specs.Bench.{image}
-use Rattle.update.proofs.Bench.{computing, one-first}
-use Rattle.wire.proofs.Tests.{all-bytes}
+use Rattle.update.proofs.Bench.{computing, one_first_lem}
+use Rattle.wire.proofs.Tests.{all_bytes}
 use Rattle.device_session.specs.declared.stage.Stage.TheVariants.{Idle}
 use Rattle.device.specs.Bench.{bench}
 use Rattle.update_written.specs.Stages.{SameLengths}
-use Rattle.update_written.specs.Bench.{e13List, e13Images, BenchStages}
+use Rattle.update_written.specs.Bench.{e13_list, e13_images, BenchStages}
 
 -- the slot that was found
 slot_of : Found → ℕ
@@ -23,25 +23,25 @@ slot_of Nothing = 0
 slot_of (At k) = k
 
 -- both regions have 64 bytes
-same-lengths : SameLengths e13List (bench Idle)
-unfolding computing image entriesOf slot_of
-same-lengths zero k h e = let z : 0 ≡ k = ap slot_of e in rw (← z)
-same-lengths (suc zero) k h e = let z : 1 ≡ k = ap slot_of e in rw (← z)
-same-lengths (suc (suc i)) k h e = absurd (omega arith)
+same_lengths : SameLengths e13_list (bench Idle)
+unfolding computing image entries_of slot_of
+same_lengths zero k h e = let z : 0 ≡ k = ap slot_of e in rw (← z)
+same_lengths (suc zero) k h e = let z : 1 ≡ k = ap slot_of e in rw (← z)
+same_lengths (suc (suc i)) k h e = absurd (omega arith)
 
-pub bench-stages : BenchStages
-unfolding computing image leading reach piece_at cutFrom entriesOf imageAt madeBundle firstBreaking rowW3 writeRow
-bench-stages = record {
+pub bench_stages : BenchStages
+unfolding computing image leading reach piece_at cut_from entries_of image_at made_bundle first_breaking row_w3 write_row
+bench_stages = record {
   fitting = record {
-    list-bytes = all-bytes e13List refl;
-    images-bytes = all-bytes e13Images refl;
+    list_bytes = all_bytes e13_list refl;
+    images_bytes = all_bytes e13_images refl;
     made = refl;
     small = omega arith;
-    fits = one-first.premise.fits;
-    bytes = all-bytes (replicate 128 0) refl;
+    fits = one_first_lem.premise.fits;
+    bytes = all_bytes (replicate 128 0) refl;
     d1 = refl;
     d2 = refl;
-    lengths = same-lengths;
+    lengths = same_lengths;
   };
   size = refl;
   packets = refl;

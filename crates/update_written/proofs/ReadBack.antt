@@ -11,15 +11,15 @@ use lib.ListN.{length, get_or, drop, get_or-replicate}
 use lib.Seq.{get_or-take, get_or-drop, ext_get_or}
 use Rattle.wire.specs.Checks.{All}
 use Rattle.image.specs.Region.{blank, put}
-use Rattle.image.proofs.region.Within.{put-length, blank-length}
+use Rattle.image.proofs.region.Within.{put_length, blank_length}
 use Rattle.bundle_records.specs.Record.{Block}
 use Rattle.bundle_records.specs.Walk.{between}
-use Rattle.bundle_cut.specs.Cut.{imageRecords}
+use Rattle.bundle_cut.specs.Cut.{image_records}
 use Rattle.bundle_cut.specs.Rule.{end_of, Covers}
-use Rattle.bundle_cut.proofs.Order.{image-inside, image-parts, uncovered}
-use Rattle.device.proofs.Staging.{Outside, put_in, put-out}
+use Rattle.bundle_cut.proofs.Order.{image_inside, image_parts, uncovered}
+use Rattle.device.proofs.Staging.{Outside, put_in, put_out}
 use Rattle.update.specs.Claim.{writes, image_of, Inside}
-use Rattle.update.proofs.Filled.{image-length}
+use Rattle.update.proofs.Filled.{image_length}
 use Rattle.update_written.specs.Stages.{ImageReadsBack}
 
 -- place x is among the n places from `at` on, or it is not
@@ -57,8 +57,8 @@ module _ (m : List ℕ) where
   abbrev Own : Block → Type 0
   Own r = r.bytes ≡ between m r.address.0 (end_of r)
 
-  own-byte : (r : Block) → Own r → (x : ℕ) → r.address.0 ≤ x → x < end_of r → get_or r.bytes (x - r.address.0) 0 ≡ get_or m x 0
-  own-byte r e x h k =
+  own_byte : (r : Block) → Own r → (x : ℕ) → r.address.0 ≤ x → x < end_of r → get_or r.bytes (x - r.address.0) 0 ≡ get_or m x 0
+  own_byte r e x h k =
       let at = r.address.0 in
       let i : at + (x - at) ≡ x = omega arith in
       ap (λ (l : List ℕ). get_or l (x - at) 0) e ∙ get_or-take (end_of r - at) (drop at m) (x - at) 0 (omega arith) ∙ get_or-drop at m (x - at) 0
@@ -75,40 +75,40 @@ module _ (m : List ℕ) where
           let at = r.address.0 in
           let j : at + (x - at) ≡ x = omega (arith, i.0) in
           inl (ap (λ (n : ℕ). get_or (put at r.bytes l) n 0) (sym j) ∙ put_in at r.bytes l fits (x - at) (omega (arith, i.0, i.1))
-          ∙ own-byte r own x i.0 i.1)
-      go (inr o) (inl e) = inl (put-out r.address.0 r.bytes l fits x o ∙ e)
+          ∙ own_byte r own x i.0 i.1)
+      go (inr o) (inl e) = inl (put_out r.address.0 r.bytes l fits x o ∙ e)
       go (inr o) (inr (inl i)) = absurd (apart r.address.0 (length r.bytes) x o i.0 i.1)
       go (inr o) (inr (inr c)) = inr c
 
   -- so it is after all of them
-  all-written : (rs : List Block) (l : List ℕ) → length l ≡ length m → Inside (length m) rs → All Own rs
+  all_written : (rs : List Block) (l : List ℕ) → length l ≡ length m → Inside (length m) rs → All Own rs
       → (x : ℕ) → (get_or l x 0 ≡ get_or m x 0) ⊎ Covers rs x → get_or (writes l rs) x 0 ≡ get_or m x 0
   unfolding writes Covers
-  all-written [] l n i p x (inl e) = e
-  all-written [] l n i p x (inr c) = absurd c
-  all-written (r ∷ rs) l n i p x h =
+  all_written [] l n i p x (inl e) = e
+  all_written [] l n i p x (inr c) = absurd c
+  all_written (r ∷ rs) l n i p x h =
       let fits : end_of r ≤ length l = omega (arith, i.0) in
-      all-written rs (put r.address.0 r.bytes l) (put-length r.address.0 r.bytes l fits ∙ n) i.1 p.1 x
+      all_written rs (put r.address.0 r.bytes l) (put_length r.address.0 r.bytes l fits ∙ n) i.1 p.1 x
       (one_written r l fits p.0 x (Covers rs x) h)
 
 -- what an erase leaves
-blank-byte : (n x : ℕ) → x < n → get_or (blank n) x 0 ≡ 0xFF
+blank_byte : (n x : ℕ) → x < n → get_or (blank n) x 0 ≡ 0xFF
 unfolding blank
-blank-byte n x h = get_or-replicate n x 0xFF 0 h
+blank_byte n x h = get_or-replicate n x 0xFF 0 h
 
-pub image-reads-back : ImageReadsBack
+pub image_reads_back : ImageReadsBack
 unfolding image_of
-image-reads-back m h = ext_get_or 0 (image_of (length m) rs) m size (λ x k. byte x (rw size at k) (covered rs x))
+image_reads_back m h = ext_get_or 0 (image_of (length m) rs) m size (λ x k. byte x (rw size at k) (covered rs x))
   where
     rs : List Block
-    rs = imageRecords m
+    rs = image_records m
 
-    size : length (image_of (length m) (imageRecords m)) ≡ length m
-    size = image-length (length m) (imageRecords m) (image-inside m h)
+    size : length (image_of (length m) (image_records m)) ≡ length m
+    size = image_length (length m) (image_records m) (image_inside m h)
 
-    byte : (x : ℕ) → x < length m → Covers (imageRecords m) x ⊎ (Covers (imageRecords m) x → ⊥) → get_or (image_of (length m) (imageRecords m)) x 0 ≡ get_or m x 0
-    byte x k c = all-written m (imageRecords m) (blank (length m)) (blank-length (length m)) (image-inside m h) (image-parts m h) x (start c)
+    byte : (x : ℕ) → x < length m → Covers (image_records m) x ⊎ (Covers (image_records m) x → ⊥) → get_or (image_of (length m) (image_records m)) x 0 ≡ get_or m x 0
+    byte x k c = all_written m (image_records m) (blank (length m)) (blank_length (length m)) (image_inside m h) (image_parts m h) x (start c)
       where
-        start : Covers (imageRecords m) x ⊎ (Covers (imageRecords m) x → ⊥) → (get_or (blank (length m)) x 0 ≡ get_or m x 0) ⊎ Covers (imageRecords m) x
+        start : Covers (image_records m) x ⊎ (Covers (image_records m) x → ⊥) → (get_or (blank (length m)) x 0 ≡ get_or m x 0) ⊎ Covers (image_records m) x
         start (inl y) = inr y
-        start (inr n) = inl (blank-byte (length m) x k ∙ sym (uncovered m x h k n))
+        start (inr n) = inl (blank_byte (length m) x k ∙ sym (uncovered m x h k n))

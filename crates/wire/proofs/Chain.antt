@@ -40,10 +40,10 @@ module _ {A : Type 0} (P : A → Type 0) where
     go false q h = rw q (h (λ z. f (q, z)))
 
   -- where one of the checks applies, what is said of each check's answer is said of the answer of every chain that begins with them
-  pub first-applies : (cs ds : List (Bool × A)) (last : A) → Each cs → applies cs ≡ true → P (first_of (cs ++ ds) last)
+  pub first_applies : (cs ds : List (Bool × A)) (last : A) → Each cs → applies cs ≡ true → P (first_of (cs ++ ds) last)
   unfolding first_of applies
-  first-applies [] ds last e f = absurd (true≢false (sym f))
-  first-applies (c ∷ cs) ds last e f = go c.0 refl f (first-applies cs ds last e.1) where
+  first_applies [] ds last e f = absurd (true≢false (sym f))
+  first_applies (c ∷ cs) ds last e f = go c.0 refl f (first_applies cs ds last e.1) where
     go : (b : Bool) → c.0 ≡ b → (c.0 || applies cs) ≡ true → (applies cs ≡ true → P (first_of (cs ++ ds) last)) → P (first_of ((c ∷ cs) ++ ds) last)
     go true q g h = rw q e.0
     go false q g h = rw q (h (rw q at g))
@@ -62,10 +62,10 @@ module _ {A : Type 0} where
   quiet (c ∷ cs) f = let z = neither c.0 (applies cs) f in (z.0, quiet cs z.1)
 
   -- where each check does not apply, none applies
-  pub none-applies : (cs : List (Bool × A)) → Quiet cs → applies cs ≡ false
+  pub none_applies : (cs : List (Bool × A)) → Quiet cs → applies cs ≡ false
   unfolding applies
-  none-applies [] q = refl
-  none-applies (c ∷ cs) q = rw q.0 (none-applies cs q.1)
+  none_applies [] q = refl
+  none_applies (c ∷ cs) q = rw q.0 (none_applies cs q.1)
 
 -- what is said of both answers of a test is said of its answer
 pub either : {A : Type 0} (P : A → Type 0) (b : Bool) (x y : A) → P x → P y → P (cond b x y)

@@ -3,115 +3,115 @@
 use Rattle.std.specs.Prelude.{ℕ, ◌+◌}
 
 -- The protocol's number; no other is supported.
-abbrev pub PROTOCOL : ℕ
-PROTOCOL = 2
+abbrev pub protocol_number : ℕ
+protocol_number = 2
 
 -- The most components that a device has: as many as a version reply holds.
-abbrev pub COMPONENT-LIMIT : ℕ
-COMPONENT-LIMIT = 7
+abbrev pub component_limit : ℕ
+component_limit = 7
 
 -- The highest id of a component; the lowest is 1.
-abbrev pub ID-LIMIT : ℕ
-ID-LIMIT = 0xDF
+abbrev pub id_limit : ℕ
+id_limit = 0xDF
 
 -- The size of a packet on the offer channel, which is also that of both replies. Of a content packet: where its data start, how many bytes of data it has room
 -- for, and its size.
-abbrev pub SHORT-SIZE : ℕ
-SHORT-SIZE = 16
+abbrev pub short_size : ℕ
+short_size = 16
 
-abbrev pub DATA-AT : ℕ
-DATA-AT = 8
+abbrev pub data_at : ℕ
+data_at = 8
 
-abbrev pub DATA-SIZE : ℕ
-DATA-SIZE = 52
+abbrev pub packet_data_size : ℕ
+packet_data_size = 52
 
-abbrev pub LONG-SIZE : ℕ
-LONG-SIZE = DATA-AT + DATA-SIZE
+abbrev pub long_size : ℕ
+long_size = data_at + packet_data_size
 
 -- Byte 2 of a packet on the offer channel that is not an offer.
-abbrev pub KIND-INFORMATION : ℕ
-KIND-INFORMATION = 0xFF
+abbrev pub kind_information : ℕ
+kind_information = 0xFF
 
-abbrev pub KIND-EXTENDED : ℕ
-KIND-EXTENDED = 0xFE
+abbrev pub kind_extended : ℕ
+kind_extended = 0xFE
 
 -- Information codes.
-abbrev pub INFO-START-ENTIRE-TRANSACTION : ℕ
-INFO-START-ENTIRE-TRANSACTION = 0
+abbrev pub info_start_entire_transaction : ℕ
+info_start_entire_transaction = 0
 
-abbrev pub INFO-START-OFFER-LIST : ℕ
-INFO-START-OFFER-LIST = 1
+abbrev pub info_start_offer_list : ℕ
+info_start_offer_list = 1
 
-abbrev pub INFO-END-OFFER-LIST : ℕ
-INFO-END-OFFER-LIST = 2
+abbrev pub info_end_offer_list : ℕ
+info_end_offer_list = 2
 
 -- Extended codes.
-abbrev pub NOTIFY-ON-READY : ℕ
-NOTIFY-ON-READY = 1
+abbrev pub notify_on_ready : ℕ
+notify_on_ready = 1
 
 -- Offer reply, status.
-abbrev pub OFFER-SKIP : ℕ
-OFFER-SKIP = 0
+abbrev pub offer_skip : ℕ
+offer_skip = 0
 
-abbrev pub OFFER-ACCEPT : ℕ
-OFFER-ACCEPT = 1
+abbrev pub offer_accept : ℕ
+offer_accept = 1
 
-abbrev pub OFFER-REJECT : ℕ
-OFFER-REJECT = 2
+abbrev pub offer_reject : ℕ
+offer_reject = 2
 
-abbrev pub OFFER-BUSY : ℕ
-OFFER-BUSY = 3
+abbrev pub offer_busy : ℕ
+offer_busy = 3
 
-abbrev pub OFFER-READY : ℕ
-OFFER-READY = 4
+abbrev pub offer_ready : ℕ
+offer_ready = 4
 
-abbrev pub OFFER-UNSUPPORTED : ℕ
-OFFER-UNSUPPORTED = 0xFF
+abbrev pub offer_unsupported : ℕ
+offer_unsupported = 0xFF
 
 -- Offer reply, reject reason.
-abbrev pub REJECT-OLD-FW : ℕ
-REJECT-OLD-FW = 0
+abbrev pub reject_old_fw : ℕ
+reject_old_fw = 0
 
-abbrev pub REJECT-INV-COMPONENT : ℕ
-REJECT-INV-COMPONENT = 1
+abbrev pub reject_inv_component : ℕ
+reject_inv_component = 1
 
-abbrev pub REJECT-SWAP-PENDING : ℕ
-REJECT-SWAP-PENDING = 2
+abbrev pub reject_swap_pending : ℕ
+reject_swap_pending = 2
 
-abbrev pub REJECT-WRONG-PROTOCOL : ℕ
-REJECT-WRONG-PROTOCOL = 0xE0
+abbrev pub reject_wrong_protocol : ℕ
+reject_wrong_protocol = 0xE0
 
-abbrev pub REJECT-WRONG-SEGMENT : ℕ
-REJECT-WRONG-SEGMENT = 0xE1
+abbrev pub reject_wrong_segment : ℕ
+reject_wrong_segment = 0xE1
 
-abbrev pub REJECT-WRONG-VARIANT : ℕ
-REJECT-WRONG-VARIANT = 0xE2
+abbrev pub reject_wrong_variant : ℕ
+reject_wrong_variant = 0xE2
 
 -- Content, flags.
-abbrev pub FLAG-FIRST-BLOCK : ℕ
-FLAG-FIRST-BLOCK = 0x80
+abbrev pub flag_first_block : ℕ
+flag_first_block = 0x80
 
-abbrev pub FLAG-LAST-BLOCK : ℕ
-FLAG-LAST-BLOCK = 0x40
+abbrev pub flag_last_block : ℕ
+flag_last_block = 0x40
 
 -- Content reply, status.
-abbrev pub SUCCESS : ℕ
-SUCCESS = 0
+abbrev pub success_status : ℕ
+success_status = 0
 
-abbrev pub ERROR-VERIFY : ℕ
-ERROR-VERIFY = 0x04
+abbrev pub error_verify : ℕ
+error_verify = 0x04
 
-abbrev pub ERROR-CRC : ℕ
-ERROR-CRC = 0x05
+abbrev pub error_crc : ℕ
+error_crc = 0x05
 
-abbrev pub ERROR-VERSION : ℕ
-ERROR-VERSION = 0x07
+abbrev pub error_version : ℕ
+error_version = 0x07
 
-abbrev pub ERROR-INVALID-ADDR : ℕ
-ERROR-INVALID-ADDR = 0x09
+abbrev pub error_invalid_addr : ℕ
+error_invalid_addr = 0x09
 
-abbrev pub ERROR-NO-OFFER : ℕ
-ERROR-NO-OFFER = 0x0A
+abbrev pub error_no_offer : ℕ
+error_no_offer = 0x0A
 
-abbrev pub ERROR-INVALID : ℕ
-ERROR-INVALID = 0x0B
+abbrev pub error_invalid : ℕ
+error_invalid = 0x0B

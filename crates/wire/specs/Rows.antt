@@ -6,7 +6,7 @@ use Rattle.wire.specs.declared.verdict.Verdict.TheVariants.{Served, P1, P2}
 -- no refusal, or row P with its number
 pub data Row : Type 0 where
   served : Row
-  P : ℕ → Row
+  row_p : ℕ → Row
 
 -- the number of a verdict's row, 0 for none
 abbrev pub number_of : Verdict → ℕ
@@ -16,7 +16,7 @@ number_of P2 = 2
 
 -- the row with a number
 abbrev pub row_at : ℕ → Row
-row_at number = cond (eqb number 0) served (P number)
+row_at number = cond (eqb number 0) served (row_p number)
 
 abbrev pub row_of : Verdict → Row
 row_of v = row_at (number_of v)

@@ -1,7 +1,7 @@
 // An address inside a component's region. An offset into the staging buffer is another type, and only a region's base turns this one into it.
 ghost use Rattle.std.specs.Prelude.{◌≡◌};
 
-#[derive(Drop)]
+#[derive(Clone, Copy)]
 pub struct RegionAddress(u32);
 
 impl RegionAddress {

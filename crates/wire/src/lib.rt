@@ -1,4 +1,6 @@
 // What every packet is made of: words in bytes, versions, region addresses, CFU's codes, and the verdict of a build or a read.
+#![tactic(auto)]
+
 pub mod words; // words.rt: numbers in bytes, a copy, a fill, a comparison
 pub mod version; // version.rt: a version and its three parts
 pub mod address; // address.rt: an address inside a region

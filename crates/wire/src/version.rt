@@ -1,10 +1,10 @@
 // A version: variant in bits 0-7, minor in bits 8-23, major in bits 24-31 (document 01, "Packets").
 ghost use Rattle.std.specs.Prelude.{◌≡◌};
-ghost use Rattle.wire.specs.Version.{versionOf, readVersion, versionAt, majorOf, minorOf, variant_of, versionBytes, releaseOf};
+ghost use Rattle.wire.specs.Version.{version_of, read_version, version_at, major_of, minor_of, variant_of, version_bytes, release_of};
 
 use crate::words::byte_at;
 
-#[derive(Drop)]
+#[derive(Clone, Copy)]
 pub struct Version(u32);
 
 impl Version {
@@ -20,14 +20,14 @@ impl Version {
 
     // The only place that puts a version together.
     pub fn new(major: u8, minor: u16, variant: u8) -> Self
-        ensures { result ≡ versionOf major minor variant }
+        ensures { result ≡ version_of major minor variant }
     {
         Version((variant as u32) + (minor as u32) * Self::MINOR + (major as u32) * Self::MAJOR)
     }
 
     // Four bytes of a packet: variant, minor with its low byte first, major.
     pub fn read(variant: u8, minor_low: u8, minor_high: u8, major: u8) -> Self
-        ensures { result ≡ readVersion variant minor_low minor_high major }
+        ensures { result ≡ read_version variant minor_low minor_high major }
     {
         Version::new(
             major,
@@ -38,7 +38,7 @@ impl Version {
 
     // The version in the four bytes from a place on; past the end a byte is 0.
     pub fn read_at(p: &[u8], i: u16) -> Self
-        ensures { result ≡ versionAt i p.now }
+        ensures { result ≡ version_at i p.now }
     {
         let at = i as usize;
         Version::read(
@@ -50,13 +50,13 @@ impl Version {
     }
 
     pub fn major(self) -> u8
-        ensures { result ≡ majorOf self }
+        ensures { result ≡ major_of self }
     {
         (self.0 / Self::MAJOR) as u8
     }
 
     pub fn minor(self) -> u16
-        ensures { result ≡ minorOf self }
+        ensures { result ≡ minor_of self }
     {
         (self.0 / Self::MINOR % 65536) as u16
     }
@@ -69,7 +69,7 @@ impl Version {
 
     // Its four bytes in a packet, as they are read.
     pub fn bytes(self) -> [u8; 4]
-        ensures { result ≡ versionBytes self }
+        ensures { result ≡ version_bytes self }
     {
         let variant = self.variant();
         let minor = self.minor();
@@ -86,7 +86,7 @@ impl Version {
 
     // The number divided by 256, rounded down: major and minor, without the variant.
     pub fn release(self) -> u32
-        ensures { result ≡ releaseOf self }
+        ensures { result ≡ release_of self }
     {
         self.number() / Self::MINOR
     }

@@ -1,7 +1,7 @@
 // Numbers in bytes, the least significant byte first, a copy of bytes, a fill and a comparison; the lesser of two numbers (document 01:
 // numbers are little-endian unless said).
 ghost use Rattle.std.specs.Prelude.{◌≡◌, [], ◌∷◌, min, length, get_or, replicate};
-ghost use Rattle.wire.specs.Bytes.{number, bytes_of, bytes_at, copy_of, same as sameBytes};
+ghost use Rattle.wire.specs.Bytes.{number, bytes_of, bytes_at, copy_of, same as same_bytes};
 
 pub fn word16(a: u8, b: u8) -> u16
     ensures { result ≡ number (a ∷ b ∷ []) }
@@ -124,7 +124,7 @@ pub fn fill(s: &mut [u8], value: u8)
 
 // Both are equally long, and equal byte by byte.
 pub fn same(a: &[u8], b: &[u8]) -> bool
-    ensures { result ≡ sameBytes a.now b.now }
+    ensures { result ≡ same_bytes a.now b.now }
 {
     if a.len() != b.len() {
         return false;

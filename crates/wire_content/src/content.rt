@@ -1,7 +1,7 @@
 // Content (CFU 5.5), 60 bytes: a block of an image.
 ghost use Rattle.std.specs.Prelude.{◌≡◌, length};
-ghost use Rattle.wire.specs.Codes.{LONG-SIZE};
-ghost use Rattle.wire_content.specs.Content.{allowed, usedOf, head_of, contentBytes, toldBuilt, buildOf, fieldsIn, toldRead, read_of};
+ghost use Rattle.wire.specs.Codes.{long_size};
+ghost use Rattle.wire_content.specs.Content.{allowed, used_of, head_of, content_bytes, told_built, build_of, fields_in, told_read, read_of};
 
 use wire::address::RegionAddress;
 use wire::codes::{DATA_AT, DATA_SIZE, FLAG_LAST_BLOCK, LONG_SIZE};
@@ -11,7 +11,7 @@ use wire::words;
 // The most bytes of data, as the length of a packet says it.
 pub const DATA_LIMIT: u8 = DATA_SIZE as u8;
 
-#[derive(Drop)]
+#[derive(Clone, Copy)]
 pub struct ContentFields {
     // Byte 0: 0x80 first block, 0x40 last block.
     pub flags: u8,
@@ -25,13 +25,13 @@ pub struct ContentFields {
     pub data: [u8; DATA_SIZE],
 }
 
-#[derive(Drop)]
+#[derive(Clone, Copy)]
 pub struct BuiltContent {
     pub verdict: Verdict,
     pub packet: [u8; LONG_SIZE],
 }
 
-#[derive(Drop)]
+#[derive(Clone, Copy)]
 pub struct ReadContent {
     pub verdict: Verdict,
     pub content: ContentFields,
@@ -55,7 +55,7 @@ pub fn head(flags: u8, length: u8, sequence: u16, address: RegionAddress) -> [u8
 
 // How many bytes of data count: the length, of all that there are.
 fn used(length: u8) -> usize
-    ensures { result ≡ usedOf length }
+    ensures { result ≡ used_of length }
 {
     if length <= DATA_LIMIT {
         length as usize
@@ -65,7 +65,7 @@ fn used(length: u8) -> usize
 }
 
 fn packet(c: ContentFields) -> [u8; LONG_SIZE]
-    ensures { result ≡ contentBytes c }
+    ensures { result ≡ content_bytes c }
 {
     let data = c.data;
     let address = c.address;
@@ -78,7 +78,7 @@ fn packet(c: ContentFields) -> [u8; LONG_SIZE]
 }
 
 pub fn build_content(c: ContentFields) -> BuiltContent
-    ensures { toldBuilt result ≡ buildOf c }
+    ensures { told_built result ≡ build_of c }
 {
     if is_allowed(c.flags, c.length) {
         let p = packet(c);
@@ -96,8 +96,8 @@ pub fn build_content(c: ContentFields) -> BuiltContent
 
 // The fields of a packet.
 fn fields(p: &[u8]) -> ContentFields
-    requires { length p.now ≡ LONG-SIZE }
-    ensures { result ≡ fieldsIn p.now }
+    requires { length p.now ≡ long_size }
+    ensures { result ≡ fields_in p.now }
 {
     let n = used(p[1]);
     let mut data = [0u8; DATA_SIZE];
@@ -112,7 +112,7 @@ fn fields(p: &[u8]) -> ContentFields
 }
 
 pub fn read_content(p: &[u8]) -> ReadContent
-    ensures { toldRead result ≡ read_of p.now }
+    ensures { told_read result ≡ read_of p.now }
 {
     if p.len() == LONG_SIZE {
         let c = fields(p);

@@ -1,11 +1,11 @@
 // The first eight bytes of content (CFU 5.5): all but its data.
 ghost use Rattle.std.specs.Prelude.{◌≡◌};
-ghost use Rattle.wire_content.specs.Head.{headIn};
+ghost use Rattle.wire_content.specs.Head.{head_in};
 
 use wire::address::RegionAddress;
 use wire::words;
 
-#[derive(Drop)]
+#[derive(Clone, Copy)]
 pub struct ContentHead {
     // Byte 0: 0x80 first block, 0x40 last block.
     pub flags: u8,
@@ -19,7 +19,7 @@ pub struct ContentHead {
 
 // Bytes that are missing are read as zero.
 pub fn read_head(p: &[u8]) -> ContentHead
-    ensures { result ≡ headIn p.now }
+    ensures { result ≡ head_in p.now }
 {
     ContentHead {
         flags: words::byte_at(p, 0),

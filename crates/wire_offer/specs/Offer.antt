@@ -1,9 +1,9 @@
 -- An offer (document 01, "Packets"; CFU 5.2): its fields, its 16 bytes, and when building it is refused.
 use Rattle.std.specs.Prelude.{ℕ, ◌*◌, ◌/◌, ◌%◌, ◌^◌, ◌<◌, Bool, true, false, cond, ◌&&◌, List, ◌∷◌, ◌++◌, eqb, leb, ltb, get_or, replicate}
 use Rattle.wire.specs.Bytes.{number, bytes_of, bytes_at}
-use Rattle.wire.specs.Version.{FitsVersion, versionAt, versionBytes}
-use Rattle.wire.specs.Rows.{Row, served, P, row_of, Told}
-use Rattle.wire.specs.Codes.{SHORT-SIZE}
+use Rattle.wire.specs.Version.{FitsVersion, version_at, version_bytes}
+use Rattle.wire.specs.Rows.{Row, served, row_p, row_of, Told}
+use Rattle.wire.specs.Codes.{short_size}
 use Rattle.wire_offer.specs.declared.offer.OfferFields.{OfferFields}
 use Rattle.wire_offer.specs.declared.offer.BuiltOffer.{BuiltOffer}
 
@@ -30,30 +30,30 @@ flags_of false true = 0x80
 flags_of false false = 0
 
 -- the 16 bytes in wire order; byte 13 is reserved
-unfoldable pub offerBytes : OfferFields → List ℕ
-offerBytes o =
+unfoldable pub offer_bytes : OfferFields → List ℕ
+offer_bytes o =
     o.segment ∷ flags_of o.force_immediate_reset o.force_ignore_version ∷ o.id ∷ o.token
-    ∷ versionBytes o.version
+    ∷ version_bytes o.version
     ++ o.need ∷ bytes_of 3 o.least
     ++ o.protocol ∷ 0 ∷ bytes_of 2 o.platform
 
 -- what building answers
-unfoldable pub buildOf : OfferFields → Told (List ℕ)
-buildOf o = cond (allowed o) (record { row = served; value = offerBytes o }) (record { row = P 2; value = replicate SHORT-SIZE 0 })
+unfoldable pub build_of : OfferFields → Told (List ℕ)
+build_of o = cond (allowed o) (record { row = served; value = offer_bytes o }) (record { row = row_p 2; value = replicate short_size 0 })
 
 -- the row and the bytes of a built offer
-abbrev pub toldBuilt : BuiltOffer → Told (List ℕ)
-toldBuilt r = record { row = row_of r.verdict; value = r.packet }
+abbrev pub told_built : BuiltOffer → Told (List ℕ)
+told_built r = record { row = row_of r.verdict; value = r.packet }
 
 -- the fields of 16 bytes, reserved bits left out: protocol is the four bits, unjudged
-unfoldable pub fieldsIn : List ℕ → OfferFields
-fieldsIn p = record {
+unfoldable pub fields_in : List ℕ → OfferFields
+fields_in p = record {
   segment = get_or p 0 0;
   force_immediate_reset = eqb (get_or p 1 0 / 64 % 2) 1;
   force_ignore_version = eqb (get_or p 1 0 / 128 % 2) 1;
   id = get_or p 2 0;
   token = get_or p 3 0;
-  version = versionAt 4 p;
+  version = version_at 4 p;
   need = get_or p 8 0;
   least = number (bytes_at 3 9 p);
   protocol = get_or p 12 0 % 16;
@@ -61,8 +61,8 @@ fieldsIn p = record {
 }
 
 -- all fields zero
-abbrev pub blankOffer : OfferFields
-blankOffer = record {
+abbrev pub blank_offer : OfferFields
+blank_offer = record {
   segment = 0;
   force_immediate_reset = false;
   force_ignore_version = false;
@@ -76,5 +76,5 @@ blankOffer = record {
 }
 
 -- the packet with its reserved bits zero: byte 1 bits 0-5, byte 12 bits 4-7, byte 13
-unfoldable pub cleanOffer : List ℕ → List ℕ
-cleanOffer p = get_or p 0 0 ∷ get_or p 1 0 / 64 * 64 ∷ bytes_at 10 2 p ++ get_or p 12 0 % 16 ∷ 0 ∷ bytes_at 2 14 p
+unfoldable pub clean_offer : List ℕ → List ℕ
+clean_offer p = get_or p 0 0 ∷ get_or p 1 0 / 64 * 64 ∷ bytes_at 10 2 p ++ get_or p 12 0 % 16 ∷ 0 ∷ bytes_at 2 14 p

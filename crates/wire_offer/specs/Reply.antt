@@ -1,7 +1,7 @@
 -- The offer reply (document 01, "Packets"; CFU 5.2.2): its fields and its 16 bytes, for all three kinds. Building it is never refused.
 use Rattle.std.specs.Prelude.{ℕ, ◌<◌, cond, List, [], ◌∷◌, eqb, length, get_or}
-use Rattle.wire.specs.Rows.{served, P, row_of, Told}
-use Rattle.wire.specs.Codes.{SHORT-SIZE}
+use Rattle.wire.specs.Rows.{served, row_p, row_of, Told}
+use Rattle.wire.specs.Codes.{short_size}
 use Rattle.wire_offer.specs.declared.reply.OfferReply.{OfferReply}
 use Rattle.wire_offer.specs.declared.reply.ReadOfferReply.{ReadOfferReply}
 
@@ -12,22 +12,22 @@ pub record FitsReply (r : OfferReply) : Type 0 where
   pub status : r.status < 256
 
 -- token at 3, reason at 8, status at 12, all else zero
-abbrev pub replyBytes : OfferReply → List ℕ
-replyBytes r = 0 ∷ 0 ∷ 0 ∷ r.token ∷ 0 ∷ 0 ∷ 0 ∷ 0 ∷ r.reason ∷ 0 ∷ 0 ∷ 0 ∷ r.status ∷ 0 ∷ 0 ∷ 0 ∷ []
+abbrev pub reply_bytes : OfferReply → List ℕ
+reply_bytes r = 0 ∷ 0 ∷ 0 ∷ r.token ∷ 0 ∷ 0 ∷ 0 ∷ 0 ∷ r.reason ∷ 0 ∷ 0 ∷ 0 ∷ r.status ∷ 0 ∷ 0 ∷ 0 ∷ []
 
 -- the fields of 16 bytes
-abbrev pub replyIn : List ℕ → OfferReply
-replyIn p = record { token = get_or p 3 0; reason = get_or p 8 0; status = get_or p 12 0 }
+abbrev pub reply_in : List ℕ → OfferReply
+reply_in p = record { token = get_or p 3 0; reason = get_or p 8 0; status = get_or p 12 0 }
 
 -- what reading answers: P1 with all fields zero, or the fields
-unfoldable pub readReplyOf : List ℕ → Told OfferReply
-readReplyOf p = cond (eqb (length p) SHORT-SIZE) (record { row = served; value = replyIn p }) (record { row = P 1; value = record { token = 0; reason = 0; status = 0 } })
+unfoldable pub read_reply_of : List ℕ → Told OfferReply
+read_reply_of p = cond (eqb (length p) short_size) (record { row = served; value = reply_in p }) (record { row = row_p 1; value = record { token = 0; reason = 0; status = 0 } })
 
 -- the row and the fields of a reader's answer
-abbrev pub toldReply : ReadOfferReply → Told OfferReply
-toldReply r = record { row = row_of r.verdict; value = r.reply }
+abbrev pub told_reply : ReadOfferReply → Told OfferReply
+told_reply r = record { row = row_of r.verdict; value = r.reply }
 
 -- the packet with its reserved bytes zero: 0-2, 4-7, 9-11, 13-15
-abbrev pub cleanReply : List ℕ → List ℕ
-cleanReply p =
+abbrev pub clean_reply : List ℕ → List ℕ
+clean_reply p =
     0 ∷ 0 ∷ 0 ∷ get_or p 3 0 ∷ 0 ∷ 0 ∷ 0 ∷ 0 ∷ get_or p 8 0 ∷ 0 ∷ 0 ∷ 0 ∷ get_or p 12 0 ∷ 0 ∷ 0 ∷ 0 ∷ []

@@ -1,8 +1,8 @@
 // The one reader of the offer channel: byte 2 decides the kind of a packet.
 ghost use Rattle.std.specs.Prelude.{◌≡◌, length};
-ghost use Rattle.wire.specs.Codes.{SHORT-SIZE};
-ghost use Rattle.wire_offer.specs.Offer.{fieldsIn};
-ghost use Rattle.wire_offer.specs.Kind.{toldRead, read_of};
+ghost use Rattle.wire.specs.Codes.{short_size};
+ghost use Rattle.wire_offer.specs.Offer.{fields_in};
+ghost use Rattle.wire_offer.specs.Kind.{told_read, read_of};
 
 use crate::offer::OfferFields;
 use crate::signal::Signal;
@@ -10,7 +10,7 @@ use wire::codes::SHORT_SIZE;
 use wire::version::Version;
 use wire::{codes, words};
 
-#[derive(Drop)]
+#[derive(Clone, Copy)]
 pub enum OfferPacket {
     // P1: another length than a packet on the offer channel has.
     Refused,
@@ -20,8 +20,8 @@ pub enum OfferPacket {
 }
 
 fn fields(p: &[u8]) -> OfferFields
-    requires { length p.now ≡ SHORT-SIZE }
-    ensures { result ≡ fieldsIn p.now }
+    requires { length p.now ≡ short_size }
+    ensures { result ≡ fields_in p.now }
 {
     OfferFields {
         segment: p[0],
@@ -38,7 +38,7 @@ fn fields(p: &[u8]) -> OfferFields
 }
 
 pub fn read_offer_packet(p: &[u8]) -> OfferPacket
-    ensures { toldRead result ≡ read_of p.now }
+    ensures { told_read result ≡ read_of p.now }
 {
     if p.len() != SHORT_SIZE {
         return OfferPacket::Refused;

@@ -1,13 +1,13 @@
 // An offer (CFU 5.2), 16 bytes.
 ghost use Rattle.std.specs.Prelude.{◌≡◌};
-ghost use Rattle.wire_offer.specs.Offer.{allowed, flags_of, offerBytes, toldBuilt, buildOf};
+ghost use Rattle.wire_offer.specs.Offer.{allowed, flags_of, offer_bytes, told_built, build_of};
 
 use wire::codes::SHORT_SIZE;
 use wire::verdict::Verdict;
 use wire::version::Version;
 use wire::words;
 
-#[derive(Drop)]
+#[derive(Clone, Copy)]
 pub struct OfferFields {
     // Byte 0.
     pub segment: u8,
@@ -31,7 +31,7 @@ pub struct OfferFields {
     pub platform: u16,
 }
 
-#[derive(Drop)]
+#[derive(Clone, Copy)]
 pub struct BuiltOffer {
     pub verdict: Verdict,
     pub packet: [u8; SHORT_SIZE],
@@ -56,7 +56,7 @@ fn flags(force_immediate_reset: bool, force_ignore_version: bool) -> u8
 }
 
 fn packet(o: OfferFields) -> [u8; SHORT_SIZE]
-    ensures { result ≡ offerBytes o }
+    ensures { result ≡ offer_bytes o }
 {
     let f = flags(o.force_immediate_reset, o.force_ignore_version);
     let version = o.version;
@@ -70,7 +70,7 @@ fn packet(o: OfferFields) -> [u8; SHORT_SIZE]
 }
 
 pub fn build_offer(o: OfferFields) -> BuiltOffer
-    ensures { toldBuilt result ≡ buildOf o }
+    ensures { told_built result ≡ build_of o }
 {
     if is_allowed(o) {
         let p = packet(o);

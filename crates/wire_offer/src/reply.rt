@@ -1,11 +1,11 @@
 // The reply to an offer, an information or an extended packet (CFU 5.2.2), 16 bytes.
 ghost use Rattle.std.specs.Prelude.{◌≡◌};
-ghost use Rattle.wire_offer.specs.Reply.{replyBytes, toldReply, readReplyOf};
+ghost use Rattle.wire_offer.specs.Reply.{reply_bytes, told_reply, read_reply_of};
 
 use wire::codes::SHORT_SIZE;
 use wire::verdict::Verdict;
 
-#[derive(Drop)]
+#[derive(Clone, Copy)]
 pub struct OfferReply {
     // Byte 3.
     pub token: u8,
@@ -15,7 +15,7 @@ pub struct OfferReply {
     pub status: u8,
 }
 
-#[derive(Drop)]
+#[derive(Clone, Copy)]
 pub struct ReadOfferReply {
     pub verdict: Verdict,
     pub reply: OfferReply,
@@ -23,7 +23,7 @@ pub struct ReadOfferReply {
 
 // Any reason with any status: the device's own rule is that the reason is zero unless REJECT.
 pub fn build_offer_reply(r: OfferReply) -> [u8; SHORT_SIZE]
-    ensures { result ≡ replyBytes r }
+    ensures { result ≡ reply_bytes r }
 {
     [
         0, 0, 0, r.token, 0, 0, 0, 0, r.reason, 0, 0, 0, r.status, 0, 0, 0,
@@ -31,7 +31,7 @@ pub fn build_offer_reply(r: OfferReply) -> [u8; SHORT_SIZE]
 }
 
 pub fn read_offer_reply(p: &[u8]) -> ReadOfferReply
-    ensures { toldReply result ≡ readReplyOf p.now }
+    ensures { told_reply result ≡ read_reply_of p.now }
 {
     if p.len() == SHORT_SIZE {
         ReadOfferReply {

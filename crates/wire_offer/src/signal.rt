@@ -1,11 +1,11 @@
 // Information (CFU 5.3) and extended (CFU 5.4), 16 bytes each: a code at byte 0, the kind at byte 2, a token at byte 3.
 ghost use Rattle.std.specs.Prelude.{◌≡◌};
-ghost use Rattle.wire_offer.specs.Signal.{informationBytes, extendedBytes};
+ghost use Rattle.wire_offer.specs.Signal.{information_bytes, extended_bytes};
 
 use wire::codes;
 use wire::codes::SHORT_SIZE;
 
-#[derive(Drop)]
+#[derive(Clone, Copy)]
 pub struct Signal {
     // Byte 0.
     pub code: u8,
@@ -15,7 +15,7 @@ pub struct Signal {
 
 // Any code and any token: document 01 refuses none.
 pub fn build_information(s: Signal) -> [u8; SHORT_SIZE]
-    ensures { result ≡ informationBytes s }
+    ensures { result ≡ information_bytes s }
 {
     [
         s.code,
@@ -38,7 +38,7 @@ pub fn build_information(s: Signal) -> [u8; SHORT_SIZE]
 }
 
 pub fn build_extended(s: Signal) -> [u8; SHORT_SIZE]
-    ensures { result ≡ extendedBytes s }
+    ensures { result ≡ extended_bytes s }
 {
     [
         s.code,

@@ -4,13 +4,13 @@ use Rattle.std.specs.Prelude.{ℕ, ◌≡◌, List}
 use Rattle.wire.specs.Bytes.{Packet}
 use Rattle.wire.specs.Rows.{served}
 use Rattle.wire_version.specs.declared.VersionReply.{VersionReply}
-use Rattle.wire_version.specs.Reply.{REPLY-SIZE, FitsReply, buildOf, read_of, norm, cleanReply}
+use Rattle.wire_version.specs.Reply.{reply_size, FitsReply, build_of, read_of, norm, clean_reply}
 
 abbrev pub VersionReplyR1 : Type 0
-VersionReplyR1 = (r : VersionReply) → FitsReply r → (buildOf r).row ≡ served → read_of (buildOf r).value ≡ record { row = served; value = norm r }
+VersionReplyR1 = (r : VersionReply) → FitsReply r → (build_of r).row ≡ served → read_of (build_of r).value ≡ record { row = served; value = norm r }
 
 abbrev pub VersionReplyR2 : Type 0
-VersionReplyR2 = (p : List ℕ) → Packet REPLY-SIZE p → (read_of p).row ≡ served → buildOf (read_of p).value ≡ record { row = served; value = cleanReply p }
+VersionReplyR2 = (p : List ℕ) → Packet reply_size p → (read_of p).row ≡ served → build_of (read_of p).value ≡ record { row = served; value = clean_reply p }
 
 abbrev pub VersionReplyR3 : Type 0
-VersionReplyR3 = (p : List ℕ) → Packet REPLY-SIZE p → (read_of p).row ≡ served → read_of (cleanReply p) ≡ read_of p
+VersionReplyR3 = (p : List ℕ) → Packet reply_size p → (read_of p).row ≡ served → read_of (clean_reply p) ≡ read_of p

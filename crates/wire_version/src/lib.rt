@@ -1,8 +1,10 @@
 // The version reply (CFU 5.1): the running version of every component.
+#![tactic(auto)]
+
 ghost use Rattle.std.specs.Prelude.{◌≡◌, ◌≤◌, length};
-ghost use Rattle.wire.specs.Codes.{COMPONENT-LIMIT};
+ghost use Rattle.wire.specs.Codes.{component_limit};
 ghost use Rattle.wire.specs.Rows.{row_of};
-ghost use Rattle.wire_version.specs.Reply.{REPLY-SIZE, none, allowed, entryBytes, entryIn, replyBytes, tableIn, toldBuilt, buildOf, toldRead, read_of, refusedOf};
+ghost use Rattle.wire_version.specs.Reply.{reply_size, none, allowed, entry_bytes, entry_in, reply_bytes, table_in, told_built, build_of, told_read, read_of, refused_of};
 
 use wire::codes::COMPONENT_LIMIT;
 use wire::verdict::Verdict;
@@ -13,7 +15,7 @@ use wire::{codes, words};
 pub const REPLY_SIZE: usize = 4 + 8 * COMPONENT_LIMIT;
 
 // A component in the reply, eight bytes.
-#[derive(Drop)]
+#[derive(Clone, Copy)]
 pub struct Running {
     // Bytes 0-3; byte 4 is reserved.
     pub version: Version,
@@ -23,7 +25,7 @@ pub struct Running {
     pub platform: u16,
 }
 
-#[derive(Drop)]
+#[derive(Clone, Copy)]
 pub struct VersionReply {
     // Byte 0.
     pub count: u8,
@@ -33,13 +35,13 @@ pub struct VersionReply {
     pub components: [Running; COMPONENT_LIMIT],
 }
 
-#[derive(Drop)]
+#[derive(Clone, Copy)]
 pub struct BuiltVersionReply {
     pub verdict: Verdict,
     pub packet: [u8; REPLY_SIZE],
 }
 
-#[derive(Drop)]
+#[derive(Clone, Copy)]
 pub struct ReadVersionReply {
     pub verdict: Verdict,
     pub reply: VersionReply,
@@ -64,7 +66,7 @@ fn is_allowed(count: u8, protocol: u8) -> bool
 }
 
 fn entry_bytes(e: Running) -> [u8; 8]
-    ensures { result ≡ entryBytes e }
+    ensures { result ≡ entry_bytes e }
 {
     let version = e.version;
     let v = version.bytes();
@@ -74,7 +76,7 @@ fn entry_bytes(e: Running) -> [u8; 8]
 
 fn entry_in(s: &[u8]) -> Running
     requires { length s.now ≡ 8 }
-    ensures { result ≡ entryIn s.now }
+    ensures { result ≡ entry_in s.now }
 {
     Running {
         version: Version::read(s[0], s[1], s[2], s[3]),
@@ -85,8 +87,8 @@ fn entry_in(s: &[u8]) -> Running
 
 // The bytes, where the count is at most the limit.
 fn packet(count: u8, protocol: u8, components: [Running; COMPONENT_LIMIT]) -> [u8; REPLY_SIZE]
-    requires { count ≤ COMPONENT-LIMIT }
-    ensures { result ≡ replyBytes count protocol components }
+    requires { count ≤ component_limit }
+    ensures { result ≡ reply_bytes count protocol components }
 {
     let n = count as usize;
     let mut p = [0u8; REPLY_SIZE];
@@ -104,7 +106,7 @@ fn packet(count: u8, protocol: u8, components: [Running; COMPONENT_LIMIT]) -> [u
 }
 
 pub fn build_version_reply(r: VersionReply) -> BuiltVersionReply
-    ensures { toldBuilt result ≡ buildOf r }
+    ensures { told_built result ≡ build_of r }
 {
     let components = r.components;
     if is_allowed(r.count, r.protocol) {
@@ -123,8 +125,8 @@ pub fn build_version_reply(r: VersionReply) -> BuiltVersionReply
 
 // The components in a reply's bytes up to the count, which is at most the limit, then empty ones.
 fn table(p: &[u8], count: u8) -> [Running; COMPONENT_LIMIT]
-    requires { (length p.now ≡ REPLY-SIZE) × (count ≤ COMPONENT-LIMIT) }
-    ensures { result ≡ tableIn p.now count }
+    requires { (length p.now ≡ reply_size) × (count ≤ component_limit) }
+    ensures { result ≡ table_in p.now count }
 {
     let n = count as usize;
     let none = no_component();
@@ -139,7 +141,7 @@ fn table(p: &[u8], count: u8) -> [Running; COMPONENT_LIMIT]
 }
 
 fn refused(verdict: Verdict) -> ReadVersionReply
-    ensures { toldRead result ≡ refusedOf (row_of verdict) }
+    ensures { told_read result ≡ refused_of (row_of verdict) }
 {
     let none = no_component();
     let es = [none; COMPONENT_LIMIT];
@@ -154,7 +156,7 @@ fn refused(verdict: Verdict) -> ReadVersionReply
 }
 
 pub fn read_version_reply(p: &[u8]) -> ReadVersionReply
-    ensures { toldRead result ≡ read_of p.now }
+    ensures { told_read result ≡ read_of p.now }
 {
     if p.len() == REPLY_SIZE {
         let count = p[0];

@@ -5,33 +5,33 @@ use Prim.Native.Nat.{◌+◌, ◌-◌, ◌≤◌}
 use native.Mathlib.Omega.{arith}
 use borrow.Author.Rules.{rules}
 use lib.ListN.{length}
-use Rattle.bundle_records.specs.Record.{DATA-LIMIT}
+use Rattle.bundle_records.specs.Record.{data_limit}
 use Rattle.bundle_cut.proofs.Runs.{run_inside}
-use Rattle.bundle_cut.proofs.Steps.{Short, short_on, stops-room, reach-is}
+use Rattle.bundle_cut.proofs.Steps.{Short, short_on, stops_room, reach_is}
 use Rattle.bundle_cut.proofs.record_end.Statement.{statement}
 use Rattle.bundle_cut.proofs.record_end.Tie as tie
 
-abbrev invariant-loop : tie.invariant-loop
-invariant-loop d at end x₀ x = Short d at x × (at ≤ x)
+abbrev invariant_loop : tie.invariant-loop
+invariant_loop d at end x₀ x = Short d at x × (at ≤ x)
 
-abbrev decreases-loop : tie.decreases-loop
-decreases-loop d at end x₀ x = end - x
+abbrev decreases_loop : tie.decreases-loop
+decreases_loop d at end x₀ x = end - x
 
-loop-holds : tie.Need-loop-init invariant-loop decreases-loop
-loop-holds c = ((λ y a b. omega arith), omega arith)
+loop_holds : tie.Need-loop-init invariant_loop decreases_loop
+loop_holds c = ((λ y a b. omega arith), omega arith)
 
-returns : tie.Need-returns invariant-loop decreases-loop
+returns : tie.Need-returns invariant_loop decreases_loop
 returns c =
     let l = c.before.before.before.loop in
     let a = c.before.before.before.before.before.before.args in
     let m = c.before.before.before.before.least.ensures in
     let e : a.at + (l.x - a.at) ≡ l.x = omega arith in
-    let r = reach-is DATA-LIMIT (l.x - a.at) a.d.now a.at (omega arith) (omega arith) (rw e l.invariant.0)
+    let r = reach_is data_limit (l.x - a.at) a.d.now a.at (omega arith) (omega arith) (rw e l.invariant.0)
     (inr (inr (rw (e, ← c.before.run_at.ensures) c.if1.true))) in
     omega arith
 
 -- the run lies in the bytes
-inside : (c : tie.Else1 invariant-loop decreases-loop)
+inside : (c : tie.Else1 invariant_loop decreases_loop)
     → c.before.before.before.loop.x + c.before.run_at.result ≤ length c.before.before.before.before.before.before.args.d.now
 inside c =
     let l = c.before.before.before.loop in
@@ -39,17 +39,17 @@ inside c =
     let m = c.before.before.before.before.least.ensures in
     rw c.before.run_at.ensures (run_inside a.d.now l.x (omega arith))
 
-add-x : tie.Need-overflow-add-x invariant-loop decreases-loop
-add-x c = let i = inside c in omega arith
+add_x : tie.Need-overflow-add-x invariant_loop decreases_loop
+add_x c = let i = inside c in omega arith
 
-add-x-2 : tie.Need-overflow-add-x-2 invariant-loop decreases-loop
-add-x-2 c = let i = inside c in omega arith
+add_x_2 : tie.Need-overflow-add-x-2 invariant_loop decreases_loop
+add_x_2 c = let i = inside c in omega arith
 
-loop-less : tie.Need-loop-smaller invariant-loop decreases-loop
-loop-less c = let i = inside c in omega arith
+loop_less : tie.Need-loop-smaller invariant_loop decreases_loop
+loop_less c = let i = inside c in omega arith
 
-loop-again : tie.Need-loop-preserved invariant-loop decreases-loop
-loop-again c =
+loop_again : tie.Need-loop-preserved invariant_loop decreases_loop
+loop_again c =
     let l = c.before.before.before.loop in
     let a = c.before.before.before.before.before.before.args in
     let i = inside c in (
@@ -57,29 +57,29 @@ loop-again c =
       omega arith,
     )
 
-returns-2 : tie.Need-returns-2 invariant-loop decreases-loop
-returns-2 c =
+returns_2 : tie.Need-returns-2 invariant_loop decreases_loop
+returns_2 c =
     let l = c.before.loop in
     let a = c.before.before.before.before.args in
     let m = c.before.before.least.result in
     let e = c.before.before.least.ensures in
-    sym (ap (λ k. a.at + k) (reach-is DATA-LIMIT m a.d.now a.at (omega arith) (omega arith) (λ y p q. l.invariant.0 y p (omega arith)) (stops-room DATA-LIMIT m a.d.now a.at e)))
+    sym (ap (λ k. a.at + k) (reach_is data_limit m a.d.now a.at (omega arith) (omega arith) (λ y p q. l.invariant.0 y p (omega arith)) (stops_room data_limit m a.d.now a.at e)))
 
-pub record-end-spec : {M : Type 1} → statement M
-record-end-spec =
+pub record_end_spec : {M : Type 1} → statement M
+record_end_spec =
     tie.close
     (tie.spec
-    invariant-loop
-    decreases-loop
+    invariant_loop
+    decreases_loop
     (λ c. search rules)
     (λ c. search rules)
     (λ c κs. search rules)
     (λ c. search rules)
-    loop-holds
+    loop_holds
     (λ c κs. search rules)
     returns
-    add-x
-    add-x-2
-    loop-less
-    loop-again
-    returns-2)
+    add_x
+    add_x_2
+    loop_less
+    loop_again
+    returns_2)

@@ -5,50 +5,50 @@ use native.Mathlib.Omega.{arith}
 use borrow.Author.Rules.{rules}
 use lib.ListN.{length}
 use Rattle.bundle_cut.specs.Cut.{run_at}
-use Rattle.bundle_cut.proofs.Steps.{run_on, run-stops, run_ends}
+use Rattle.bundle_cut.proofs.Steps.{run_on, run_stops, run_ends}
 use Rattle.bundle_cut.proofs.run_at.Statement.{statement}
 use Rattle.bundle_cut.proofs.run_at.Tie as tie
 
-abbrev invariant-loop : tie.invariant-loop
-invariant-loop d x y₀ y = (y - x + run_at d y ≡ run_at d x) × (x ≤ y)
+abbrev invariant_loop : tie.invariant-loop
+invariant_loop d x y₀ y = (y - x + run_at d y ≡ run_at d x) × (x ≤ y)
 
-abbrev decreases-loop : tie.decreases-loop
-decreases-loop d x y₀ y = length d - y
+abbrev decreases_loop : tie.decreases-loop
+decreases_loop d x y₀ y = length d - y
 
-loop-holds : tie.Need-loop-init invariant-loop decreases-loop
-loop-holds c = (omega arith, omega arith)
+loop_holds : tie.Need-loop-init invariant_loop decreases_loop
+loop_holds c = (omega arith, omega arith)
 
-returns : tie.Need-returns invariant-loop decreases-loop
+returns : tie.Need-returns invariant_loop decreases_loop
 returns c =
     let l = c.before.before.before.loop in
     let a = c.before.before.before.before.args in
-    let e = run-stops a.d.now l.y (omega arith) c.if1.true in
+    let e = run_stops a.d.now l.y (omega arith) c.if1.true in
     omega arith
 
-loop-again : tie.Need-loop-preserved invariant-loop decreases-loop
-loop-again c =
+loop_again : tie.Need-loop-preserved invariant_loop decreases_loop
+loop_again c =
     let l = c.before.before.before.loop in
     let a = c.before.before.before.before.args in
     let e = run_on a.d.now l.y (omega arith) c.if1.false in
     (omega arith, omega arith)
 
-returns-2 : tie.Need-returns-2 invariant-loop decreases-loop
-returns-2 c =
+returns_2 : tie.Need-returns-2 invariant_loop decreases_loop
+returns_2 c =
     let e = run_ends c.before.before.args.d.now c.before.loop.y (omega arith) in
     omega arith
 
-pub run-at-spec : {M : Type 1} → statement M
-run-at-spec =
+pub run_at_spec : {M : Type 1} → statement M
+run_at_spec =
     tie.close
     (tie.spec
-    invariant-loop
-    decreases-loop
-    loop-holds
+    invariant_loop
+    decreases_loop
+    loop_holds
     (λ c. search rules)
     (λ c. omega arith)
     returns
     (λ c. search rules)
     (λ c. omega arith)
-    loop-again
+    loop_again
     (λ c. omega arith)
-    returns-2)
+    returns_2)

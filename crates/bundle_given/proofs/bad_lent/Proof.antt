@@ -7,7 +7,7 @@ use Rattle.bundle_given.proofs.bad_lent.Tie as tie
 returns : tie.Need-returns
 returns c = rw (c.offset-in.ensures, c.before.length-in.ensures) (simp or_assoc)
 
-pub bad-lent-spec : {M : Type 1} → statement M
-bad-lent-spec =
+pub bad_lent_spec : {M : Type 1} → statement M
+bad_lent_spec =
     tie.close
     (tie.spec (λ c κs. search rules) (λ c κs. search rules) (λ c. search rules) (λ c. search rules) (λ c. search rules) returns)

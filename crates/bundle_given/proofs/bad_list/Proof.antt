@@ -6,5 +6,5 @@ use Rattle.bundle_given.proofs.bad_list.Tie as tie
 returns : tie.Need-returns
 returns c = simp or_assoc
 
-pub bad-list-spec : {M : Type 1} → statement M
-bad-list-spec = tie.close (tie.spec returns)
+pub bad_list_spec : {M : Type 1} → statement M
+bad_list_spec = tie.close (tie.spec returns)

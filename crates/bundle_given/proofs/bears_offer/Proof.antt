@@ -9,8 +9,8 @@ returns c =
     let v = n.before.before in
     rw (c.id-in.ensures, c.before.byte_at.ensures, n.number2.ensures, n.before.number.ensures, v.read-at2.ensures, v.before.read_at.ensures)
 
-pub bears-offer-spec : {M : Type 1} → statement M
-bears-offer-spec =
+pub bears_offer_spec : {M : Type 1} → statement M
+bears_offer_spec =
     tie.close
     (tie.spec
     (λ c κs. search rules)

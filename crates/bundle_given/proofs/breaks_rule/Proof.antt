@@ -6,17 +6,17 @@ use Rattle.bundle_given.proofs.breaks_rule.Tie as tie
 returns : tie.Need-returns
 returns c = rw c.before.enum_told.given.1 c.bad-offer.ensures
 
-returns-2 : tie.Need-returns-2
-returns-2 c = rw c.before.enum-told2.given.1 c.bad-lent.ensures
+returns_2 : tie.Need-returns-2
+returns_2 c = rw c.before.enum-told2.given.1 c.bad-lent.ensures
 
-returns-3 : tie.Need-returns-3
-returns-3 c = rw (c.before.before.enum-told3.given.1, c.is_right.ensures, c.before.image-at.ensures)
+returns_3 : tie.Need-returns-3
+returns_3 c = rw (c.before.before.enum-told3.given.1, c.is_right.ensures, c.before.image-at.ensures)
 
-returns-4 : tie.Need-returns-4
-returns-4 c = rw (c.before.before.enum-told4.given.1, c.bears-offer.ensures, c.before.image-at2.ensures)
+returns_4 : tie.Need-returns-4
+returns_4 c = rw (c.before.before.enum-told4.given.1, c.bears-offer.ensures, c.before.image-at2.ensures)
 
-pub breaks-rule-spec : {M : Type 1} → statement M
-breaks-rule-spec =
+pub breaks_rule_spec : {M : Type 1} → statement M
+breaks_rule_spec =
     tie.close
     (tie.spec
     (λ c. search rules)
@@ -30,6 +30,6 @@ breaks-rule-spec =
     (λ c κs. search rules)
     (λ c κs. search rules)
     returns
-    returns-2
-    returns-3
-    returns-4)
+    returns_2
+    returns_3
+    returns_4)

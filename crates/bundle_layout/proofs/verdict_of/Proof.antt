@@ -4,7 +4,7 @@ use Prim.Native.Nat.{ℕ, ◌≤◌}
 use native.Mathlib.Omega.{arith}
 use lib.ListN.{get_or-eq_default}
 use Rattle.bundle_layout.specs.declared.BundleVerdict.TheVariants.{B8}
-use Rattle.bundle_layout.specs.Rows.{VERDICTS}
+use Rattle.bundle_layout.specs.Rows.{verdict_list}
 use borrow.Author.Rules.{rules}
 use Rattle.bundle_layout.proofs.verdict_of.Statement.{statement}
 use Rattle.bundle_layout.proofs.verdict_of.Tie as tie
@@ -13,17 +13,17 @@ use Rattle.bundle_layout.proofs.verdict_of.Tie as tie
 beyond : (n : ℕ) → (n ≡ 0 → ⊥) → (n ≡ 1 → ⊥) → (n ≡ 2 → ⊥) → (n ≡ 3 → ⊥) → 4 ≤ n
 beyond n a b c d = omega arith
 
-beyond-8 : (n : ℕ) → 4 ≤ n → (n ≡ 4 → ⊥) → (n ≡ 5 → ⊥) → (n ≡ 6 → ⊥) → (n ≡ 7 → ⊥) → 8 ≤ n
-beyond-8 n l a b c d = omega arith
+beyond_8 : (n : ℕ) → 4 ≤ n → (n ≡ 4 → ⊥) → (n ≡ 5 → ⊥) → (n ≡ 6 → ⊥) → (n ≡ 7 → ⊥) → 8 ≤ n
+beyond_8 n l a b c d = omega arith
 
 past : tie.Need-returns-9
 past c =
     let r = c.match.rest in
     let q = r.0.0.0.0 in
-    sym (get_or-eq_default VERDICTS B8 (beyond-8 _ (beyond _ q.0.0.0.1 q.0.0.1 q.0.1 q.1) r.0.0.0.1 r.0.0.1 r.0.1 r.1))
+    sym (get_or-eq_default verdict_list B8 (beyond_8 _ (beyond _ q.0.0.0.1 q.0.0.1 q.0.1 q.1) r.0.0.0.1 r.0.0.1 r.0.1 r.1))
 
-pub verdict-of-spec : {M : Type 1} → statement M
-verdict-of-spec =
+pub verdict_of_spec : {M : Type 1} → statement M
+verdict_of_spec =
     tie.close
     (tie.spec
     (λ c. search rules)

@@ -6,8 +6,8 @@ use Rattle.bundle_report.proofs.check_input.Tie as tie
 returns : tie.Need-returns
 returns c = rw (c.refused.ensures, c.before.if1.true)
 
-returns-2 : tie.Need-returns-2
-returns-2 c = rw c.before.if1.false c.check.ensures
+returns_2 : tie.Need-returns-2
+returns_2 c = rw c.before.if1.false c.check.ensures
 
-pub check-input-spec : {M : Type 1} → statement M
-check-input-spec = tie.close (tie.spec (λ c κs. search rules) returns (λ c κs. search rules) returns-2)
+pub check_input_spec : {M : Type 1} → statement M
+check_input_spec = tie.close (tie.spec (λ c κs. search rules) returns (λ c κs. search rules) returns_2)

@@ -6,5 +6,5 @@ use Rattle.bundle_report.proofs.line_of.Tie as tie
 returns : tie.Need-returns
 returns c = rw (c.before.before.major.ensures, c.before.minor.ensures, c.variant.ensures)
 
-pub line-of-spec : {M : Type 1} → statement M
-line-of-spec = tie.close (tie.spec (λ c κs. search rules) (λ c κs. search rules) (λ c κs. search rules) returns)
+pub line_of_spec : {M : Type 1} → statement M
+line_of_spec = tie.close (tie.spec (λ c κs. search rules) (λ c κs. search rules) (λ c κs. search rules) returns)

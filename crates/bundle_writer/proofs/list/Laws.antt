@@ -8,50 +8,50 @@ use lib.Dec.{eqb, ltb}
 use lib.ListN.{length, get_or, take, drop}
 use lib.Seq.{drop-drop}
 use Rattle.wire.proofs.Tests.{neither, equal}
-use Rattle.bundle_layout.specs.Layout.{OFFER-LIMIT, HEAD, ENTRY, entriesIn}
+use Rattle.bundle_layout.specs.Layout.{offer_limit, head_size, entry_size, entries_in}
 use Rattle.bundle.proofs.Limits.{inside}
 use Rattle.bundle.proofs.Entries as table
-use Rattle.bundle_given.specs.Given.{countOf, entriesOf}
-use Rattle.bundle_given.specs.Entry.{badList}
+use Rattle.bundle_given.specs.Given.{count_of, entries_of}
+use Rattle.bundle_given.specs.Entry.{bad_list}
 
 -- entry i of a list
-abbrev pub entryOf : List ℕ → ℕ → List ℕ
-entryOf list i = take ENTRY (drop (ENTRY * i) list)
+abbrev pub entry_of : List ℕ → ℕ → List ℕ
+entry_of list i = take entry_size (drop (entry_size * i) list)
 
 -- the list behind a head that has its count
 abbrev pub headed : List ℕ → List ℕ
-headed list = countOf list ∷ 0 ∷ 0 ∷ 0 ∷ 0 ∷ 0 ∷ 0 ∷ 0 ∷ list
+headed list = count_of list ∷ 0 ∷ 0 ∷ 0 ∷ 0 ∷ 0 ∷ 0 ∷ 0 ∷ list
 
 module _ (list : List ℕ) where
   -- a list that W1 allows has 1 to 7 entries, and ends with the last
-  pub good-list : badList list ≡ false → (length list ≡ ENTRY * countOf list) × (1 ≤ countOf list) × (countOf list ≤ OFFER-LIMIT)
-  good-list h =
-      let w = neither (not (eqb (length list % ENTRY) 0)) (ltb (countOf list) 1 || ltb OFFER-LIMIT (countOf list)) h in
-      let whole : length list % ENTRY ≡ 0 = equal (length list % ENTRY) 0 w.0 in
-      let k = inside 1 OFFER-LIMIT (countOf list) w.1 in
+  pub good_list : bad_list list ≡ false → (length list ≡ entry_size * count_of list) × (1 ≤ count_of list) × (count_of list ≤ offer_limit)
+  good_list h =
+      let w = neither (not (eqb (length list % entry_size) 0)) (ltb (count_of list) 1 || ltb offer_limit (count_of list)) h in
+      let whole : length list % entry_size ≡ 0 = equal (length list % entry_size) 0 w.0 in
+      let k = inside 1 offer_limit (count_of list) w.1 in
       (omega (arith, whole), k.0, k.1)
 
   -- the entries of the list are those of the table
-  pub entries-headed : entriesIn (headed list) ≡ entriesOf list
-  unfolding entriesIn entriesOf
-  entries-headed = refl
+  pub entries_headed : entries_in (headed list) ≡ entries_of list
+  unfolding entries_in entries_of
+  entries_headed = refl
 
-  pub entry-headed : (i : ℕ) → table.entryAt (headed list) i ≡ entryOf list i
-  entry-headed i = ap (take ENTRY) (sym (drop-drop (ENTRY * i) HEAD (headed list)))
+  pub entry_headed : (i : ℕ) → table.entry_at (headed list) i ≡ entry_of list i
+  entry_headed i = ap (take entry_size) (sym (drop-drop (entry_size * i) head_size (headed list)))
 
   -- how many they are, which each is, and how long
-  pub length-entries : length (entriesOf list) ≡ countOf list
-  length-entries = ap length (sym entries-headed) ∙ table.length-entries (headed list)
+  pub length_entries : length (entries_of list) ≡ count_of list
+  length_entries = ap length (sym entries_headed) ∙ table.length_entries (headed list)
 
-  pub entry-is : (i : ℕ) → i < countOf list → get_or (entriesOf list) i [] ≡ entryOf list i
-  entry-is i h = ap (λ (es : List (List ℕ)). get_or es i []) (sym entries-headed) ∙ table.entry-is (headed list) i h ∙ entry-headed i
+  pub entry_is : (i : ℕ) → i < count_of list → get_or (entries_of list) i [] ≡ entry_of list i
+  entry_is i h = ap (λ (es : List (List ℕ)). get_or es i []) (sym entries_headed) ∙ table.entry_is (headed list) i h ∙ entry_headed i
 
-  pub length-entry : (i : ℕ) → ENTRY * (i + 1) ≤ length list → length (entryOf list i) ≡ ENTRY
-  length-entry i h = ap length (sym (entry-headed i)) ∙ table.length-entry (headed list) i (omega arith)
+  pub length_entry : (i : ℕ) → entry_size * (i + 1) ≤ length list → length (entry_of list i) ≡ entry_size
+  length_entry i h = ap length (sym (entry_headed i)) ∙ table.length_entry (headed list) i (omega arith)
 
   -- where W1 allows the list, entry i is in it
-  pub entry_in : badList list ≡ false → (i : ℕ) → i < countOf list → ENTRY * (i + 1) ≤ length list
-  entry_in h i k = omega (arith, (good-list h).0)
+  pub entry_in : bad_list list ≡ false → (i : ℕ) → i < count_of list → entry_size * (i + 1) ≤ length list
+  entry_in h i k = omega (arith, (good_list h).0)
 
-  pub length-each : badList list ≡ false → (i : ℕ) → i < countOf list → length (get_or (entriesOf list) i []) ≡ ENTRY
-  length-each h i k = ap length (entry-is i k) ∙ length-entry i (entry_in h i k)
+  pub length_each : bad_list list ≡ false → (i : ℕ) → i < count_of list → length (get_or (entries_of list) i []) ≡ entry_size
+  length_each h i k = ap length (entry_is i k) ∙ length_entry i (entry_in h i k)

@@ -6,5 +6,5 @@ use Rattle.c_access.proofs.listed.Tie as tie
 returns : tie.Need-returns
 returns c = rw (c.version-in2.ensures, c.before.version-in.ensures, c.before.before.before.before.new.ensures)
 
-pub listed-spec : {M : Type 1} → statement M
-listed-spec = tie.close (tie.spec (λ c κs. search rules) (λ c κs. search rules) (λ c κs. search rules) returns)
+pub listed_spec : {M : Type 1} → statement M
+listed_spec = tie.close (tie.spec (λ c κs. search rules) (λ c κs. search rules) (λ c κs. search rules) returns)

@@ -8,5 +8,5 @@ returns c =
     let floor = c.before.before in
     rw (c.staged-parts.ensures, c.before.pending.ensures, floor.parts2.ensures, floor.before.number.ensures, floor.before.before.parts.ensures)
 
-pub told-spec : {M : Type 1} → statement M
-told-spec = tie.close (tie.spec (λ c κs. search rules) (λ c κs. search rules) (λ c κs. search rules) (λ c κs. search rules) (λ c κs. search rules) returns)
+pub told_spec : {M : Type 1} → statement M
+told_spec = tie.close (tie.spec (λ c κs. search rules) (λ c κs. search rules) (λ c κs. search rules) (λ c κs. search rules) (λ c κs. search rules) returns)

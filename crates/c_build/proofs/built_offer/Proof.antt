@@ -6,8 +6,8 @@ use Rattle.c_build.proofs.built_offer.Tie as tie
 returns : tie.Need-returns
 returns c = rw c.before.before.if1.true (rw (← c.before.fields.ensures) c.build-offer.ensures)
 
-returns-2 : tie.Need-returns-2
-returns-2 c = rw c.if1.false
+returns_2 : tie.Need-returns-2
+returns_2 c = rw c.if1.false
 
-pub built-offer-spec : {M : Type 1} → statement M
-built-offer-spec = tie.close (tie.spec (λ c κs. search rules) (λ c κs. search rules) returns returns-2)
+pub built_offer_spec : {M : Type 1} → statement M
+built_offer_spec = tie.close (tie.spec (λ c κs. search rules) (λ c κs. search rules) returns returns_2)

@@ -1,15 +1,15 @@
 -- `cfu_build_content_reply` meets its contract: the packet is left. Assumes nothing.
-use Rattle.c_build.specs.Build.{buildContentReplyCall}
+use Rattle.c_build.specs.Build.{build_content_reply_call}
 use borrow.Author.Rules.{rules}
 use Rattle.c_build.proofs.cfu_build_content_reply.Statement.{statement}
 use Rattle.c_build.proofs.cfu_build_content_reply.Tie as tie
 
 returns : tie.Need-returns
-unfolding buildContentReplyCall
+unfolding build_content_reply_call
 returns c = rw c.before.before.before.before.before.build-content-reply.ensures at c.before.before.leave.ensures
 
-pub cfu-build-content-reply-spec : {M : Type 1} → statement M
-cfu-build-content-reply-spec =
+pub cfu_build_content_reply_spec : {M : Type 1} → statement M
+cfu_build_content_reply_spec =
     tie.close
     (tie.spec
     (λ c κs. search rules)

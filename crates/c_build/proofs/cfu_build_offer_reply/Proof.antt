@@ -1,14 +1,14 @@
 -- `cfu_build_offer_reply` meets its contract: the packet is left. Assumes nothing.
-use Rattle.c_build.specs.Build.{buildOfferReplyCall}
+use Rattle.c_build.specs.Build.{build_offer_reply_call}
 use borrow.Author.Rules.{rules}
 use Rattle.c_build.proofs.cfu_build_offer_reply.Statement.{statement}
 use Rattle.c_build.proofs.cfu_build_offer_reply.Tie as tie
 
 returns : tie.Need-returns
-unfolding buildOfferReplyCall
+unfolding build_offer_reply_call
 returns c = rw c.before.before.before.before.before.build-offer-reply.ensures at c.before.before.leave.ensures
 
-pub cfu-build-offer-reply-spec : {M : Type 1} → statement M
-cfu-build-offer-reply-spec =
+pub cfu_build_offer_reply_spec : {M : Type 1} → statement M
+cfu_build_offer_reply_spec =
     tie.close
     (tie.spec (λ c κs. search rules) (λ c. search rules) (λ c κs. search rules) (λ c. search rules) returns)

@@ -6,5 +6,5 @@ use Rattle.c_build.proofs.fields.Tie as tie
 returns : tie.Need-returns
 returns c = simp c.version-in.ensures
 
-pub fields-spec : {M : Type 1} → statement M
-fields-spec = tie.close (tie.spec (λ c κs. search rules) returns)
+pub fields_spec : {M : Type 1} → statement M
+fields_spec = tie.close (tie.spec (λ c κs. search rules) returns)

@@ -7,8 +7,8 @@ use borrow.Author.Rules.{rules}
 use Rattle.c_device_packet.proofs.joined.Statement.{statement}
 use Rattle.c_device_packet.proofs.joined.Tie as tie
 
-part-out-end-2 : tie.Need-slice-bounds-out-end-2
-part-out-end-2 c = simp length-append (omega (arith, c.out2.given))
+part_out_end_2 : tie.Need-slice-bounds-out-end-2
+part_out_end_2 c = simp length-append (omega (arith, c.out2.given))
 
 returns : tie.Need-returns
 returns c =
@@ -17,8 +17,8 @@ returns c =
     let n : length a.t2 ≡ 16 = search rules in
     joined_as (replicate 32 0) a.t1 a.t2 c.before.before.before.before.before.copy.new.0 c.before.copy2.new.0 16 16 refl refl refl m n c.before.before.before.before.before.copy.ensures c.before.copy2.ensures
 
-pub joined-spec : {M : Type 1} → statement M
-joined-spec =
+pub joined_spec : {M : Type 1} → statement M
+joined_spec =
     tie.close
     (tie.spec
     (λ c. search rules)
@@ -28,7 +28,7 @@ joined-spec =
     (λ c κs. search rules)
     (λ c. search rules)
     (λ c. search rules)
-    part-out-end-2
+    part_out_end_2
     (λ c. search rules)
     (λ c κs. search rules)
     returns)

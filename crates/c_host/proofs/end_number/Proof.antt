@@ -8,11 +8,11 @@ use Rattle.c_host.proofs.end_number.Tie as tie
 returns : tie.Need-returns
 returns c = ended c.before.before.args.end c.before.number.ensures (eq-eqb _ _ c.if1.true)
 
-returns-2 : tie.Need-returns-2
-returns-2 c = not_done c.before.before.args.end c.before.number.ensures (ne_eqb _ _ c.if1.false)
+returns_2 : tie.Need-returns-2
+returns_2 c = not_done c.before.before.args.end c.before.number.ensures (ne_eqb _ _ c.if1.false)
 
-pub end-number-spec : {M : Type 1} → statement M
-end-number-spec =
+pub end_number_spec : {M : Type 1} → statement M
+end_number_spec =
     tie.close
     (tie.spec
     (λ c κs. search rules)
@@ -20,4 +20,4 @@ end-number-spec =
     (λ c. search rules)
     (λ c. search rules)
     returns
-    returns-2)
+    returns_2)

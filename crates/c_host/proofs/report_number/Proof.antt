@@ -7,14 +7,14 @@ use Rattle.c_host.proofs.report_number.Tie as tie
 returns : tie.Need-returns
 returns c = rw (c.lettered.ensures, c.before.number.ensures, le-leb _ _ c.before.before.if1.true)
 
-returns-2 : tie.Need-returns-2
-returns-2 c = rw (lt-leb _ _ c.if1.false)
+returns_2 : tie.Need-returns-2
+returns_2 c = rw (lt-leb _ _ c.if1.false)
 
-pub report-number-spec : {M : Type 1} → statement M
-report-number-spec =
+pub report_number_spec : {M : Type 1} → statement M
+report_number_spec =
     tie.close
     (tie.spec
     (λ c κs. search rules)
     (λ c κs. search rules)
     returns
-    returns-2)
+    returns_2)

@@ -2,15 +2,15 @@
 use native.Mathlib.Omega.{arith}
 use mathlib.Core.Path.{◌≡◌, sym, ap, ◌∙◌}
 use lib.ListN.{length}
-use Rattle.host_bytes.specs.Layout.{HOST-SIZE}
+use Rattle.host_bytes.specs.Layout.{host_size}
 use Rattle.c_types.specs.Lent.{Left}
-use Rattle.c_host_step.proofs.Laws.{stored-step, size_small}
+use Rattle.c_host_step.proofs.Laws.{stored_step, size_small}
 use borrow.Author.Rules.{rules}
 use Rattle.c_host_step.proofs.answered.Statement.{statement}
 use Rattle.c_host_step.proofs.answered.Tie as tie
 
-cast-t16 : tie.Need-overflow-cast-t16
-cast-t16 c =
+cast_t16 : tie.Need-overflow-cast-t16
+cast_t16 c =
     let a = c.before.before.before.before.before.before.before.before.before.before.args in
     rw c.size.ensures (omega (arith, size_small a.sent))
 
@@ -21,12 +21,12 @@ returns c =
     let b = n.before.before in
     let s = b.before.before in
     let a = s.args in
-    let m : length b.host-bytes.result ≡ HOST-SIZE = search rules in
-    let e = stored-step a.refusal a.host.now b.host-bytes.result a.next n.step-number.result x.store.ensures (s.requires ∙ sym m) n.step-number.ensures b.host-bytes.ensures in
+    let m : length b.host-bytes.result ≡ host_size = search rules in
+    let e = stored_step a.refusal a.host.now b.host-bytes.result a.next n.step-number.result x.store.ensures (s.requires ∙ sym m) n.step-number.ensures b.host-bytes.ensures in
     (rw (ap (λ (t : Left). t.number) e, c.before.entry.ensures, c.size.ensures), ap (λ (t : Left). t.left) e)
 
-pub answered-spec : {M : Type 1} → statement M
-answered-spec =
+pub answered_spec : {M : Type 1} → statement M
+answered_spec =
     tie.close
     (tie.spec
     (λ c κs. search rules)
@@ -36,6 +36,6 @@ answered-spec =
     (λ c κs. search rules)
     (λ c. search rules)
     (λ c κs. search rules)
-    cast-t16
+    cast_t16
     (λ c. search rules)
     returns)

@@ -1,6 +1,6 @@
 -- `cfu_host_step_checked` meets its contract: C1, C3, or the step over contents. Assumes nothing.
 use mathlib.Core.Path.{◌∙◌}
-use Rattle.c_host_step.proofs.Laws.{checked_refused, checked-fit, checked-served}
+use Rattle.c_host_step.proofs.Laws.{checked_refused, checked_fit, checked_served}
 use borrow.Author.Rules.{rules}
 use Rattle.c_host_step.proofs.cfu_host_step_checked.Statement.{statement}
 use Rattle.c_host_step.proofs.cfu_host_step_checked.Tie as tie
@@ -12,36 +12,36 @@ returns c =
     let a = n.before.before.before.before.before.before.before.before.args in
     checked_refused a.host.now a.contents.now a.packet.now a.bundle.now a.reply.now n.before.are-contents.result n.lent-number.result n.before.are-contents.ensures n.lent-number.ensures c.refused.result t.if1.true c.refused.ensures
 
-inner-over-requires : tie.Need-inner-over-requires
-inner-over-requires c κs =
+inner_over_requires : tie.Need-inner-over-requires
+inner_over_requires c κs =
     let t = c.before.before.before in
     let n = t.before in
     let a = n.before.before.before.before.before.before.before.before.args in
-    let f = checked-fit a.host.now a.contents.now a.packet.now a.bundle.now a.reply.now n.before.are-contents.result n.lent-number.result n.before.are-contents.ensures n.lent-number.ensures t.if1.false in (f.1, f.2)
+    let f = checked_fit a.host.now a.contents.now a.packet.now a.bundle.now a.reply.now n.before.are-contents.result n.lent-number.result n.before.are-contents.ensures n.lent-number.ensures t.if1.false in (f.1, f.2)
 
-kept-requires : tie.Need-kept-requires
-kept-requires c κs =
+kept_requires : tie.Need-kept-requires
+kept_requires c κs =
     let t = c.before.before.before.before.before.before.before.before in
     let n = t.before in
     let a = n.before.before.before.before.before.before.before.before.args in
-    (checked-fit a.host.now a.contents.now a.packet.now a.bundle.now a.reply.now n.before.are-contents.result n.lent-number.result n.before.are-contents.ensures n.lent-number.ensures t.if1.false).0
+    (checked_fit a.host.now a.contents.now a.packet.now a.bundle.now a.reply.now n.before.are-contents.result n.lent-number.result n.before.are-contents.ensures n.lent-number.ensures t.if1.false).0
 
-same-length-4 : tie.Need-same-length-4
-same-length-4 c = search rules
+same_length_4 : tie.Need-same-length-4
+same_length_4 c = search rules
 
-returns-2 : tie.Need-returns-2
-returns-2 c =
+returns_2 : tie.Need-returns-2
+returns_2 c =
     let y = c.before.before.before.before in
     let x = y.before.before.before.before.before in
     let t = x.before.before.before.before in
     let n = t.before in
     let a = n.before.before.before.before.before.before.before.before.args in
     let e = y.kept.ensures in
-    let f = checked-fit a.host.now a.contents.now a.packet.now a.bundle.now a.reply.now n.before.are-contents.result n.lent-number.result n.before.are-contents.ensures n.lent-number.ensures t.if1.false in
-    checked-served a.host.now a.contents.now a.packet.now a.bundle.now a.reply.now n.before.are-contents.result n.lent-number.result n.before.are-contents.ensures n.lent-number.ensures x.inner-over.result y.kept.result _ _ _ t.if1.false x.inner-over.ensures (same-length-4 c ∙ f.2) e.0 e.1 e.2
+    let f = checked_fit a.host.now a.contents.now a.packet.now a.bundle.now a.reply.now n.before.are-contents.result n.lent-number.result n.before.are-contents.ensures n.lent-number.ensures t.if1.false in
+    checked_served a.host.now a.contents.now a.packet.now a.bundle.now a.reply.now n.before.are-contents.result n.lent-number.result n.before.are-contents.ensures n.lent-number.ensures x.inner-over.result y.kept.result _ _ _ t.if1.false x.inner-over.ensures (same_length_4 c ∙ f.2) e.0 e.1 e.2
 
-pub cfu-host-step-checked-spec : {M : Type 1} → statement M
-cfu-host-step-checked-spec =
+pub cfu_host_step_checked_spec : {M : Type 1} → statement M
+cfu_host_step_checked_spec =
     tie.close
     (tie.spec
     (λ c κs. search rules)
@@ -49,9 +49,9 @@ cfu-host-step-checked-spec =
     (λ c κs. search rules)
     (λ c. search rules)
     returns
-    inner-over-requires
-    kept-requires
+    inner_over_requires
+    kept_requires
     (λ c. search rules)
     (λ c. search rules)
-    same-length-4
-    returns-2)
+    same_length_4
+    returns_2)

@@ -1,7 +1,7 @@
 -- `kept` meets its contract: the record and the contents, by the number that is told. Assumes nothing.
 use mathlib.Core.Path.{◌∙◌}
-use Rattle.host_bytes.specs.Layout.{keptIn}
-use Rattle.c_host_step.proofs.Laws.{kept-served, kept-refused}
+use Rattle.host_bytes.specs.Layout.{kept_in}
+use Rattle.c_host_step.proofs.Laws.{kept_served, kept_refused}
 use borrow.Author.Rules.{rules}
 use Rattle.c_host_step.proofs.kept.Statement.{statement}
 use Rattle.c_host_step.proofs.kept.Tie as tie
@@ -14,18 +14,18 @@ returns c =
     let a = y.before.before.before.before.before.args in
     let q = a.contents.now in
     let e = y.answered.ensures in
-    (e.0, e.1, k.keep.ensures ∙ kept-served a.s.refusal y.answered.result a.s.sent q (keptIn q a.s.host.stage a.s.cursor) e.0 t.if1.true)
+    (e.0, e.1, k.keep.ensures ∙ kept_served a.s.refusal y.answered.result a.s.sent q (kept_in q a.s.host.stage a.s.cursor) e.0 t.if1.true)
 
-returns-2 : tie.Need-returns-2
-returns-2 c =
+returns_2 : tie.Need-returns-2
+returns_2 c =
     let y = c.before.before.before.before in
     let a = y.before.before.before.before.before.args in
     let q = a.contents.now in
     let e = y.answered.ensures in
-    (e.0, e.1, kept-refused a.s.refusal y.answered.result a.s.sent q (keptIn q a.s.host.stage a.s.cursor) e.0 c.if1.false)
+    (e.0, e.1, kept_refused a.s.refusal y.answered.result a.s.sent q (kept_in q a.s.host.stage a.s.cursor) e.0 c.if1.false)
 
-pub kept-spec : {M : Type 1} → statement M
-kept-spec =
+pub kept_spec : {M : Type 1} → statement M
+kept_spec =
     tie.close
     (tie.spec
     (λ c κs. search rules)
@@ -34,4 +34,4 @@ kept-spec =
     (λ c. search rules)
     returns
     (λ c. search rules)
-    returns-2)
+    returns_2)

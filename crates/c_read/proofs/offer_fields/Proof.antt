@@ -6,5 +6,5 @@ use Rattle.c_read.proofs.offer_fields.Tie as tie
 returns : tie.Need-returns
 returns c = rw (c.before.before.parts.ensures, c.before.flag.ensures, c.flag2.ensures)
 
-pub offer-fields-spec : {M : Type 1} → statement M
-offer-fields-spec = tie.close (tie.spec (λ c κs. search rules) (λ c κs. search rules) (λ c κs. search rules) returns)
+pub offer_fields_spec : {M : Type 1} → statement M
+offer_fields_spec = tie.close (tie.spec (λ c κs. search rules) (λ c κs. search rules) (λ c κs. search rules) returns)

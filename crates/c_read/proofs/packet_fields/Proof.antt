@@ -9,17 +9,17 @@ enum_told c = search rules
 returns : tie.Need-returns
 returns c = rw (c.before.before.before.enum_told.given.1, c.before.before.packet-number.ensures, c.before.no-offer.ensures, c.no-signal.ensures)
 
-returns-2 : tie.Need-returns-2
-returns-2 c = rw (c.before.before.before.read.given.1, c.before.offer-fields.ensures, c.no-signal2.ensures)
+returns_2 : tie.Need-returns-2
+returns_2 c = rw (c.before.before.before.read.given.1, c.before.offer-fields.ensures, c.no-signal2.ensures)
 
-returns-3 : tie.Need-returns-3
-returns-3 c = rw (c.before.before.before.read2.given.1, c.before.no-offer2.ensures, c.signal-fields.ensures)
+returns_3 : tie.Need-returns-3
+returns_3 c = rw (c.before.before.before.read2.given.1, c.before.no-offer2.ensures, c.signal-fields.ensures)
 
-returns-4 : tie.Need-returns-4
-returns-4 c = rw (c.before.before.before.read3.given.1, c.before.no-offer3.ensures, c.signal-fields2.ensures)
+returns_4 : tie.Need-returns-4
+returns_4 c = rw (c.before.before.before.read3.given.1, c.before.no-offer3.ensures, c.signal-fields2.ensures)
 
-pub packet-fields-spec : {M : Type 1} → statement M
-packet-fields-spec =
+pub packet_fields_spec : {M : Type 1} → statement M
+packet_fields_spec =
     tie.close
     (tie.spec
     enum_told
@@ -36,6 +36,6 @@ packet-fields-spec =
     (λ c κs. search rules)
     (λ c κs. search rules)
     returns
-    returns-2
-    returns-3
-    returns-4)
+    returns_2
+    returns_3
+    returns_4)

@@ -1,7 +1,7 @@
 -- `running_at` meets its contract: the bytes from the place on, or none. Assumes nothing.
 use native.Mathlib.Omega.{arith}
-use Rattle.wire.proofs.Pieces.{rest, rest-none}
-use Rattle.c_version.specs.Layout.{runningIn}
+use Rattle.wire.proofs.Pieces.{rest, rest_none}
+use Rattle.c_version.specs.Layout.{running_in}
 use lib.ListN.{length}
 use mathlib.Core.Path.{ap, ◌∙◌}
 use borrow.Author.Rules.{rules}
@@ -12,13 +12,13 @@ returns : tie.Need-returns
 returns c =
     let a = c.before.before.before.before.args in
     let n = length a.q.now in
-    c.running-in.ensures ∙ ap runningIn (rest n a.q.now ∙ rest-none n a.at a.q.now (omega arith) (omega arith))
+    c.running-in.ensures ∙ ap running_in (rest n a.q.now ∙ rest_none n a.at a.q.now (omega arith) (omega arith))
 
-returns-2 : tie.Need-returns-2
-returns-2 c = let a = c.before.before.before.before.args in c.running-in2.ensures ∙ ap runningIn (rest a.at a.q.now)
+returns_2 : tie.Need-returns-2
+returns_2 c = let a = c.before.before.before.before.args in c.running-in2.ensures ∙ ap running_in (rest a.at a.q.now)
 
-pub running-at-spec : {M : Type 1} → statement M
-running-at-spec =
+pub running_at_spec : {M : Type 1} → statement M
+running_at_spec =
     tie.close
     (tie.spec
     (λ c. search rules)
@@ -30,4 +30,4 @@ running-at-spec =
     (λ c. search rules)
     (λ c. search rules)
     (λ c κs. search rules)
-    returns-2)
+    returns_2)

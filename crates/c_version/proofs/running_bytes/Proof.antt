@@ -6,8 +6,8 @@ use Rattle.c_version.proofs.running_bytes.Tie as tie
 returns : tie.Need-returns
 returns c = simp (c.bytes16.ensures, c.before.bytes.ensures)
 
-pub running-bytes-spec : {M : Type 1} → statement M
-running-bytes-spec =
+pub running_bytes_spec : {M : Type 1} → statement M
+running_bytes_spec =
     tie.close
     (tie.spec
     (λ c κs. search rules)

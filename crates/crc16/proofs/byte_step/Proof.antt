@@ -4,8 +4,8 @@ use Prim.Native.Nat.{◌*◌, ◌%◌, ◌^◌}
 use native.Mathlib.Omega.{arith}
 use borrow.Author.Rules.{rules}
 use lib.Bits.{bit_xor}
-use Rattle.crc16.specs.Table.{nibbleStep}
-use Rattle.crc16.proofs.Table.{byte-is-two-nibbles}
+use Rattle.crc16.specs.Table.{nibble_step}
+use Rattle.crc16.proofs.Table.{byte_is_two_nibbles}
 use Rattle.crc16.proofs.byte_step.Statement.{statement}
 use Rattle.crc16.proofs.byte_step.Tie as tie
 
@@ -14,9 +14,9 @@ returns c =
     let a = c.before.before.args in
     let e : a.b * 2 ^ 8 % 2 ^ 16 ≡ a.b * 256 = omega arith in
     c.nibble-step2.ensures
-    ∙ ap (nibbleStep a.table.now) (c.before.nibble-step.ensures ∙ ap (λ n. nibbleStep a.table.now (bit_xor a.r n)) e)
-    ∙ ap (λ t. nibbleStep t (nibbleStep t (bit_xor a.r (a.b * 256)))) c.before.before.requires
-    ∙ sym (byte-is-two-nibbles a.r a.b (omega arith) (omega arith))
+    ∙ ap (nibble_step a.table.now) (c.before.nibble-step.ensures ∙ ap (λ n. nibble_step a.table.now (bit_xor a.r n)) e)
+    ∙ ap (λ t. nibble_step t (nibble_step t (bit_xor a.r (a.b * 256)))) c.before.before.requires
+    ∙ sym (byte_is_two_nibbles a.r a.b (omega arith) (omega arith))
 
-pub byte-step-spec : {M : Type 1} → statement M
-byte-step-spec = tie.close (tie.spec (λ c κs. search rules) (λ c κs. search rules) returns)
+pub byte_step_spec : {M : Type 1} → statement M
+byte_step_spec = tie.close (tie.spec (λ c κs. search rules) (λ c κs. search rules) returns)

@@ -6,24 +6,24 @@ use native.Mathlib.Numerals.{add-one}
 use borrow.Author.Rules.{rules}
 use lib.ListN.{length, drop}
 use lib.Seq.{drop-cons, drop-length}
-use Rattle.crc16.specs.Crc.{crcFrom, crcOf}
-use Rattle.crc16.specs.Table.{crcTable}
+use Rattle.crc16.specs.Crc.{crc_from, crc_of}
+use Rattle.crc16.specs.Table.{crc_table}
 use Rattle.crc16.proofs.crc16.Statement.{statement}
 use Rattle.crc16.proofs.crc16.Tie as tie
 
-abbrev invariant-loop : tie.invariant-loop
-invariant-loop bytes table r₀ i₀ r i = (table ≡ crcTable) × (crcFrom r (drop i bytes) ≡ crcOf bytes) × (i ≤ length bytes)
+abbrev invariant_loop : tie.invariant-loop
+invariant_loop bytes table r₀ i₀ r i = (table ≡ crc_table) × (crc_from r (drop i bytes) ≡ crc_of bytes) × (i ≤ length bytes)
 
-abbrev decreases-loop : tie.decreases-loop
-decreases-loop bytes table r₀ i₀ r i = length bytes - i
+abbrev decreases_loop : tie.decreases-loop
+decreases_loop bytes table r₀ i₀ r i = length bytes - i
 
-loop-holds : tie.Need-loop-init invariant-loop decreases-loop
-unfolding crcOf crcTable
-loop-holds c = (refl, refl, search rules)
+loop_holds : tie.Need-loop-init invariant_loop decreases_loop
+unfolding crc_of crc_table
+loop_holds c = (refl, refl, search rules)
 
-loop-again : tie.Need-loop-preserved invariant-loop decreases-loop
-unfolding crcFrom
-loop-again c =
+loop_again : tie.Need-loop-preserved invariant_loop decreases_loop
+unfolding crc_from
+loop_again c =
     let l = c.before.before.before.before.loop in
     let s = c.before.before.before.before.before.before.args.bytes.now in
     let h : l.i < length s = omega arith in (
@@ -32,24 +32,24 @@ loop-again c =
       omega arith,
     )
 
-returns : tie.Need-returns invariant-loop decreases-loop
-unfolding crcFrom
+returns : tie.Need-returns invariant_loop decreases_loop
+unfolding crc_from
 returns c =
     let l = c.before.loop in
     let s = c.before.before.before.args.bytes.now in
     let e : l.i ≡ length s = omega arith in
     rw (e, drop-length) at l.invariant.1
 
-pub crc16-spec : {M : Type 1} → statement M
-crc16-spec =
+pub crc16_spec : {M : Type 1} → statement M
+crc16_spec =
     tie.close
     (tie.spec
-    invariant-loop
-    decreases-loop
-    loop-holds
+    invariant_loop
+    decreases_loop
+    loop_holds
     (λ c. search rules)
     (λ c κs. search rules)
     (λ c. search rules)
     (λ c. search rules)
-    loop-again
+    loop_again
     returns)

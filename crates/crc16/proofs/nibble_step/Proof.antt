@@ -5,16 +5,16 @@ use native.Mathlib.Omega.{arith}
 use borrow.Author.Rules.{rules}
 use lib.Bits.{bit_xor}
 use lib.ListN.{get_or}
-use Rattle.crc16.specs.Table.{nibbleStep}
+use Rattle.crc16.specs.Table.{nibble_step}
 use Rattle.crc16.proofs.nibble_step.Statement.{statement}
 use Rattle.crc16.proofs.nibble_step.Tie as tie
 
 returns : tie.Need-returns
-unfolding nibbleStep
+unfolding nibble_step
 returns c =
     let a = c.before.args in
     let e : a.r * 16 % 65536 ≡ a.r % 4096 * 16 = omega arith in
     ap (λ n. bit_xor n (get_or a.table.now (a.r / 4096) 0)) e
 
-pub nibble-step-spec : {M : Type 1} → statement M
-nibble-step-spec = tie.close (tie.spec (λ c. search rules) (λ c. search rules) (λ c. search rules) returns)
+pub nibble_step_spec : {M : Type 1} → statement M
+nibble_step_spec = tie.close (tie.spec (λ c. search rules) (λ c. search rules) (λ c. search rules) returns)

@@ -4,39 +4,39 @@ use Prim.Native.Nat.{◌-◌, ◌≤◌}
 use native.Mathlib.Omega.{arith}
 use lib.ListN.{length, take, drop}
 use borrow.Author.Rules.{rules}
-use Rattle.wire.specs.Codes.{COMPONENT-LIMIT}
-use Rattle.device_bytes.specs.Layout.{COMPONENTS-START, componentsIn}
-use Rattle.device_bytes.proofs.Record.{component-read, components-read}
+use Rattle.wire.specs.Codes.{component_limit}
+use Rattle.device_bytes.specs.Layout.{components_start, components_in}
+use Rattle.device_bytes.proofs.Record.{component_read, components_read}
 use Rattle.device_bytes.proofs.components_in.Statement.{statement}
 use Rattle.device_bytes.proofs.components_in.Tie as tie
 
-abbrev invariant-loop : tie.invariant-loop
-invariant-loop b components₀ i₀ components i = (i ≤ COMPONENT-LIMIT) × (length components ≡ COMPONENT-LIMIT) × (take i components ≡ componentsIn i (drop COMPONENTS-START b))
+abbrev invariant_loop : tie.invariant-loop
+invariant_loop b components₀ i₀ components i = (i ≤ component_limit) × (length components ≡ component_limit) × (take i components ≡ components_in i (drop components_start b))
 
-abbrev decreases-loop : tie.decreases-loop
-decreases-loop b components₀ i₀ components i = COMPONENT-LIMIT - i
+abbrev decreases_loop : tie.decreases-loop
+decreases_loop b components₀ i₀ components i = component_limit - i
 
-loop-holds : tie.Need-loop-init invariant-loop decreases-loop
-unfolding componentsIn
-loop-holds c = search rules
+loop_holds : tie.Need-loop-init invariant_loop decreases_loop
+unfolding components_in
+loop_holds c = search rules
 
-loop-again : tie.Need-loop-preserved invariant-loop decreases-loop
-loop-again c =
+loop_again : tie.Need-loop-preserved invariant_loop decreases_loop
+loop_again c =
     let l = c.before.before.loop in
     let s = c.before.before.before.before.before in
-    (search rules, search rules, component-read l.i s.args.b.now l.components _ (omega arith) l.invariant.1 s.requires l.invariant.2 c.component-of.ensures)
+    (search rules, search rules, component_read l.i s.args.b.now l.components _ (omega arith) l.invariant.1 s.requires l.invariant.2 c.component-of.ensures)
 
-returns : tie.Need-returns invariant-loop decreases-loop
-returns c = let l = c.before.loop in components-read l.i _ l.components (omega arith) l.invariant.1 l.invariant.2
+returns : tie.Need-returns invariant_loop decreases_loop
+returns c = let l = c.before.loop in components_read l.i _ l.components (omega arith) l.invariant.1 l.invariant.2
 
-pub components-in-spec : {M : Type 1} → statement M
-components-in-spec =
+pub components_in_spec : {M : Type 1} → statement M
+components_in_spec =
     tie.close
     (tie.spec
-    invariant-loop
-    decreases-loop
+    invariant_loop
+    decreases_loop
     (λ c κs. search rules)
-    loop-holds
+    loop_holds
     (λ c. search rules)
     (λ c κs. search rules)
     (λ c. search rules)
@@ -44,5 +44,5 @@ components-in-spec =
     (λ c. search rules)
     (λ c. search rules)
     (λ c. search rules)
-    loop-again
+    loop_again
     returns)

@@ -3,51 +3,51 @@ use mathlib.Core.Path.{◌≡◌, refl, ap, ◌∙◌}
 use Prim.Native.Nat.{◌*◌, ◌-◌, ◌≤◌}
 use native.Mathlib.Omega.{arith}
 use lib.ListN.{length, take}
-use Rattle.wire.specs.Codes.{COMPONENT-LIMIT}
-use Rattle.device_component_bytes.specs.Layout.{LISTED-SIZE, listedIn}
-use Rattle.device_bytes.specs.Layout.{listIn}
-use Rattle.device_bytes.proofs.Record.{rest-least, listed-read, list_read}
+use Rattle.wire.specs.Codes.{component_limit}
+use Rattle.device_component_bytes.specs.Layout.{listed_size, listed_in}
+use Rattle.device_bytes.specs.Layout.{list_in}
+use Rattle.device_bytes.proofs.Record.{rest_least, listed_read, list_read}
 use borrow.Author.Rules.{rules}
 use Rattle.device_bytes.proofs.read_list.Statement.{statement}
 use Rattle.device_bytes.proofs.read_list.Tie as tie
 
-abbrev invariant-loop : tie.invariant-loop
-invariant-loop b list₀ i₀ list i = (i ≤ COMPONENT-LIMIT) × (length list ≡ COMPONENT-LIMIT) × (take i list ≡ listIn i b)
+abbrev invariant_loop : tie.invariant-loop
+invariant_loop b list₀ i₀ list i = (i ≤ component_limit) × (length list ≡ component_limit) × (take i list ≡ list_in i b)
 
-abbrev decreases-loop : tie.decreases-loop
-decreases-loop b list₀ i₀ list i = COMPONENT-LIMIT - i
+abbrev decreases_loop : tie.decreases-loop
+decreases_loop b list₀ i₀ list i = component_limit - i
 
-loop-holds : tie.Need-loop-init invariant-loop decreases-loop
-unfolding listIn
-loop-holds c = (search rules, search rules, refl)
+loop_holds : tie.Need-loop-init invariant_loop decreases_loop
+unfolding list_in
+loop_holds c = (search rules, search rules, refl)
 
-loop-again : tie.Need-loop-preserved invariant-loop decreases-loop
-loop-again c =
+loop_again : tie.Need-loop-preserved invariant_loop decreases_loop
+loop_again c =
     let l = c.before.before.before.before.loop in
     let b = c.before.before.before.before.before.before.before.args.b.now in
-    let e = c.listed-in2.ensures ∙ ap listedIn (rest-least (l.i * LISTED-SIZE) _ b c.before.before.least.ensures) in
-    (search rules, search rules, listed-read l.i b l.list _ (omega arith) l.invariant.2 e)
+    let e = c.listed-in2.ensures ∙ ap listed_in (rest_least (l.i * listed_size) _ b c.before.before.least.ensures) in
+    (search rules, search rules, listed_read l.i b l.list _ (omega arith) l.invariant.2 e)
 
-returns : tie.Need-returns invariant-loop decreases-loop
+returns : tie.Need-returns invariant_loop decreases_loop
 returns c = let l = c.before.loop in list_read l.i _ l.list (omega arith) l.invariant.1 l.invariant.2
 
-pub read-list-spec : {M : Type 1} → statement M
-read-list-spec =
+pub read_list_spec : {M : Type 1} → statement M
+read_list_spec =
     tie.close
     (tie.spec
-    invariant-loop
-    decreases-loop
+    invariant_loop
+    decreases_loop
     (λ c κs. search rules)
-    loop-holds
-    (λ c. search rules)
-    (λ c κs. search rules)
-    (λ c. search rules)
-    (λ c. search rules)
+    loop_holds
     (λ c. search rules)
     (λ c κs. search rules)
     (λ c. search rules)
     (λ c. search rules)
     (λ c. search rules)
+    (λ c κs. search rules)
     (λ c. search rules)
-    loop-again
+    (λ c. search rules)
+    (λ c. search rules)
+    (λ c. search rules)
+    loop_again
     returns)

@@ -8,15 +8,15 @@ use native.Mathlib.Omega.{arith}
 use native.Mathlib.Numerals.{add-one}
 use lib.ListN.{length, take, drop, get_or, drop_of_length-le, length-take}
 use lib.Seq.{drop-cons, get_or-take}
-use Rattle.wire.specs.Codes.{COMPONENT-LIMIT}
+use Rattle.wire.specs.Codes.{component_limit}
 use Rattle.wire.specs.Checks.{any, pairs}
 use Rattle.wire.proofs.Tests.{neither}
-use Rattle.device_component.specs.Lists.{firstFrom}
+use Rattle.device_component.specs.Lists.{first_from}
 use Rattle.device_component.specs.declared.list.Found.{Found}
 use Rattle.device_component.specs.declared.list.Found.TheVariants.{Nothing, At}
 
 -- a count as far as there are slots is the number of members it counts
-pub ends : {A : Type 0} {end : ℕ} (n : ℕ) (l : List A) → length l ≡ COMPONENT-LIMIT → end ≡ min n COMPONENT-LIMIT → end ≡ length (take n l)
+pub ends : {A : Type 0} {end : ℕ} (n : ℕ) (l : List A) → length l ≡ component_limit → end ≡ min n component_limit → end ≡ length (take n l)
 ends n l k e = rw (length-take, k) e
 
 -- where one of two tests holds, it does among more
@@ -28,8 +28,8 @@ either false false a b e = let z : false ≡ true = e in absurd (true≢false (s
 
 module _ {A : Type 0} (l : List A) (n i : ℕ) where
   -- the members from i on are the member at i and those from i + 1 on
-  pub from-here : (d : A) → i < length (take n l) → drop i (take n l) ≡ get_or l i d ∷ drop (i + 1) (take n l)
-  from-here d h =
+  pub from_here : (d : A) → i < length (take n l) → drop i (take n l) ≡ get_or l i d ∷ drop (i + 1) (take n l)
+  from_here d h =
       let k : i < n = omega (arith, length-take n l, min-le_left n (length l)) in
       rw (add-one, drop-cons (take n l) i d h, get_or-take)
 
@@ -38,58 +38,58 @@ module _ {A : Type 0} (l : List A) (n i : ℕ) where
   from_end h = drop_of_length-le (take n l) {i = i} h
 
   module _ (p : A → Bool) where
-    pub first-here : (d : A) → i < length (take n l) → p (get_or l i d) ≡ true → At i ≡ firstFrom p i (drop i (take n l))
-    unfolding firstFrom
-    first-here d h e = rw (from-here d h, e)
+    pub first_here : (d : A) → i < length (take n l) → p (get_or l i d) ≡ true → At i ≡ first_from p i (drop i (take n l))
+    unfolding first_from
+    first_here d h e = rw (from_here d h, e)
 
-    pub first_on : (d : A) → i < length (take n l) → p (get_or l i d) ≡ false → firstFrom p (i + 1) (drop (i + 1) (take n l)) ≡ firstFrom p i (drop i (take n l))
-    unfolding firstFrom
-    first_on d h e = rw (from-here d h, e, add-one)
+    pub first_on : (d : A) → i < length (take n l) → p (get_or l i d) ≡ false → first_from p (i + 1) (drop (i + 1) (take n l)) ≡ first_from p i (drop i (take n l))
+    unfolding first_from
+    first_on d h e = rw (from_here d h, e, add-one)
 
-    pub first-end : length (take n l) ≤ i → Nothing ≡ firstFrom p i (drop i (take n l))
-    unfolding firstFrom
-    first-end h = rw (from_end h)
+    pub first_end : length (take n l) ≤ i → Nothing ≡ first_from p i (drop i (take n l))
+    unfolding first_from
+    first_end h = rw (from_end h)
 
     pub any_here : (d : A) → i < length (take n l) → p (get_or l i d) ≡ true → true ≡ any p (drop i (take n l))
     unfolding any
-    any_here d h e = rw (from-here d h, e)
+    any_here d h e = rw (from_here d h, e)
 
-    pub any-on : (d : A) → i < length (take n l) → p (get_or l i d) ≡ false → any p (drop (i + 1) (take n l)) ≡ any p (drop i (take n l))
+    pub any_on : (d : A) → i < length (take n l) → p (get_or l i d) ≡ false → any p (drop (i + 1) (take n l)) ≡ any p (drop i (take n l))
     unfolding any
-    any-on d h e = rw (from-here d h, e)
+    any_on d h e = rw (from_here d h, e)
 
-    pub any-end : length (take n l) ≤ i → false ≡ any p (drop i (take n l))
+    pub any_end : length (take n l) ≤ i → false ≡ any p (drop i (take n l))
     unfolding any
-    any-end h = rw (from_end h)
+    any_end h = rw (from_end h)
 
     -- with a test of each two in the same walk
     module _ (q : A → A → Bool) where
-      pub each-here : (d : A) → i < length (take n l) → (p (get_or l i d) || any (q (get_or l i d)) (drop (i + 1) (take n l))) ≡ true
+      pub each_here : (d : A) → i < length (take n l) → (p (get_or l i d) || any (q (get_or l i d)) (drop (i + 1) (take n l))) ≡ true
           → true ≡ (any p (drop i (take n l)) || pairs q (drop i (take n l)))
       unfolding any pairs
-      each-here d h e = rw (from-here d h) (either (p (get_or l i d)) _ _ _ e)
+      each_here d h e = rw (from_here d h) (either (p (get_or l i d)) _ _ _ e)
 
       pub each_on : (d : A) → i < length (take n l) → (p (get_or l i d) || any (q (get_or l i d)) (drop (i + 1) (take n l))) ≡ false
           → (any p (drop (i + 1) (take n l)) || pairs q (drop (i + 1) (take n l))) ≡ (any p (drop i (take n l)) || pairs q (drop i (take n l)))
       unfolding any pairs
-      each_on d h e = let f = neither (p (get_or l i d)) _ e in rw (from-here d h, f.0, f.1)
+      each_on d h e = let f = neither (p (get_or l i d)) _ e in rw (from_here d h, f.0, f.1)
 
-      pub each-end : length (take n l) ≤ i → false ≡ (any p (drop i (take n l)) || pairs q (drop i (take n l)))
+      pub each_end : length (take n l) ≤ i → false ≡ (any p (drop i (take n l)) || pairs q (drop i (take n l)))
       unfolding any pairs
-      each-end h = rw (from_end h)
+      each_end h = rw (from_end h)
 
   module _ (q : A → A → Bool) where
     pub two_here : (d : A) → i < length (take n l) → any (q (get_or l i d)) (drop (i + 1) (take n l)) ≡ true → true ≡ pairs q (drop i (take n l))
     unfolding pairs
-    two_here d h e = rw (from-here d h, e)
+    two_here d h e = rw (from_here d h, e)
 
-    pub two-on : (d : A) → i < length (take n l) → any (q (get_or l i d)) (drop (i + 1) (take n l)) ≡ false → pairs q (drop (i + 1) (take n l)) ≡ pairs q (drop i (take n l))
+    pub two_on : (d : A) → i < length (take n l) → any (q (get_or l i d)) (drop (i + 1) (take n l)) ≡ false → pairs q (drop (i + 1) (take n l)) ≡ pairs q (drop i (take n l))
     unfolding pairs
-    two-on d h e = rw (from-here d h, e)
+    two_on d h e = rw (from_here d h, e)
 
-    pub two-end : length (take n l) ≤ i → false ≡ pairs q (drop i (take n l))
+    pub two_end : length (take n l) ≤ i → false ≡ pairs q (drop i (take n l))
     unfolding pairs
-    two-end h = rw (from_end h)
+    two_end h = rw (from_end h)
 
 -- something was found
 unfoldable pub is_at : Found → Bool
@@ -97,10 +97,10 @@ is_at (At k) = true
 is_at Nothing = false
 
 -- one is found where there is some
-pub at-any : {A : Type 0} (p : A → Bool) (k : ℕ) (l : List A) → is_at (firstFrom p k l) ≡ any p l
-unfolding is_at firstFrom any
-at-any p k [] = refl
-at-any p k (x ∷ l) = go (p x) refl (at-any p (suc k) l) where
-  go : (b : Bool) → p x ≡ b → is_at (firstFrom p (suc k) l) ≡ any p l → is_at (firstFrom p k (x ∷ l)) ≡ any p (x ∷ l)
+pub at_any : {A : Type 0} (p : A → Bool) (k : ℕ) (l : List A) → is_at (first_from p k l) ≡ any p l
+unfolding is_at first_from any
+at_any p k [] = refl
+at_any p k (x ∷ l) = go (p x) refl (at_any p (suc k) l) where
+  go : (b : Bool) → p x ≡ b → is_at (first_from p (suc k) l) ≡ any p l → is_at (first_from p k (x ∷ l)) ≡ any p (x ∷ l)
   go true e h = rw e
   go false e h = rw e h

@@ -7,7 +7,7 @@ use native.Mathlib.Nat.{not-suc-le-zero, le_of_suc-le-suc}
 use lib.ListN.{length, take, get_or}
 use Rattle.wire.specs.Checks.{any, pairs}
 use Rattle.wire.proofs.Tests.{neither}
-use Rattle.device_component.specs.Lists.{firstFrom}
+use Rattle.device_component.specs.Lists.{first_from}
 
 module _ {A : Type 0} (d : A) where
   -- where p holds of no member, it does not hold of the member at k
@@ -18,31 +18,31 @@ module _ {A : Type 0} (d : A) where
   any_none p (x ∷ l) e (suc k) h = any_none p l (neither (p x) _ e).1 k (le_of_suc-le-suc h)
 
   -- where q holds of no two members, it does not hold of the member at i and a later one
-  pub pairs-none : (q : A → A → Bool) (l : List A) → pairs q l ≡ false → (i j : ℕ) → i < j → j < length l → q (get_or l i d) (get_or l j d) ≡ false
+  pub pairs_none : (q : A → A → Bool) (l : List A) → pairs q l ≡ false → (i j : ℕ) → i < j → j < length l → q (get_or l i d) (get_or l j d) ≡ false
   unfolding pairs
-  pairs-none q [] e i j h k = absurd (not-suc-le-zero k)
-  pairs-none q (x ∷ l) e i zero h k = absurd (not-suc-le-zero h)
-  pairs-none q (x ∷ l) e zero (suc j) h k = any_none (q x) l (neither (any (q x) l) _ e).0 j (le_of_suc-le-suc k)
-  pairs-none q (x ∷ l) e (suc i) (suc j) h k = pairs-none q l (neither (any (q x) l) _ e).1 i j (le_of_suc-le-suc h) (le_of_suc-le-suc k)
+  pairs_none q [] e i j h k = absurd (not-suc-le-zero k)
+  pairs_none q (x ∷ l) e i zero h k = absurd (not-suc-le-zero h)
+  pairs_none q (x ∷ l) e zero (suc j) h k = any_none (q x) l (neither (any (q x) l) _ e).0 j (le_of_suc-le-suc k)
+  pairs_none q (x ∷ l) e (suc i) (suc j) h k = pairs_none q l (neither (any (q x) l) _ e).1 i j (le_of_suc-le-suc h) (le_of_suc-le-suc k)
 
 module _ {A B : Type 0} (f : A → B) where
-  pub map-take : (n : ℕ) (l : List A) → map f (take n l) ≡ take n (map f l)
-  map-take zero l = refl
-  map-take (suc n) [] = refl
-  map-take (suc n) (x ∷ l) = ap (λ (t : List B). f x ∷ t) (map-take n l)
+  pub map_take : (n : ℕ) (l : List A) → map f (take n l) ≡ take n (map f l)
+  map_take zero l = refl
+  map_take (suc n) [] = refl
+  map_take (suc n) (x ∷ l) = ap (λ (t : List B). f x ∷ t) (map_take n l)
 
   -- a test that looks at members only through f
-  pub any-map : (p : B → Bool) (l : List A) → any (λ (x : A). p (f x)) l ≡ any p (map f l)
+  pub any_map : (p : B → Bool) (l : List A) → any (λ (x : A). p (f x)) l ≡ any p (map f l)
   unfolding any
-  any-map p [] = refl
-  any-map p (x ∷ l) = ap (λ (b : Bool). p (f x) || b) (any-map p l)
+  any_map p [] = refl
+  any_map p (x ∷ l) = ap (λ (b : Bool). p (f x) || b) (any_map p l)
 
-  pub pairs-map : (q : B → B → Bool) (l : List A) → pairs (λ (x y : A). q (f x) (f y)) l ≡ pairs q (map f l)
+  pub pairs_map : (q : B → B → Bool) (l : List A) → pairs (λ (x y : A). q (f x) (f y)) l ≡ pairs q (map f l)
   unfolding pairs
-  pairs-map q [] = refl
-  pairs-map q (x ∷ l) = ap₂ (λ (a b : Bool). a || b) (any-map (q (f x)) l) (pairs-map q l)
+  pairs_map q [] = refl
+  pairs_map q (x ∷ l) = ap₂ (λ (a b : Bool). a || b) (any_map (q (f x)) l) (pairs_map q l)
 
-  pub first-map : (p : B → Bool) (k : ℕ) (l : List A) → firstFrom (λ (x : A). p (f x)) k l ≡ firstFrom p k (map f l)
-  unfolding firstFrom
-  first-map p k [] = refl
-  first-map p k (x ∷ l) = rw (first-map p (suc k) l)
+  pub first_map : (p : B → Bool) (k : ℕ) (l : List A) → first_from (λ (x : A). p (f x)) k l ≡ first_from p k (map f l)
+  unfolding first_from
+  first_map p k [] = refl
+  first_map p k (x ∷ l) = rw (first_map p (suc k) l)

@@ -6,34 +6,34 @@ use denote.Array.{each}
 use denote.Laws.{Is}
 use denote.Shadow.{shadow}
 use Rattle.device_component.specs.Record.{FitsStaged, FitsComponent}
-use Rattle.device_component.specs.Lists.{componentAt}
+use Rattle.device_component.specs.Lists.{component_at}
 use Rattle.device_component.specs.declared.record.Component.{Component}
 use Rattle.device_component.specs.declared.record.Staged.{Staged}
 use Rattle.device_component.specs.declared.record.Staged.TheVariants.{Nothing, Pending}
 use Rattle.device_component.specs.contracts.record.Component as C
 use Rattle.device_component.specs.contracts.record.Staged as P
-use Rattle.device_component.proofs.record.Fits.{blank-fits}
+use Rattle.device_component.proofs.record.Fits.{blank_fits}
 
 -- a staged version
-staged-range : (s : Staged) (vs : List Val) → Is (P.the_field).row ((P.the_field).into s) vs → FitsStaged s
-staged-range Nothing vs h = tt
-staged-range (Pending v) vs h = h.1.1.1.1.0.1.1.0.1
+staged_range : (s : Staged) (vs : List Val) → Is (P.the_field).row ((P.the_field).into s) vs → FitsStaged s
+staged_range Nothing vs h = tt
+staged_range (Pending v) vs h = h.1.1.1.1.0.1.1.0.1
 
 -- a component
-component-range : (c : Component) (vs : List Val) → Is (C.the_field).row ((C.the_field).into c) vs → FitsComponent c
-component-range c vs h =
+component_range : (c : Component) (vs : List Val) → Is (C.the_field).row ((C.the_field).into c) vs → FitsComponent c
+component_range c vs h =
     let f = h.1.1 in
     let g = f.0.1.1 in
     record {
       fixed = record { id = g.0.1; region = record { base = g.1.0.1.1.0.1.1.0.1; len = g.1.0.1.1.1.0.1 }; floor = g.1.1.0.1.1.0.1 };
       running = f.1.0.1.1.0.1;
-      staged = staged-range c.staged _ f.1.1.0;
+      staged = staged_range c.staged _ f.1.1.0;
     }
 
 -- each component of a list
-pub components-range : (cs : List Component) (us : List Val) → shadow (each (C.the_field).row.Denot (C.the_field).row.own_val (map (C.the_field).into cs) us)
-    → (k : ℕ) → FitsComponent (componentAt cs k)
-components-range [] us h k = blank-fits
-components-range (c ∷ cs) [] h k = absurd h
-components-range (c ∷ cs) (u ∷ us) h zero = component-range c (u ∷ []) h.0
-components-range (c ∷ cs) (u ∷ us) h (suc k) = components-range cs us h.1 k
+pub components_range : (cs : List Component) (us : List Val) → shadow (each (C.the_field).row.Denot (C.the_field).row.own_val (map (C.the_field).into cs) us)
+    → (k : ℕ) → FitsComponent (component_at cs k)
+components_range [] us h k = blank_fits
+components_range (c ∷ cs) [] h k = absurd h
+components_range (c ∷ cs) (u ∷ us) h zero = component_range c (u ∷ []) h.0
+components_range (c ∷ cs) (u ∷ us) h (suc k) = components_range cs us h.1 k

@@ -8,8 +8,8 @@ returns c =
     let version = c.before.before in
     rw (c.staged-in.ensures, c.before.byte_at.ensures, version.read_at.ensures, version.before.before.before.Listed-in.ensures)
 
-pub component-in-spec : {M : Type 1} → statement M
-component-in-spec =
+pub component_in_spec : {M : Type 1} → statement M
+component_in_spec =
     tie.close
     (tie.spec
     (λ c κs. search rules)

@@ -7,8 +7,8 @@ returns : tie.Need-returns
 returns c =
     rw (c.read_at.ensures, c.before.byte_at.ensures, c.before.before.word32-at2.ensures, c.before.before.before.new.ensures, c.before.before.before.before.word32-at.ensures)
 
-pub fixed-in-spec : {M : Type 1} → statement M
-fixed-in-spec =
+pub fixed_in_spec : {M : Type 1} → statement M
+fixed_in_spec =
     tie.close
     (tie.spec
     (λ c. search rules)

@@ -9,11 +9,11 @@ enum_told c = search rules
 returns : tie.Need-returns
 returns c = rw c.enum_told.given.1
 
-returns-2 : tie.Need-returns-2
-returns-2 c = rw (c.before.before.s.given.1, c.bytes.ensures)
+returns_2 : tie.Need-returns-2
+returns_2 c = rw (c.before.before.s.given.1, c.bytes.ensures)
 
-pub staged-bytes-spec : {M : Type 1} → statement M
-staged-bytes-spec =
+pub staged_bytes_spec : {M : Type 1} → statement M
+staged_bytes_spec =
     tie.close
     (tie.spec
     enum_told
@@ -24,4 +24,4 @@ staged-bytes-spec =
     (λ c. search rules)
     (λ c. search rules)
     returns
-    returns-2)
+    returns_2)

@@ -6,5 +6,5 @@ use Rattle.device_component_bytes.proofs.staged_flag_fits.Tie as tie
 returns : tie.Need-returns
 returns c = rw c.byte_at.ensures
 
-pub staged-flag-fits-spec : {M : Type 1} → statement M
-staged-flag-fits-spec = tie.close (tie.spec (λ c κs. search rules) returns)
+pub staged_flag_fits_spec : {M : Type 1} → statement M
+staged_flag_fits_spec = tie.close (tie.spec (λ c κs. search rules) returns)

@@ -6,5 +6,5 @@ use Rattle.device_in_place.proofs.refused.Tie as tie
 returns : tie.Need-returns
 returns c = rw c.none.ensures
 
-pub refused-spec : {M : Type 1} → statement M
-refused-spec = tie.close (tie.spec (λ c κs. search rules) returns)
+pub refused_spec : {M : Type 1} → statement M
+refused_spec = tie.close (tie.spec (λ c κs. search rules) returns)

@@ -4,25 +4,25 @@ use mathlib.Core.Path.{◌≡◌, refl, sym, ap, subst, ◌∙◌}
 use mathlib.Core.Bool.{Bool, true, false}
 use mathlib.Core.List.{List, [], ◌∷◌}
 use Rattle.wire.specs.Checks.{first_of, applies}
-use Rattle.wire.proofs.Chain.{first-applies, first_passes}
+use Rattle.wire.proofs.Chain.{first_applies, first_passes}
 use Rattle.wire_offer.specs.declared.offer.OfferFields.{OfferFields}
-use Rattle.device_component.specs.Record.{isPending}
-use Rattle.device_component.specs.Lists.{find, componentAt}
+use Rattle.device_component.specs.Record.{is_pending}
+use Rattle.device_component.specs.Lists.{find, component_at}
 use Rattle.device_component.specs.declared.record.Component.{Component}
 use Rattle.device_component.specs.declared.record.Staged.{Staged}
 use Rattle.device_component.specs.declared.list.Found.{Found}
 use Rattle.device_component.specs.declared.list.Found.TheVariants as found
 use Rattle.device_slots.specs.Slots.{slot_of}
-use Rattle.device_slots.specs.Standing.{standingOf}
+use Rattle.device_slots.specs.Standing.{standing_of}
 use Rattle.device_slots.specs.declared.standing.Standing.{Standing}
-use Rattle.device_session.specs.Stage.{isOpen}
+use Rattle.device_session.specs.Stage.{is_open}
 use Rattle.device_session.specs.declared.stage.Stage.{Stage}
 use Rattle.device_session.specs.declared.stage.Stage.TheVariants.{Idle}
 use Rattle.device_offering.specs.declared.verdict.OfferVerdict.{OfferVerdict}
 use Rattle.device_offering.specs.declared.verdict.OfferVerdict.TheVariants.{Busy, Reject, Skip, Accept}
-use Rattle.device_offering.specs.Offer.{rejectionsAt, needUnmetAt, rejections, needUnmet, verdictAt, offerVerdict}
+use Rattle.device_offering.specs.Offer.{rejections_at, need_unmet_at, rejections, need_unmet, verdict_at, offer_verdict}
 use Rattle.device_offering.specs.Eligible.{Eligible}
-use Rattle.device_offering.proofs.Eligible.{eligible-is}
+use Rattle.device_offering.proofs.Eligible.{eligible_is}
 
 -- what an answer says of checks 2 to 7, of check 8, and of the slot
 abbrev pub Ruling : (rejected unmet : Bool) → Found → OfferVerdict → Type 0
@@ -33,54 +33,54 @@ Ruling rejected unmet f (Accept k) = (rejected ≡ false) × (unmet ≡ false) �
 
 module _ (platform : ℕ) (target needed : Standing) (o : OfferFields) where
   -- the answer while idle: REJECT where checks 2 to 7 apply, SKIP where only the need is not met, else ACCEPT for the slot of the component
-  rules-at : Ruling (applies (rejectionsAt platform target o)) (needUnmetAt needed o) target.at (verdictAt platform Idle target needed o)
+  rules_at : Ruling (applies (rejections_at platform target o)) (need_unmet_at needed o) target.at (verdict_at platform Idle target needed o)
   unfolding first_of
-  rules-at = go (applies (rejectionsAt platform target o)) refl
+  rules_at = go (applies (rejections_at platform target o)) refl
     where
       rest : (u : Bool) → (e : Eligible platform target o) → Ruling false u target.at (first_of ((u, Skip) ∷ []) (Accept (slot_of target.at)))
       rest true e = (refl, refl)
       rest false e = (refl, refl, e.listed ∙ ap (λ (f : Found). found.At (slot_of f)) (sym e.listed))
 
-      go : (b : Bool) → applies (rejectionsAt platform target o) ≡ b → Ruling b (needUnmetAt needed o) target.at (verdictAt platform Idle target needed o)
+      go : (b : Bool) → applies (rejections_at platform target o) ≡ b → Ruling b (need_unmet_at needed o) target.at (verdict_at platform Idle target needed o)
       go true h =
-          first-applies (Ruling true (needUnmetAt needed o) target.at) (rejectionsAt platform target o) ((needUnmetAt needed o, Skip) ∷ []) _
+          first_applies (Ruling true (need_unmet_at needed o) target.at) (rejections_at platform target o) ((need_unmet_at needed o, Skip) ∷ []) _
           (refl, (refl, (refl, (refl, (refl, (refl, (refl, tt))))))) h
       go false h =
-          subst (Ruling false (needUnmetAt needed o) target.at) (sym (first_passes (rejectionsAt platform target o) ((needUnmetAt needed o, Skip) ∷ []) _ h))
-          (rest (needUnmetAt needed o) ((eligible-is platform target o).0 h))
+          subst (Ruling false (need_unmet_at needed o) target.at) (sym (first_passes (rejections_at platform target o) ((need_unmet_at needed o, Skip) ∷ []) _ h))
+          (rest (need_unmet_at needed o) ((eligible_is platform target o).0 h))
 
 -- .. of a device's components
 pub rules : (platform count : ℕ) (components : List Component) (o : OfferFields)
-    → Ruling (applies (rejections platform count components o)) (needUnmet count components o) (find o.id count components)
-    (offerVerdict platform count components Idle o)
-unfolding rejections needUnmet offerVerdict
-rules platform count components o = rules-at platform (standingOf o.id count components) (standingOf o.need count components) o
+    → Ruling (applies (rejections platform count components o)) (need_unmet count components o) (find o.id count components)
+    (offer_verdict platform count components Idle o)
+unfolding rejections need_unmet offer_verdict
+rules platform count components o = rules_at platform (standing_of o.id count components) (standing_of o.need count components) o
 
 -- ACCEPT is for a component that was found and is not pending
 abbrev pub OfferSays : (count : ℕ) → List Component → OfferFields → OfferVerdict → Type 0
 OfferSays count components o Busy = Unit {0}
 OfferSays count components o (Reject r) = Unit {0}
 OfferSays count components o Skip = Unit {0}
-OfferSays count components o (Accept k) = (find o.id count components ≡ found.At k) × (isPending (componentAt components k).staged ≡ false)
+OfferSays count components o (Accept k) = (find o.id count components ≡ found.At k) × (is_pending (component_at components k).staged ≡ false)
 
-pub offer-says : (platform count : ℕ) (components : List Component) (stage : Stage) (o : OfferFields)
-    → OfferSays count components o (offerVerdict platform count components stage o)
-unfolding offerVerdict first_of
-offer-says platform count components stage o = go (isOpen stage) refl
+pub offer_says : (platform count : ℕ) (components : List Component) (stage : Stage) (o : OfferFields)
+    → OfferSays count components o (offer_verdict platform count components stage o)
+unfolding offer_verdict first_of
+offer_says platform count components stage o = go (is_open stage) refl
   where
     target : Standing
-    target = standingOf o.id count components
+    target = standing_of o.id count components
 
-    says : (v : OfferVerdict) → Ruling (applies (rejectionsAt platform target o)) (needUnmetAt (standingOf o.need count components) o) target.at v → OfferSays count components o v
+    says : (v : OfferVerdict) → Ruling (applies (rejections_at platform target o)) (need_unmet_at (standing_of o.need count components) o) target.at v → OfferSays count components o v
     says Busy h = tt
     says (Reject r) h = tt
     says Skip h = tt
     says (Accept k) h =
-        let e = (eligible-is platform target o).0 h.0 in (
+        let e = (eligible_is platform target o).0 h.0 in (
           h.2,
-          ap (λ (f : Found). isPending (componentAt components (slot_of f)).staged) (sym h.2) ∙ ap isPending e.free,
+          ap (λ (f : Found). is_pending (component_at components (slot_of f)).staged) (sym h.2) ∙ ap is_pending e.free,
         )
 
-    go : (b : Bool) → isOpen stage ≡ b → OfferSays count components o (offerVerdict platform count components stage o)
+    go : (b : Bool) → is_open stage ≡ b → OfferSays count components o (offer_verdict platform count components stage o)
     go true h = rw h tt
-    go false h = rw h (says (verdictAt platform Idle target (standingOf o.need count components) o) (rules-at platform target (standingOf o.need count components) o))
+    go false h = rw h (says (verdict_at platform Idle target (standing_of o.need count components) o) (rules_at platform target (standing_of o.need count components) o))

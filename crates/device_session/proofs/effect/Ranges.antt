@@ -7,7 +7,7 @@ use denote.Laws.{Is}
 use denote.Shadow.{shadow}
 use denote.Struct.Field.{u8-field}
 use Rattle.wire.specs.Bytes.{Bytes}
-use Rattle.wire.proofs.Bounds.{cons-bytes, no_bytes}
+use Rattle.wire.proofs.Bounds.{cons_bytes, no_bytes}
 use Rattle.device_session.specs.Stage.{FitsStage}
 use Rattle.device_session.specs.Owed.{FitsOwed}
 use Rattle.device_session.specs.Effect.{FitsSession}
@@ -21,30 +21,30 @@ use Rattle.device_session.specs.contracts.owed.Owed as O
 use Rattle.device_session.specs.contracts.effect.Session as E
 
 -- a stage
-stage-range : (s : Stage) (vs : List Val) → Is (S.the_field).row ((S.the_field).into s) vs → FitsStage s
-stage-range Idle vs h = tt
-stage-range (Offered o) vs h = let f = h.1.1.1.1.0.1.1 in (f.0.1, f.1.0.1)
-stage-range (Receiving r) vs h = let f = h.1.1.1.1.0.1.1 in (f.0.1, f.1.0.1, f.1.1.0.1)
+stage_range : (s : Stage) (vs : List Val) → Is (S.the_field).row ((S.the_field).into s) vs → FitsStage s
+stage_range Idle vs h = tt
+stage_range (Offered o) vs h = let f = h.1.1.1.1.0.1.1 in (f.0.1, f.1.0.1)
+stage_range (Receiving r) vs h = let f = h.1.1.1.1.0.1.1 in (f.0.1, f.1.0.1, f.1.1.0.1)
 
 -- what is owed
-owed-range : (o : Owed) (vs : List Val) → Is (O.the_field).row ((O.the_field).into o) vs → FitsOwed o
-owed-range Nothing vs h = tt
-owed-range (Token t) vs h = h.1.1.1.1.0.1
+owed_range : (o : Owed) (vs : List Val) → Is (O.the_field).row ((O.the_field).into o) vs → FitsOwed o
+owed_range Nothing vs h = tt
+owed_range (Token t) vs h = h.1.1.1.1.0.1
 
 -- the bytes of an array
-bytes-range : (l : List ℕ) (us : List Val) → shadow (each u8-field.row.Denot u8-field.row.own_val (map u8-field.into l) us) → Bytes l
-bytes-range [] us h = no_bytes
-bytes-range (b ∷ l) [] h = absurd h
-bytes-range (b ∷ l) (u ∷ us) h = cons-bytes b l h.0.1 (bytes-range l us h.1)
+bytes_range : (l : List ℕ) (us : List Val) → shadow (each u8-field.row.Denot u8-field.row.own_val (map u8-field.into l) us) → Bytes l
+bytes_range [] us h = no_bytes
+bytes_range (b ∷ l) [] h = absurd h
+bytes_range (b ∷ l) (u ∷ us) h = cons_bytes b l h.0.1 (bytes_range l us h.1)
 
 -- a session
-pub session-range : (s : Session) (vs : List Val) → Is (E.the_field).row ((E.the_field).into s) vs → FitsSession s
-session-range s vs h =
+pub session_range : (s : Session) (vs : List Val) → Is (E.the_field).row ((E.the_field).into s) vs → FitsSession s
+session_range s vs h =
     let f = h.1.1 in
     let a = f.1.1.0 in
     record {
-      stage = stage-range s.stage _ f.0;
-      owed = owed-range s.owed _ f.1.0;
+      stage = stage_range s.stage _ f.0;
+      owed = owed_range s.owed _ f.1.0;
       size = sym (length-map s.previous (λ b. b)) ∙ a.1.0.1;
-      bytes = bytes-range s.previous a.0 a.1.1;
+      bytes = bytes_range s.previous a.0 a.1.1;
     }

@@ -2,13 +2,13 @@
 use Rattle.std.proofs.Common.{◌≡◌, ℕ, Bool, true, false, not, ◌||◌, eqb, List, [], ◌∷◌, take, sym, refl, ap, ◌∙◌, ap₂}
 use mathlib.Core.Bool.{or_comm}
 use Rattle.wire.specs.Checks.{first_of, any, pairs}
-use Rattle.device_component.specs.Versions.{keepsStaged}
-use Rattle.device_component.specs.Setup.{is_refused, stagingTooLong, badCount, badId, badIds, badRegion, badRegions, badFloor, badFloors, overlap, setupVerdict}
+use Rattle.device_component.specs.Versions.{keeps_staged}
+use Rattle.device_component.specs.Setup.{is_refused, staging_too_long, bad_count, bad_id, bad_ids, bad_region, bad_regions, bad_floor, bad_floors, overlap, setup_verdict}
 use Rattle.device_component.specs.Rules.{unsound}
 use Rattle.device_component.specs.declared.record.Component.{Component}
 use Rattle.device_component.specs.declared.setup.SetupVerdict.TheVariants.{Fine, S1, S2, S3, S4, S5}
 use Rattle.device_session.specs.declared.effect.Session.{Session}
-use Rattle.device_session.specs.Sound.{opensWrong, holdsWrong, owesIdle, breaksD1}
+use Rattle.device_session.specs.Sound.{opens_wrong, holds_wrong, owes_idle, breaks_d1}
 
 -- two tests of each member, one after the other
 exchange : (a b x y : Bool) → ((a || b) || (x || y)) ≡ ((a || x) || (b || y))
@@ -18,15 +18,15 @@ exchange false true false y = refl
 exchange false false x y = refl
 
 module _ {A : Type 0} where
-  any-or : (p q : A → Bool) (l : List A) → any (λ x. p x || q x) l ≡ (any p l || any q l)
+  any_or : (p q : A → Bool) (l : List A) → any (λ x. p x || q x) l ≡ (any p l || any q l)
   unfolding any
-  any-or p q [] = refl
-  any-or p q (x ∷ l) = rw (any-or p q l) (exchange (p x) (q x) (any p l) (any q l))
+  any_or p q [] = refl
+  any_or p q (x ∷ l) = rw (any_or p q l) (exchange (p x) (q x) (any p l) (any q l))
 
-  pairs-or : (p q : A → A → Bool) (l : List A) → pairs (λ x y. p x y || q x y) l ≡ (pairs p l || pairs q l)
+  pairs_or : (p q : A → A → Bool) (l : List A) → pairs (λ x y. p x y || q x y) l ≡ (pairs p l || pairs q l)
   unfolding pairs
-  pairs-or p q [] = refl
-  pairs-or p q (x ∷ l) = rw (any-or (p x) (q x) l, pairs-or p q l) (exchange (any (p x) l) (any (q x) l) (pairs p l) (pairs q l))
+  pairs_or p q [] = refl
+  pairs_or p q (x ∷ l) = rw (any_or (p x) (q x) l, pairs_or p q l) (exchange (any (p x) l) (any (q x) l) (pairs p l) (pairs q l))
 
 -- set-up's rows, as tests
 refuses : (t k x y f : Bool) → is_refused (first_of ((t, S1) ∷ (k, S2) ∷ (x, S3) ∷ (y, S4) ∷ (f, S5) ∷ []) Fine) ≡ (t || (k || ((x || y) || f)))
@@ -65,22 +65,22 @@ after false false false w p o s = refl
 
 module _ (n : ℕ) where
   -- flawed components and two that clash: S3, S4, S5 and what is staged
-  unsound-as : (cs : List Component) → (((badIds cs || badRegions n cs) || badFloors cs) || any (λ c. not (keepsStaged c c.staged)) cs) ≡ unsound n cs
-  unfolding badIds badRegions unsound
-  unsound-as cs =
-      together (any (λ c. badId c.fixed.id) cs) (pairs (λ c c'. eqb c.fixed.id c'.fixed.id) cs) (any (λ c. badRegion n c.fixed.region) cs) (pairs (λ c c'. overlap c.fixed.region c'.fixed.region) cs) (badFloors cs) (any (λ c. not (keepsStaged c c.staged)) cs)
+  unsound_as : (cs : List Component) → (((bad_ids cs || bad_regions n cs) || bad_floors cs) || any (λ c. not (keeps_staged c c.staged)) cs) ≡ unsound n cs
+  unfolding bad_ids bad_regions unsound
+  unsound_as cs =
+      together (any (λ c. bad_id c.fixed.id) cs) (pairs (λ c c'. eqb c.fixed.id c'.fixed.id) cs) (any (λ c. bad_region n c.fixed.region) cs) (pairs (λ c c'. overlap c.fixed.region c'.fixed.region) cs) (bad_floors cs) (any (λ c. not (keeps_staged c c.staged)) cs)
       ∙ sym (ap₂ (λ (a b : Bool). a || b)
-      (any-or (λ c. badId c.fixed.id) (λ c. badRegion n c.fixed.region || (badFloor c.fixed.floor || not (keepsStaged c c.staged))) cs
-      ∙ ap (λ (b : Bool). any (λ c. badId c.fixed.id) cs || b)
-      (any-or (λ c. badRegion n c.fixed.region) (λ c. badFloor c.fixed.floor || not (keepsStaged c c.staged)) cs
-      ∙ ap (λ (b : Bool). any (λ c. badRegion n c.fixed.region) cs || b) (any-or (λ c. badFloor c.fixed.floor) (λ c. not (keepsStaged c c.staged)) cs)))
-      (pairs-or (λ c c'. eqb c.fixed.id c'.fixed.id) (λ c c'. overlap c.fixed.region c'.fixed.region) cs))
+      (any_or (λ c. bad_id c.fixed.id) (λ c. bad_region n c.fixed.region || (bad_floor c.fixed.floor || not (keeps_staged c c.staged))) cs
+      ∙ ap (λ (b : Bool). any (λ c. bad_id c.fixed.id) cs || b)
+      (any_or (λ c. bad_region n c.fixed.region) (λ c. bad_floor c.fixed.floor || not (keeps_staged c c.staged)) cs
+      ∙ ap (λ (b : Bool). any (λ c. bad_region n c.fixed.region) cs || b) (any_or (λ c. bad_floor c.fixed.floor) (λ c. not (keeps_staged c c.staged)) cs)))
+      (pairs_or (λ c c'. eqb c.fixed.id c'.fixed.id) (λ c c'. overlap c.fixed.region c'.fixed.region) cs))
 
   -- D1
-  pub grouped : (count : ℕ) (components : List Component) (session : Session) → breaksD1 n count components session
-      ≡ ((stagingTooLong n || badCount count) || (opensWrong count components session || (holdsWrong session || (owesIdle session || unsound n (take count components)))))
-  unfolding breaksD1 setupVerdict
+  pub grouped : (count : ℕ) (components : List Component) (session : Session) → breaks_d1 n count components session
+      ≡ ((staging_too_long n || bad_count count) || (opens_wrong count components session || (holds_wrong session || (owes_idle session || unsound n (take count components)))))
+  unfolding breaks_d1 setup_verdict
   grouped count components session =
-      rw (refuses (stagingTooLong n) (badCount count) (badIds (take count components)) (badRegions n (take count components)) (badFloors (take count components)))
-      (after (stagingTooLong n) (badCount count) ((badIds (take count components) || badRegions n (take count components)) || badFloors (take count components)) (opensWrong count components session) (holdsWrong session) (owesIdle session) (any (λ c. not (keepsStaged c c.staged)) (take count components))
-      ∙ rw (unsound-as (take count components)))
+      rw (refuses (staging_too_long n) (bad_count count) (bad_ids (take count components)) (bad_regions n (take count components)) (bad_floors (take count components)))
+      (after (staging_too_long n) (bad_count count) ((bad_ids (take count components) || bad_regions n (take count components)) || bad_floors (take count components)) (opens_wrong count components session) (holds_wrong session) (owes_idle session) (any (λ c. not (keeps_staged c c.staged)) (take count components))
+      ∙ rw (unsound_as (take count components)))

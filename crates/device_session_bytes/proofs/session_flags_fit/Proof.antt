@@ -6,6 +6,6 @@ use Rattle.device_session_bytes.proofs.session_flags_fit.Tie as tie
 returns : tie.Need-returns
 returns c = rw (c.byte-at2.ensures, c.before.byte_at.ensures)
 
-pub session-flags-fit-spec : {M : Type 1} → statement M
-session-flags-fit-spec =
+pub session_flags_fit_spec : {M : Type 1} → statement M
+session_flags_fit_spec =
     tie.close (tie.spec (λ c κs. search rules) (λ c κs. search rules) returns)

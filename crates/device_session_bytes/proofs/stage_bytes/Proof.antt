@@ -9,14 +9,14 @@ enum_told c = search rules
 returns : tie.Need-returns
 returns c = rw c.enum_told.given.1
 
-returns-2 : tie.Need-returns-2
-returns-2 c = rw c.before.stage.given.1
+returns_2 : tie.Need-returns-2
+returns_2 c = rw c.before.stage.given.1
 
-returns-3 : tie.Need-returns-3
-returns-3 c = rw (c.before.before.stage2.given.1, c.bytes16.ensures)
+returns_3 : tie.Need-returns-3
+returns_3 c = rw (c.before.before.stage2.given.1, c.bytes16.ensures)
 
-pub stage-bytes-spec : {M : Type 1} → statement M
-stage-bytes-spec =
+pub stage_bytes_spec : {M : Type 1} → statement M
+stage_bytes_spec =
     tie.close
     (tie.spec
     enum_told
@@ -26,5 +26,5 @@ stage-bytes-spec =
     (λ c. search rules)
     (λ c. search rules)
     returns
-    returns-2
-    returns-3)
+    returns_2
+    returns_3)

@@ -43,7 +43,7 @@ use denote.Triple.Table.{entered, cited}
 use denote.Triple.Walked.{says, Stays, stay_none, gave_slice, stay_none_slice, walk_of, AllGo, Goes-none, Goes-gave_slice, Goes-none_slice, Walks, ends_at, walked, walk_Meets}
 use denote.Exit.{yes}
 use Rattle.device.specs.Refusals.{told}
-use Rattle.device.specs.Entries.{serveEntry, serveStaging}
+use Rattle.device.specs.Entries.{serve_entry, serve_staging}
 use Rattle.device.specs.declared.record.Device.{Device}
 use Rattle.device.specs.declared.answer.Answer.{Answer}
 use Rattle.device.specs.declared.answer.Channel.{Channel}
@@ -53,13 +53,13 @@ use Rattle.device.specs.contracts.answer.Answer as O
 use Rattle.device.proofs.answer.Answer.TheLaws as O'
 use Rattle.device.specs.contracts.answer.Channel as K
 use Rattle.device.proofs.answer.Channel.TheLaws as K'
-use Rattle.firmware.proofs.Walk.{alloc-nine, free-nine}
+use Rattle.firmware.proofs.Walk.{alloc_nine, free_nine}
 use Rattle.firmware.proofs.Computed.{computes}
 use Rattle.firmware.proofs.Lies.{val, lies_in, lies_out}
 use Rattle.firmware.specs.contracts.serve_in_place as in_place
-use Rattle.firmware.proofs.serve_in_place.Symbol as in-place-def
+use Rattle.firmware.proofs.serve_in_place.Symbol as in_place_def
 use Rattle.firmware.proofs.serve_in_place.Symbol.{name as #in-place}
-use Rattle.firmware.proofs.serve_in_place.Met as in-place-thm
+use Rattle.firmware.proofs.serve_in_place.Met as in_place_thm
 use Rattle.firmware.specs.contracts.serve_lent.Key.{name as #lent}
 use Rattle.firmware.specs.contracts.serve_lent as lent
 use Rattle.firmware.proofs.serve_lent.Statement as stated
@@ -69,8 +69,8 @@ abbrev stayed : Stays (lent.ended).signature.params (lent.ended).kept
 stayed = (stay_none (λ _. T.the_row) yes, (stay_none (λ _. K.the_row) yes, (gave_slice (0 ∷ []) tt (plain (λ _. u8)), (stay_none_slice (1 ∷ []) tt (plain (λ _. u8)) yes, tt))))
 
 -- a channel's machine value
-abbrev channel-val : Channel → Val
-channel-val = EL.val K.the_type K'.the_laws
+abbrev channel_val : Channel → Val
+channel_val = EL.val K.the_type K'.the_laws
 
 -- the contract that the proof cites
 abbrev InPlace : {M : Type 1} {𝓤 : Ura M} (𝓛 : Logic 𝓤) (at_mem : Memory → SProp 𝓤) (run : Routine → Fun 𝓤) → Contract 𝓤
@@ -78,9 +78,9 @@ InPlace 𝓛 at_mem run = triple_of 𝓛 in_place.signature (in_place.spec 𝓛 
 
 -- what `serve_in_place` ensures of its answer, of the record's last value and of the staging buffer's last bytes
 abbrev Ensures : Device → Channel → List ℕ → List ℕ → Answer → Device → List ℕ → Type 0
-Ensures h c ys xs r d zs = (told r ≡ serveEntry h c ys xs) × (d ≡ (serveEntry h c ys xs).device) × (zs ≡ serveStaging h c ys xs)
+Ensures h c ys xs r d zs = (told r ≡ serve_entry h c ys xs) × (d ≡ (serve_entry h c ys xs).device) × (zs ≡ serve_staging h c ys xs)
 
-module _ {M : Type 1} {𝓤 : Ura M} (𝓛 : Logic 𝓤) (at_mem : Memory → SProp 𝓤) (run : Routine → Fun 𝓤) (κ₁ κ₂ : Lft) (bounds : AllOutlive 2 (lent.signature).outlives (κ₁, (κ₂, tt))) (q₁ q₂ : Share) (h : Device) (c : Channel) (m s : Bor (List ℕ)) (is-h : Is T.the_row h (val h ∷ [])) (is_c : Is K.the_row c (channel-val c ∷ [])) where
+module _ {M : Type 1} {𝓤 : Ura M} (𝓛 : Logic 𝓤) (at_mem : Memory → SProp 𝓤) (run : Routine → Fun 𝓤) (κ₁ κ₂ : Lft) (bounds : AllOutlive 2 (lent.signature).outlives (κ₁, (κ₂, tt))) (q₁ q₂ : Share) (h : Device) (c : Channel) (m s : Bor (List ℕ)) (is-h : Is T.the_row h (val h ∷ [])) (is_c : Is K.the_row c (channel_val c ∷ [])) where
   -- the machine values of the staging buffer and of the report, and what each owns
   open 𝓛 use {H}
 
@@ -103,7 +103,7 @@ module _ {M : Type 1} {𝓤 : Ura M} (𝓛 : Logic 𝓤) (at_mem : Memory → SP
   a = (h, (c, (m, (s, tt))))
 
   abbrev vals : List Val × (List Val × (List Val × (List Val × Unit {0})))
-  vals = (val h ∷ [], (channel-val c ∷ [], (w ∷ [], (v ∷ [], tt))))
+  vals = (val h ∷ [], (channel_val c ∷ [], (w ∷ [], (v ∷ [], tt))))
 
   abbrev Post : Val → SProp 𝓤
   Post = (walk_of 𝓛 lent.ended stayed (lent.clauses 𝓛 at_mem run)).post (((κ₁, (κ₂, tt)), (q₁, (q₂, tt)), bounds, a, vals), tt)
@@ -115,10 +115,10 @@ module _ {M : Type 1} {𝓤 : Ura M} (𝓛 : Logic 𝓤) (at_mem : Memory → SP
   abbrev Lent : ℕ → ℕ → GName → Fml
   Lent b ν δ = (MutRef (named 0) (ν ∷ []) T.the_row).own_val (x b δ) (vptr b 0 ∷ [])
 
-  abbrev to-it : ℕ → ℕ → GName → (InPlace 𝓛 at_mem run).Ghost
-  to-it b ν δ = (((ν ∷ [], (κ₁, (κ₂, tt))), (full_share, (q₁, (q₂, tt))), tt, (x b δ, (c, (m, (s, tt)))), (vptr b 0 ∷ [], (channel-val c ∷ [], (w ∷ [], (v ∷ [], tt))))), tt)
+  abbrev to_it : ℕ → ℕ → GName → (InPlace 𝓛 at_mem run).Ghost
+  to_it b ν δ = (((ν ∷ [], (κ₁, (κ₂, tt))), (full_share, (q₁, (q₂, tt))), tt, (x b δ, (c, (m, (s, tt)))), (vptr b 0 ∷ [], (channel_val c ∷ [], (w ∷ [], (v ∷ [], tt))))), tt)
 
-  asked : (b ν : ℕ) (δ : GName) → ent 𝓤 (⋆ 𝓛 ((‵ (flft (ν ∷ []) full_share) ⊛ ‵ (flft κ₁ q₁) ⊛ ‵ (flft κ₂ q₂) ⊛ ‵ ftrue) ∷ (‵ (Lent b ν δ) ⊛ ‵ Mut) ∷ ‵ Own ∷ [])) ((InPlace 𝓛 at_mem run).pre (to-it b ν δ))
+  asked : (b ν : ℕ) (δ : GName) → ent 𝓤 (⋆ 𝓛 ((‵ (flft (ν ∷ []) full_share) ⊛ ‵ (flft κ₁ q₁) ⊛ ‵ (flft κ₂ q₂) ⊛ ‵ ftrue) ∷ (‵ (Lent b ν δ) ⊛ ‵ Mut) ∷ ‵ Own ∷ [])) ((InPlace 𝓛 at_mem run).pre (to_it b ν δ))
   asked b ν δ =
       qed 𝓛 ((‵ (flft (ν ∷ []) full_share) ⊛ ‵ (flft κ₁ q₁) ⊛ ‵ (flft κ₂ q₂) ⊛ ‵ ftrue) ∷ (‵ (Lent b ν δ) ⊛ ‵ Mut) ∷ ‵ Own ∷ []) ∵ nothing ! $ move ! (3 ∷ 0 ∷ []) $ fjoin ! $ move ! (2 ∷ []) $ split ! $ move ! (1 ∷ 2 ∷ []) $ fjoin ! $
       owned ! K.the_row (Is K.the_row) (EL.makes K.the_type K'.the_plain 𝓛) c _ is_c $ fjoin ! $ move ! (1 ∷ 0 ∷ []) $ fjoin ! $ move ! (1 ∷ 0 ∷ []) $ join ! $ frame ! $ done !
@@ -133,10 +133,10 @@ module _ {M : Type 1} {𝓤 : Ura M} (𝓛 : Logic 𝓤) (at_mem : Memory → SP
       owned ! T.the_row (Is T.the_row) (LL.makes T.the_type T'.the_plain 𝓛) h _ is-h $ fjoin ! $ done !
 
   module _ (C : Calls 𝓤 H) (Λ : Loops 𝓤 H) (fm : FmC 𝓤 H 𝓛.laws C) (known : Triple 𝓤 (C #in-place) (InPlace 𝓛 at_mem run)) where
-    walk : Room u8 (length m.now) → Is (ShrSlice (named 1) κ₂ u8) s (v ∷ []) → ent 𝓤 (on_entry 𝓛 lent.signature (κ₁, (κ₂, tt)) (q₁, (q₂, tt)) a vals) (WpFn 𝓤 H C Λ code.function (val h ∷ channel-val c ∷ w ∷ v ∷ []) Post)
+    walk : Room u8 (length m.now) → Is (ShrSlice (named 1) κ₂ u8) s (v ∷ []) → ent 𝓤 (on_entry 𝓛 lent.signature (κ₁, (κ₂, tt)) (q₁, (q₂, tt)) a vals) (WpFn 𝓤 H C Λ code.function (val h ∷ channel_val c ∷ w ∷ v ∷ []) Post)
     walk room p =
-        qed 𝓛 ((‵ (flft κ₁ q₁) ⊛ ‵ (flft κ₂ q₂) ⊛ ‵ ftrue) ∷ ‵ (owns (T.the_row ∷ K.the_row ∷ MutSlice (named 0) κ₁ u8 ∷ ShrSlice (named 1) κ₂ u8 ∷ []) a vals) ∷ []) ∵ enter ! C Λ code.function (val h ∷ channel-val c ∷ w ∷ v ∷ []) _ $
-        alloc-nine ! (λ l₀ l₁ l₂ l₃ l₄ l₅ l₆ l₇ l₈. params1 ! $
+        qed 𝓛 ((‵ (flft κ₁ q₁) ⊛ ‵ (flft κ₂ q₂) ⊛ ‵ ftrue) ∷ ‵ (owns (T.the_row ∷ K.the_row ∷ MutSlice (named 0) κ₁ u8 ∷ ShrSlice (named 1) κ₂ u8 ∷ []) a vals) ∷ []) ∵ enter ! C Λ code.function (val h ∷ channel_val c ∷ w ∷ v ∷ []) _ $
+        alloc_nine ! (λ l₀ l₁ l₂ l₃ l₄ l₅ l₆ l₇ l₈. params1 ! $
         pass1 ! (init ! 14 refl ((LL.lawful T.the_type T'.the_laws 𝓛).typed h _ is-h).0) $ pass1 ! (init ! 12 refl ((EL.lawful K.the_type K'.the_laws 𝓛 tt).typed c _ is_c).0) $ pass1 ! (init ! 10 refl (tt, (tt, (record { fits = room.0 }, tt)))) $
         pass1 ! (init ! 8 refl ((shr_slice_Lawful 𝓛 (named 1) κ₂ u8).typed s (v ∷ []) p).0) $ pass0 ! $
         -- [_8; …; _7; …; _6; …; _5; …; _4; …; _3; …; _2; …; _1; …; room for _0; …; the tokens; what the four parameters own]
@@ -151,8 +151,8 @@ module _ {M : Type 1} {𝓤 : Ura M} (𝓛 : Logic 𝓤) (at_mem : Memory → SP
         use1 𝓛 (later (some (λ (δ : GName). ‵ (Lent l₅ ν δ) ⊛ ‵ (flent (ν ∷ []) (Body (mem T.the_row) l₅ 0 δ))))) (lends_ref 𝓛 T.the_row (named 0) (ν ∷ []) h l₅ 0) $ await ! tt $ pick ! (λ δ. split ! $
         -- [the reference; the lender's part; ν's token; Own; Own; true; Mut; _8; …; _7; …; _6; …; what frees _5; _4; …; _3; …; _2; …; _1; …; room for _0; …;
         -- the slices' tokens]
-        move ! (2 ∷ 24 ∷ []) $ join ! $ move ! (1 ∷ 6 ∷ []) $ join ! $ move ! (1 ∷ 0 ∷ 3 ∷ []) $ use3 𝓛 (raw ((InPlace 𝓛 at_mem run).pre (to-it l₅ ν δ))) (asked l₅ ν δ) $
-        calls_at ! fm (InPlace 𝓛 at_mem run) known (to-it l₅ ν δ) (and_then ! (load ! (from ! (stop !)) (look ! 8 refl)) (and_then ! (load ! (from ! (stop !)) (look ! 15 refl)) (and_then ! (load ! (from ! (stop !)) (look ! 4 refl)) (and_then ! (load ! (from ! (stop !)) (look ! 11 refl)) (no_more !))))) (λ u.
+        move ! (2 ∷ 24 ∷ []) $ join ! $ move ! (1 ∷ 6 ∷ []) $ join ! $ move ! (1 ∷ 0 ∷ 3 ∷ []) $ use3 𝓛 (raw ((InPlace 𝓛 at_mem run).pre (to_it l₅ ν δ))) (asked l₅ ν δ) $
+        calls_at ! fm (InPlace 𝓛 at_mem run) known (to_it l₅ ν δ) (and_then ! (load ! (from ! (stop !)) (look ! 8 refl)) (and_then ! (load ! (from ! (stop !)) (look ! 15 refl)) (and_then ! (load ! (from ! (stop !)) (look ! 4 refl)) (and_then ! (load ! (from ! (stop !)) (look ! 11 refl)) (no_more !))))) (λ u.
         use1 𝓛 (later (some (λ (r : Answer). ((‵ (flft (ν ∷ []) full_share) ⊛ ‵ (flft κ₁ q₁) ⊛ ‵ (flft κ₂ q₂) ⊛ ‵ ftrue) ⊛ ‵ ((O.the_row).own_val r (u ∷ []))) ⊛ raw (ensured 𝓛 in_place.ended (in_place.clauses 𝓛 at_mem run) (ν ∷ [], (κ₁, (κ₂, tt))) (x l₅ δ, (c, (m, (s, tt)))) tt r)))) (id⊢ 𝓤 _) $ await ! tt $ pick ! (λ r.
         split ! $ move ! (1 ∷ []) $ use1 𝓛 (some (λ (zs : Device × (Unit {0} × (List ℕ × (Unit {0} × Unit {0})))). ‵ (lasts in_place.ended (ν ∷ [], (κ₁, (κ₂, tt))) (x l₅ δ, (c, (m, (s, tt)))) zs) ⊛ raw (fact 𝓤 (Ensures h c m.now s.now r zs.0 zs.1.1.0)))) (id⊢ 𝓤 _) $ pick ! (λ zs.
         split ! $ move ! (1 ∷ []) $ heard ! (Ensures h c m.now s.now r zs.0 zs.1.1.0) (λ e. fsplit ! $ move ! (1 ∷ []) $ fsplit ! $ drop ! $ fsplit ! $ fsplit ! $ move ! (1 ∷ []) $ feq_l ! (λ l.
@@ -163,14 +163,14 @@ module _ {M : Type 1} {𝓤 : Ura M} (𝓛 : Logic 𝓤) (at_mem : Memory → SP
         use1 𝓛 (‵ (fat full_share T'.mir l₅ 0 (val zs.0)) ⊛ ‵ ((T.the_row).own_val zs.0 (val zs.0 ∷ []))) (lies_out 𝓛 zs.0 l₅ 0) $ split ! $
         -- [_5; what the record owns; the slices' tokens; what the answer owns; the last bytes; …; Own; true; _8; …; _7; …; _6; …; what frees _5; _4; …; _3; …;
         -- _2; …; _1; …; _0; …]
-        returns ! (look ! 23 refl) $ move ! (23 ∷ 24 ∷ 21 ∷ 22 ∷ 19 ∷ 20 ∷ 17 ∷ 18 ∷ 15 ∷ 16 ∷ 0 ∷ 14 ∷ 12 ∷ 13 ∷ 10 ∷ 11 ∷ 8 ∷ 9 ∷ []) $ free-nine ! $ free0 ! $
+        returns ! (look ! 23 refl) $ move ! (23 ∷ 24 ∷ 21 ∷ 22 ∷ 19 ∷ 20 ∷ 17 ∷ 18 ∷ 15 ∷ 16 ∷ 0 ∷ 14 ∷ 12 ∷ 13 ∷ 10 ∷ 11 ∷ 8 ∷ 9 ∷ []) $ free_nine ! $ free0 ! $
         keep ! (1 ∷ 2 ∷ 3 ∷ 5 ∷ []) $ by ! (exits u r zs.0 zs.1.1.0 e l))))))))))
 
 module _ {M : Type 1} {𝓤 : Ura M} (𝓛 : Logic 𝓤) (at_mem : Memory → SProp 𝓤) (run : Routine → Fun 𝓤) where
   open 𝓛 use {H}
 
-  lent-walks : (C : Calls 𝓤 H) (Λ : Loops 𝓤 H) → FmC 𝓤 H 𝓛.laws C → Triple 𝓤 (C #in-place) (InPlace 𝓛 at_mem run) → Walks 𝓛 lent.ended stayed (WpFn 𝓤 H C Λ code.function) (lent.clauses 𝓛 at_mem run)
-  lent-walks C Λ fm known = walked 𝓛 lent.ended stayed (lent.clauses 𝓛 at_mem run) (WpFn 𝓤 H C Λ code.function)
+  lent_walks : (C : Calls 𝓤 H) (Λ : Loops 𝓤 H) → FmC 𝓤 H 𝓛.laws C → Triple 𝓤 (C #in-place) (InPlace 𝓛 at_mem run) → Walks 𝓛 lent.ended stayed (WpFn 𝓤 H C Λ code.function) (lent.clauses 𝓛 at_mem run)
+  lent_walks C Λ fm known = walked 𝓛 lent.ended stayed (lent.clauses 𝓛 at_mem run) (WpFn 𝓤 H C Λ code.function)
       (λ κs. (LL.vals T.the_type T'.the_laws, (EL.vals K.the_type K'.the_laws, (mut_slice_vals, (shr_slice_vals, tt))))) (λ κs. (LL.tells T.the_type T'.the_laws, (EL.tells K.the_type K'.the_laws, (mut_slice_Tells (named 0) κs.0 u8, (shr_slice_Tells (named 1) κs.1.0 u8, tt)))))
       (λ κs qs bounds a g are. via 𝓤 _ (fst∗ 𝓤 _ (emp 𝓤))
       (walk 𝓛 at_mem run κs.0 κs.1.0 bounds qs.0 qs.1.0 a.0 a.1.0 a.1.1.0 a.1.1.1.0 are.0 are.1.0 C Λ fm known are.1.1.0.0.1 are.1.1.1.0))
@@ -178,16 +178,16 @@ module _ {M : Type 1} {𝓤 : Ura M} (𝓛 : Logic 𝓤) (at_mem : Memory → SP
   goes : AllGo 𝓛 2 (lent.signature).params (lent.ended).kept stayed
   goes = (Goes-none 𝓛 2 (λ _. T.the_row) yes (λ κs x f. refl), (Goes-none 𝓛 2 (λ _. K.the_row) yes (λ κs x f. refl), (Goes-gave_slice 𝓛 2 0 tt (plain (λ _. u8)), (Goes-none_slice 𝓛 2 (1 ∷ []) tt (plain (λ _. u8)) yes, tt))))
 
-lent-meets : {M : Type 1} {𝓤 : Ura M} (𝓛 : Logic 𝓤) → (at_mem : Memory → SProp 𝓤) (run : Routine → Fun 𝓤) (𝓣 : Tables 𝓤 𝓛.H) → Triple 𝓤 (𝓣.C #in-place) (InPlace 𝓛 at_mem run)
+lent_meets : {M : Type 1} {𝓤 : Ura M} (𝓛 : Logic 𝓤) → (at_mem : Memory → SProp 𝓤) (run : Routine → Fun 𝓤) (𝓣 : Tables 𝓤 𝓛.H) → Triple 𝓤 (𝓣.C #in-place) (InPlace 𝓛 at_mem run)
     → Meets 𝓛 lent.signature (WpFn 𝓤 𝓛.H 𝓣.C 𝓣.Λ code.function) (lent.spec 𝓛 at_mem run)
-lent-meets {𝓤 = 𝓤} 𝓛 at_mem run 𝓣 known =
+lent_meets {𝓤 = 𝓤} 𝓛 at_mem run 𝓣 known =
     walk_Meets 𝓛 lent.ended stayed (goes 𝓛 at_mem run) (lent.clauses 𝓛 at_mem run) (WpFn 𝓤 𝓛.H 𝓣.C 𝓣.Λ code.function) (WpFn-mono 𝓤 𝓛.H 𝓛.laws 𝓣 code.function)
-    (lent-walks 𝓛 at_mem run 𝓣.C 𝓣.Λ (fm_of 𝓤 𝓛.H 𝓛.laws 𝓣) known)
+    (lent_walks 𝓛 at_mem run 𝓣.C 𝓣.Λ (fm_of 𝓤 𝓛.H 𝓛.laws 𝓣) known)
 
-pub serve-lent-spec : {M : Type 1} → stated.statement M
+pub serve_lent_spec : {M : Type 1} → stated.statement M
 unfolding code.routine tables_of
-serve-lent-spec 𝓤 𝓛 𝓜 𝓡 =
+serve_lent_spec 𝓤 𝓛 𝓜 𝓡 =
     entered 𝓤 𝓛.H (triple_of 𝓛 lent.signature (lent.spec 𝓛 𝓜.mem 𝓡.run))
     (tables 𝓤 𝓛.H 𝓜 𝓡 code.env).C (tables 𝓤 𝓛.H 𝓜 𝓡 code.env).Λ #lent code.function (code.unfolded 𝓤 𝓛.H 𝓜 𝓡)
-    (lent-meets 𝓛 𝓜.mem 𝓡.run (tables_of 𝓤 𝓛.H 𝓜 (tables 𝓤 𝓛.H 𝓜 𝓡 code.env))
-    (cited 𝓤 𝓛.H (InPlace 𝓛 𝓜.mem 𝓡.run) 𝓜 𝓡 code.env #in-place in-place-def.routine code.calls-firmware::serve-in-place (in-place-thm.met 𝓤 𝓛 𝓜 𝓡)))
+    (lent_meets 𝓛 𝓜.mem 𝓡.run (tables_of 𝓤 𝓛.H 𝓜 (tables 𝓤 𝓛.H 𝓜 𝓡 code.env))
+    (cited 𝓤 𝓛.H (InPlace 𝓛 𝓜.mem 𝓡.run) 𝓜 𝓡 code.env #in-place in_place_def.routine code.calls-firmware::serve-in-place (in_place_thm.met 𝓤 𝓛 𝓜 𝓡)))

@@ -6,5 +6,5 @@ use Rattle.host_bytes.proofs.are_contents.Tie as tie
 returns : tie.Need-returns
 returns c = rw (c.count-in.ensures, c.before.row_in.ensures)
 
-pub are-contents-spec : {M : Type 1} → statement M
-are-contents-spec = tie.close (tie.spec (λ c κs. search rules) (λ c κs. search rules) (λ c. search rules) returns)
+pub are_contents_spec : {M : Type 1} → statement M
+are_contents_spec = tie.close (tie.spec (λ c κs. search rules) (λ c κs. search rules) (λ c. search rules) returns)

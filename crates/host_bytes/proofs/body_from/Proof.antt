@@ -6,8 +6,8 @@ use Rattle.host_bytes.proofs.body_from.Tie as tie
 returns : tie.Need-returns
 returns c = rw (c.word32-at3.ensures, c.before.word32-at2.ensures, c.before.before.word32-at.ensures)
 
-pub body-from-spec : {M : Type 1} → statement M
-body-from-spec =
+pub body_from_spec : {M : Type 1} → statement M
+body_from_spec =
     tie.close
     (tie.spec
     (λ c κs. search rules)

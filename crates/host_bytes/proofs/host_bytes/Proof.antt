@@ -14,8 +14,8 @@ returns c =
     record_of w.before.args.h w.stage-words.result p.put-words.new.0 _ _ _ t.passed-in.result w.stage-words.ensures p.put-words.ensures x.flag-byte.ensures y.flag-byte2.ensures
     t.passed-in.ensures c.flag-byte3.ensures
 
-pub host-bytes-spec : {M : Type 1} → statement M
-host-bytes-spec =
+pub host_bytes_spec : {M : Type 1} → statement M
+host_bytes_spec =
     tie.close
     (tie.spec
     (λ c κs. search rules)

@@ -11,8 +11,8 @@ returns c =
     let a = s.before.before.args in
     rw (w.word32-at2.ensures, w.before.word32-at.ensures, s.stage-words.ensures) (kept_test a.q.now a.stage)
 
-pub is-kept-spec : {M : Type 1} → statement M
-is-kept-spec =
+pub is_kept_spec : {M : Type 1} → statement M
+is_kept_spec =
     tie.close
     (tie.spec
     (λ c κs. search rules)

@@ -1,6 +1,6 @@
 -- `read_host` meets its contract: the fields, each from its bytes, where the length and the flags are a record's. Assumes nothing.
 use mathlib.Core.Bool.{true, false}
-use Rattle.host_bytes.proofs.Record.{flags-read, fields_read, read_fits, read-refused}
+use Rattle.host_bytes.proofs.Record.{flags_read, fields_read, read_fits, read_refused}
 use borrow.Author.Rules.{rules}
 use Rattle.host_bytes.proofs.read_host.Statement.{statement}
 use Rattle.host_bytes.proofs.read_host.Tie as tie
@@ -21,13 +21,13 @@ returns c =
     let n = e.before in
     let b = n.before.before.args.b.now in
     read_fits b _
-    (flags-read b n.byte_at.result e.word32-at.result x.byte-at2.result y.byte-at3.result z.byte-at4.result true f.are-flags.result n.byte_at.ensures e.word32-at.ensures x.byte-at2.ensures y.byte-at3.ensures z.byte-at4.ensures
+    (flags_read b n.byte_at.result e.word32-at.result x.byte-at2.result y.byte-at3.result z.byte-at4.result true f.are-flags.result n.byte_at.ensures e.word32-at.ensures x.byte-at2.ensures y.byte-at3.ensures z.byte-at4.ensures
     f.are-flags.ensures t.if1.true)
     (fields_read b _ _ _ _ n.byte_at.result e.word32-at.result w2.word32-at2.result x.byte-at2.result y.byte-at3.result z.byte-at4.result _ t0.byte-at5.ensures s.stage-in.ensures n.byte_at.ensures
     e.word32-at.ensures w2.word32-at2.ensures p3.word32-at3.ensures p4.word32-at4.ensures c.word32-at5.ensures x.byte-at2.ensures y.byte-at3.ensures z.byte-at4.ensures)
 
-returns-2 : tie.Need-returns-2
-returns-2 c =
+returns_2 : tie.Need-returns-2
+returns_2 c =
     let t = c.before in
     let f = t.before in
     let z = f.before in
@@ -36,13 +36,13 @@ returns-2 c =
     let e = x.before in
     let n = e.before in
     let b = n.before.before.args.b.now in
-    read-refused b _
-    (flags-read b n.byte_at.result e.word32-at.result x.byte-at2.result y.byte-at3.result z.byte-at4.result false f.are-flags.result n.byte_at.ensures e.word32-at.ensures x.byte-at2.ensures y.byte-at3.ensures z.byte-at4.ensures
+    read_refused b _
+    (flags_read b n.byte_at.result e.word32-at.result x.byte-at2.result y.byte-at3.result z.byte-at4.result false f.are-flags.result n.byte_at.ensures e.word32-at.ensures x.byte-at2.ensures y.byte-at3.ensures z.byte-at4.ensures
     f.are-flags.ensures t.if1.false)
     c.refused-host.ensures
 
-pub read-host-spec : {M : Type 1} → statement M
-read-host-spec =
+pub read_host_spec : {M : Type 1} → statement M
+read_host_spec =
     tie.close
     (tie.spec
     (λ c κs. search rules)
@@ -59,4 +59,4 @@ read-host-spec =
     (λ c κs. search rules)
     (λ c κs. search rules)
     returns
-    returns-2)
+    returns_2)

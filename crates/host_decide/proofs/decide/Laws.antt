@@ -11,48 +11,48 @@ use lib.Bits.{bit_and, bit_or, and_high, or_add_and}
 use mathlib.Core.List.{List}
 use lib.ListN.{length}
 use Rattle.wire.specs.Rows.{Told}
-use Rattle.wire_offer.specs.Reply as offerReply
+use Rattle.wire_offer.specs.Reply as offer_reply
 use Rattle.wire_offer.specs.declared.reply.OfferReply.{OfferReply}
 use Rattle.wire_offer.specs.declared.reply.ReadOfferReply.{ReadOfferReply}
-use Rattle.wire_content.specs.Reply as contentReply
+use Rattle.wire_content.specs.Reply as content_reply
 use Rattle.wire_content.specs.declared.reply.ContentReply.{ContentReply}
 use Rattle.wire_content.specs.declared.reply.ReadContentReply.{ReadContentReply}
-use Rattle.host_record.specs.Record.{hasBit, withBit}
-use Rattle.host_decide.specs.Decide.{decideIn, decideOf}
+use Rattle.host_record.specs.Record.{has_bit, with_bit}
+use Rattle.host_decide.specs.Decide.{decide_in, decide_of}
 use Rattle.host_record.specs.declared.record.Host.{Host}
 use Rattle.host_record.specs.declared.record.HostStage.{HostStage}
 
 -- `&` with one bit is that bit
-and-bit : (i m : ℕ) → bit_and m (2 ^ i) ≡ m / 2 ^ i % 2 * 2 ^ i
-and-bit i m =
+and_bit : (i m : ℕ) → bit_and m (2 ^ i) ≡ m / 2 ^ i % 2 * 2 ^ i
+and_bit i m =
     let s : 1 + i ≡ suc i = omega arith in
     let e : 2 ^ (1 + i) - 2 ^ i ≡ 2 ^ i = rw s (omega (arith, pow-suc 2 i)) in
     rw e at (and_high m 1 i)
 
 -- `|` with one bit sets it, whether it was set or not
-or_is : (i m : ℕ) → bit_or m (2 ^ i) ≡ withBit m i
-or_is i m = go (hasBit m i) refl
+or_is : (i m : ℕ) → bit_or m (2 ^ i) ≡ with_bit m i
+or_is i m = go (has_bit m i) refl
   where
-    go : (t : Bool) → hasBit m i ≡ t → bit_or m (2 ^ i) ≡ cond t m (m + 2 ^ i)
-    go true h = omega (arith, or_add_and m (2 ^ i), (rw (eqb-true (m / 2 ^ i % 2) 1 h) at (and-bit i m)))
+    go : (t : Bool) → has_bit m i ≡ t → bit_or m (2 ^ i) ≡ cond t m (m + 2 ^ i)
+    go true h = omega (arith, or_add_and m (2 ^ i), (rw (eqb-true (m / 2 ^ i % 2) 1 h) at (and_bit i m)))
     go false h =
         let z : m / 2 ^ i % 2 ≡ 0 = omega (arith, eqb-false (m / 2 ^ i % 2) 1 h) in
-        omega (arith, or_add_and m (2 ^ i), (rw z at (and-bit i m)))
+        omega (arith, or_add_and m (2 ^ i), (rw z at (and_bit i m)))
 
 -- what `mask | (1 << i)` is, at any width
-pub or-bit : (w i m : ℕ) → 1 + i ≤ w → bit_or m (1 * 2 ^ i % 2 ^ w) ≡ withBit m i
-or-bit w i m fits = ap (bit_or m) (shl_exact 1 i w (lit< tt) fits ∙ one-mul (2 ^ i)) ∙ or_is i m
+pub or_bit : (w i m : ℕ) → 1 + i ≤ w → bit_or m (1 * 2 ^ i % 2 ^ w) ≡ with_bit m i
+or_bit w i m fits = ap (bit_or m) (shl_exact 1 i w (lit< tt) fits ∙ one-mul (2 ^ i)) ∙ or_is i m
 
 -- a reply of 16 bytes is read as its fields
-pub offer-read : (r : ReadOfferReply) (p : List ℕ) → offerReply.toldReply r ≡ offerReply.readReplyOf p → length p ≡ 16 → r.reply ≡ offerReply.replyIn p
-unfolding offerReply.readReplyOf
-offer-read r p h l = ap (λ (t : Told OfferReply). t.value) (rw l at h)
+pub offer_read : (r : ReadOfferReply) (p : List ℕ) → offer_reply.told_reply r ≡ offer_reply.read_reply_of p → length p ≡ 16 → r.reply ≡ offer_reply.reply_in p
+unfolding offer_reply.read_reply_of
+offer_read r p h l = ap (λ (t : Told OfferReply). t.value) (rw l at h)
 
-pub content-read : (r : ReadContentReply) (p : List ℕ) → contentReply.toldReply r ≡ contentReply.readReplyOf p → length p ≡ 16
-    → r.reply ≡ contentReply.replyIn p
-unfolding contentReply.readReplyOf
-content-read r p h l = ap (λ (t : Told ContentReply). t.value) (rw l at h)
+pub content_read : (r : ReadContentReply) (p : List ℕ) → content_reply.told_reply r ≡ content_reply.read_reply_of p → length p ≡ 16
+    → r.reply ≡ content_reply.reply_in p
+unfolding content_reply.read_reply_of
+content_read r p h l = ap (λ (t : Told ContentReply). t.value) (rw l at h)
 
 -- a decision, by the stage that a record is in
-pub by-stage : {s : HostStage} (n : ℕ) (last : Bool) (h : Host) (reply : List ℕ) → h.stage ≡ s → decideIn s n last h reply ≡ decideOf n last h reply
-by-stage {s} n last h reply e = sym (ap (λ (t : HostStage). decideIn t n last h reply) e)
+pub by_stage : {s : HostStage} (n : ℕ) (last : Bool) (h : Host) (reply : List ℕ) → h.stage ≡ s → decide_in s n last h reply ≡ decide_of n last h reply
+by_stage {s} n last h reply e = sym (ap (λ (t : HostStage). decide_in t n last h reply) e)

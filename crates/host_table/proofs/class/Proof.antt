@@ -6,8 +6,8 @@ use Rattle.host_table.proofs.class.Tie as tie
 returns : tie.Need-returns
 returns c = rw (lt-ltb _ _ c.if1.true)
 
-returns-2 : tie.Need-returns-2
-returns-2 c = rw (le-ltb _ _ c.if1.false)
+returns_2 : tie.Need-returns-2
+returns_2 c = rw (le-ltb _ _ c.if1.false)
 
-pub class-spec : {M : Type 1} → statement M
-class-spec = tie.close (tie.spec returns returns-2)
+pub class_spec : {M : Type 1} → statement M
+class_spec = tie.close (tie.spec returns returns_2)

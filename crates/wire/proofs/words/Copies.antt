@@ -9,15 +9,15 @@ use lib.ListN.{length, get_or, set, take, drop, replicate}
 use lib.Seq.{drop-length, take-length}
 use Rattle.wire.specs.Bytes.{copy_of}
 
-copy-suc : (n : ℕ) (s d : List ℕ) → n < length s → n < length d → set (take n s ++ drop n d) n (get_or s n 0) ≡ take (suc n) s ++ drop (suc n) d
-copy-suc n [] d h k = absurd (not-suc-le-zero h)
-copy-suc n (y ∷ s) [] h k = absurd (not-suc-le-zero k)
-copy-suc zero (y ∷ s) (x ∷ d) h k = refl
-copy-suc (suc n) (y ∷ s) (x ∷ d) h k = ap (λ (t : List ℕ). y ∷ t) (copy-suc n s d (le_of_suc-le-suc h) (le_of_suc-le-suc k))
+copy_suc : (n : ℕ) (s d : List ℕ) → n < length s → n < length d → set (take n s ++ drop n d) n (get_or s n 0) ≡ take (suc n) s ++ drop (suc n) d
+copy_suc n [] d h k = absurd (not-suc-le-zero h)
+copy_suc n (y ∷ s) [] h k = absurd (not-suc-le-zero k)
+copy_suc zero (y ∷ s) (x ∷ d) h k = refl
+copy_suc (suc n) (y ∷ s) (x ∷ d) h k = ap (λ (t : List ℕ). y ∷ t) (copy_suc n s d (le_of_suc-le-suc h) (le_of_suc-le-suc k))
 
 -- one byte more
 pub copy_more : (n : ℕ) (s d : List ℕ) → n < length s → n < length d → set (take n s ++ drop n d) n (get_or s n 0) ≡ take (n + 1) s ++ drop (n + 1) d
-copy_more n s d h k = rw add-one (copy-suc n s d h k)
+copy_more n s d h k = rw add-one (copy_suc n s d h k)
 
 -- all of them
 pub copied : (s d l : List ℕ) (i : ℕ) → l ≡ take i s ++ drop i d → i ≡ length d → length d ≡ length s → l ≡ s
@@ -26,8 +26,8 @@ copied s d l i e p q =
     ∙ ap (λ (k : ℕ). take k s) q ∙ take-length s
 
 -- between equally long ones a copy leaves the source
-pub copy-same : (d s : List ℕ) → length d ≡ length s → copy_of d s ≡ s
-copy-same d s h = rw (eq-eqb (length d) (length s) h)
+pub copy_same : (d s : List ℕ) → length d ≡ length s → copy_of d s ≡ s
+copy_same d s h = rw (eq-eqb (length d) (length s) h)
 
 -- all of them are filled with v
 pub filled : (v : ℕ) (d l : List ℕ) (i : ℕ) → l ≡ replicate i v ++ drop i d → i ≡ length d → l ≡ replicate (length d) v

@@ -19,22 +19,22 @@ same_refl [] = refl
 same_refl (x ∷ l) = rw (eq-eqb x x refl) (same_refl l)
 
 -- lists that are the same are equal
-pub same-eq : (a b : List ℕ) → same a b ≡ true → a ≡ b
+pub same_eq : (a b : List ℕ) → same a b ≡ true → a ≡ b
 unfolding same
-same-eq [] [] h = refl
-same-eq [] (y ∷ b) h = cc
-same-eq (x ∷ a) [] h = cc
-same-eq (x ∷ a) (y ∷ b) h =
+same_eq [] [] h = refl
+same_eq [] (y ∷ b) h = cc
+same_eq (x ∷ a) [] h = cc
+same_eq (x ∷ a) (y ∷ b) h =
     let k = both (eqb x y) (same a b) h in
-    ap₂ (λ (u : ℕ) (v : List ℕ). u ∷ v) (eqb-true x y k.0) (same-eq a b k.1)
+    ap₂ (λ (u : ℕ) (v : List ℕ). u ∷ v) (eqb-true x y k.0) (same_eq a b k.1)
 
 -- lists of different lengths are not
-pub same-sized : (a b : List ℕ) → (length a ≡ length b → ⊥) → same a b ≡ false
+pub same_sized : (a b : List ℕ) → (length a ≡ length b → ⊥) → same a b ≡ false
 unfolding same
-same-sized a b h = go (same a b) refl
+same_sized a b h = go (same a b) refl
   where
     go : (t : Bool) → same a b ≡ t → same a b ≡ false
-    go true e = absurd (h (ap length (same-eq a b e)))
+    go true e = absurd (h (ap length (same_eq a b e)))
     go false e = e
 
 module _ (i : ℕ) (a b : List ℕ) (h : i < length a) (k : i < length b) where
@@ -44,8 +44,8 @@ module _ (i : ℕ) (a b : List ℕ) (h : i < length a) (k : i < length b) where
   step = rw (add-one, drop-cons a i 0 h, drop-cons b i 0 k)
 
   -- equal bytes, and the rest decides
-  pub same-on : get_or a i 0 ≡ get_or b i 0 → same (drop (i + 1) a) (drop (i + 1) b) ≡ same (drop i a) (drop i b)
-  same-on e = rw (step, eq-eqb _ _ e)
+  pub same_on : get_or a i 0 ≡ get_or b i 0 → same (drop (i + 1) a) (drop (i + 1) b) ≡ same (drop i a) (drop i b)
+  same_on e = rw (step, eq-eqb _ _ e)
 
   -- different bytes
   pub same_not : (get_or a i 0 ≡ get_or b i 0 → ⊥) → same (drop i a) (drop i b) ≡ false

@@ -11,40 +11,40 @@ use lib.ListN.{length, get_or, take, drop, replicate, length-append, length-take
 use lib.Seq.{take_all, length-take-le}
 use Rattle.wire.specs.Bytes.{Packet, bytes_at, copy_of}
 use Rattle.wire.specs.Rows.{served}
-use Rattle.wire.proofs.Tests.{served-true}
+use Rattle.wire.proofs.Tests.{served_true}
 use Rattle.wire.proofs.words.Laws.{round, back, split}
 use Rattle.wire_content.specs.declared.content.ContentFields.{ContentFields}
-use Rattle.wire_content.specs.Content.{FitsContent, allowed, usedOf, cleared, contentBytes, buildOf, fieldsIn, read_of, norm, cleanContent}
+use Rattle.wire_content.specs.Content.{FitsContent, allowed, used_of, cleared, content_bytes, build_of, fields_in, read_of, norm, clean_content}
 use Rattle.wire_content.specs.RoundTrip.{ContentR1, ContentR2, ContentR3}
 
 -- a cleared list is as long as before
-length-cleared : (n : ℕ) (d : List ℕ) → length (cleared n d) ≡ length d
+length_cleared : (n : ℕ) (d : List ℕ) → length (cleared n d) ≡ length d
 unfolding cleared
-length-cleared n d = simp (length-append, length-take, length-replicate) (omega arith)
+length_cleared n d = simp (length-append, length-take, length-replicate) (omega arith)
 
 -- clearing a second time changes nothing
-cleared-twice : (n : ℕ) (d : List ℕ) → cleared n (cleared n d) ≡ cleared n d
+cleared_twice : (n : ℕ) (d : List ℕ) → cleared n (cleared n d) ≡ cleared n d
 unfolding cleared
-cleared-twice zero d = simp (unary_clauses, length-replicate)
-cleared-twice (suc n) [] = let e : 0 - suc n ≡ 0 = omega arith in simp e
-cleared-twice (suc n) (x ∷ d) = simp unary_clauses (ap (λ (t : List ℕ). x ∷ t) (cleared-twice n d))
+cleared_twice zero d = simp (unary_clauses, length-replicate)
+cleared_twice (suc n) [] = let e : 0 - suc n ≡ 0 = omega arith in simp e
+cleared_twice (suc n) (x ∷ d) = simp unary_clauses (ap (λ (t : List ℕ). x ∷ t) (cleared_twice n d))
 
 -- at most 52 bytes of data count
-pub used-most : (n : ℕ) → usedOf n ≤ 52
-used-most n = go (leb n 52) refl
+pub used_most : (n : ℕ) → used_of n ≤ 52
+used_most n = go (leb n 52) refl
   where
     go : (b : Bool) → leb n 52 ≡ b → cond b n 52 ≤ 52
     go true h = leb-true n 52 h
     go false h = omega arith
 
 -- what follows n of m zeros
-pub drop-zeros : (n m : ℕ) → drop {A = ℕ} n (replicate m 0) ≡ replicate (m - n) 0
-drop-zeros zero m = simp unary_clauses
-drop-zeros (suc n) zero = let e : 0 - suc n ≡ 0 = omega arith in rw e
-drop-zeros (suc n) (suc m) = simp unary_clauses (drop-zeros n m)
+pub drop_zeros : (n m : ℕ) → drop {A = ℕ} n (replicate m 0) ≡ replicate (m - n) 0
+drop_zeros zero m = simp unary_clauses
+drop_zeros (suc n) zero = let e : 0 - suc n ≡ 0 = omega arith in rw e
+drop_zeros (suc n) (suc m) = simp unary_clauses (drop_zeros n m)
 
 -- 52 bytes, as far as they count, and zeros
-front : (n u : ℕ) (d : List ℕ) → u ≡ usedOf n → length d ≡ 52 → take u d ++ replicate (52 - u) 0 ≡ cleared n d
+front : (n u : ℕ) (d : List ℕ) → u ≡ used_of n → length d ≡ 52 → take u d ++ replicate (52 - u) 0 ≡ cleared n d
 unfolding cleared
 front n u d e l = go (leb n 52) refl e
   where
@@ -55,62 +55,62 @@ front n u d e l = go (leb n 52) refl e
         rw (q, l, k, take_all 52 d (omega arith), take_all n d (omega (arith, leb-false n 52 h)))
 
 -- the bytes that count, copied over as many of 52 zeros
-pub laid : (n k m : ℕ) (d r : List ℕ) → k ≡ usedOf n → m ≡ usedOf n → length d ≡ 52 → r ≡ copy_of (take k (replicate 52 0)) (take m d)
+pub laid : (n k m : ℕ) (d r : List ℕ) → k ≡ used_of n → m ≡ used_of n → length d ≡ 52 → r ≡ copy_of (take k (replicate 52 0)) (take m d)
     → r ++ drop k (replicate 52 0) ≡ cleared n d
 laid n k m d r e f l h =
     let z : List ℕ = replicate 52 0 in
     let s : k ≡ m = omega arith in
-    let p : length (take k z) ≡ length (take m d) = length-take-le k z (omega (arith, used-most n)) ∙ s ∙ sym (length-take-le m d (omega (arith, used-most n))) in
+    let p : length (take k z) ≡ length (take m d) = length-take-le k z (omega (arith, used_most n)) ∙ s ∙ sym (length-take-le m d (omega (arith, used_most n))) in
     let q : r ≡ take m d = rw (eq-eqb _ _ p) at h in
-    rw (q, drop-zeros k 52, s) (front n m d f l)
+    rw (q, drop_zeros k 52, s) (front n m d f l)
 
 -- a packet that is built has 60 bytes
-packet-length : (c : ContentFields) → FitsContent c → length (contentBytes c) ≡ 60
-unfolding contentBytes
-packet-length c f = simp (length-cleared, f.size)
+packet_length : (c : ContentFields) → FitsContent c → length (content_bytes c) ≡ 60
+unfolding content_bytes
+packet_length c f = simp (length_cleared, f.size)
 
 -- its fields are those that it was built of, unused data as zero
-pub packet-fields : (c : ContentFields) → c.sequence < 256 ^ 2 → c.address.0 < 256 ^ 4 → fieldsIn (contentBytes c) ≡ norm c
-unfolding contentBytes fieldsIn
-packet-fields c s a = simp (round 2 c.sequence s, round 4 c.address.0 a, cleared-twice)
+pub packet_fields : (c : ContentFields) → c.sequence < 256 ^ 2 → c.address.0 < 256 ^ 4 → fields_in (content_bytes c) ≡ norm c
+unfolding content_bytes fields_in
+packet_fields c s a = simp (round 2 c.sequence s, round 4 c.address.0 a, cleared_twice)
 
 -- the packet with unused data as zero, each byte of its head by its place
-clean : (p : List ℕ) → Packet 60 p → cleanContent p ≡ bytes_at 8 0 p ++ cleared (get_or p 1 0) (drop 8 p)
-unfolding cleanContent
+clean : (p : List ℕ) → Packet 60 p → clean_content p ≡ bytes_at 8 0 p ++ cleared (get_or p 1 0) (drop 8 p)
+unfolding clean_content
 clean p k = ap (λ (q : List ℕ). take 8 q ++ cleared (get_or p 1 0) (drop 8 p)) (split 8 p (omega (arith, k.size)))
 
 -- it has 60 bytes
-clean-length : (p : List ℕ) → Packet 60 p → length (cleanContent p) ≡ 60
-clean-length p k = simp (clean p k, length-cleared, length-drop, k.size)
+clean_length : (p : List ℕ) → Packet 60 p → length (clean_content p) ≡ 60
+clean_length p k = simp (clean p k, length_cleared, length-drop, k.size)
 
 -- it is the packet of the fields that are read
-fields-packet : (p : List ℕ) → Packet 60 p → contentBytes (fieldsIn p) ≡ cleanContent p
-unfolding contentBytes fieldsIn
-fields-packet p k =
-    simp (clean p k, cleared-twice)
+fields_packet_lem : (p : List ℕ) → Packet 60 p → content_bytes (fields_in p) ≡ clean_content p
+unfolding content_bytes fields_in
+fields_packet_lem p k =
+    simp (clean p k, cleared_twice)
     (ap₂ (λ (s a : List ℕ). (get_or p 0 0 ∷ get_or p 1 0 ∷ (s ++ a)) ++ cleared (get_or p 1 0) (drop 8 p)) (back 2 2 p k.bytes) (back 4 4 p k.bytes))
 
 -- its fields are those of the packet itself
-clean-fields : (p : List ℕ) → Packet 60 p → fieldsIn (cleanContent p) ≡ fieldsIn p
-unfolding fieldsIn
-clean-fields p k = simp (clean p k, cleared-twice)
+clean_fields : (p : List ℕ) → Packet 60 p → fields_in (clean_content p) ≡ fields_in p
+unfolding fields_in
+clean_fields p k = simp (clean p k, cleared_twice)
 
 -- where building is not refused, the packet is what is built
-built : (c : ContentFields) → (buildOf c).row ≡ served → (buildOf c).value ≡ contentBytes c
-unfolding buildOf
-built c h = rw (served-true (allowed c.flags c.length) (contentBytes c) (replicate 60 0) 2 h)
+built : (c : ContentFields) → (build_of c).row ≡ served → (build_of c).value ≡ content_bytes c
+unfolding build_of
+built c h = rw (served_true (allowed c.flags c.length) (content_bytes c) (replicate 60 0) 2 h)
 
 -- what is built reads back
-pub content-r1 : ContentR1
+pub content_r1 : ContentR1
 unfolding read_of
-content-r1 c f h = simp (built c h, packet-length c f, packet-fields c f.sequence f.address)
+content_r1 c f h = simp (built c h, packet_length c f, packet_fields c f.sequence f.address)
 
 -- what is read and built again is the packet with unused data as zero
-pub content-r2 : ContentR2
+pub content_r2 : ContentR2
 unfolding read_of
-content-r2 p k = simp k.size (λ h. built (fieldsIn p) h ∙ fields-packet p k)
+content_r2 p k = simp k.size (λ h. built (fields_in p) h ∙ fields_packet_lem p k)
 
 -- unused data changes nothing that is read
-pub content-r3 : ContentR3
+pub content_r3 : ContentR3
 unfolding read_of
-content-r3 p k = simp (clean-length p k, k.size, clean-fields p k)
+content_r3 p k = simp (clean_length p k, k.size, clean_fields p k)

@@ -6,8 +6,8 @@ use Rattle.wire_version.proofs.entry_bytes.Tie as tie
 returns : tie.Need-returns
 returns c = simp (c.bytes16.ensures, c.before.bytes.ensures)
 
-pub entry-bytes-spec : {M : Type 1} → statement M
-entry-bytes-spec =
+pub entry_bytes_spec : {M : Type 1} → statement M
+entry_bytes_spec =
     tie.close
     (tie.spec
     (λ c κs. search rules)

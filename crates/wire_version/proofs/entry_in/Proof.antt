@@ -6,8 +6,8 @@ use Rattle.wire_version.proofs.entry_in.Tie as tie
 returns : tie.Need-returns
 returns c = simp (c.word16.ensures, c.before.before.before.before.read.ensures)
 
-pub entry-in-spec : {M : Type 1} → statement M
-entry-in-spec =
+pub entry_in_spec : {M : Type 1} → statement M
+entry_in_spec =
     tie.close
     (tie.spec
     (λ c. search rules)

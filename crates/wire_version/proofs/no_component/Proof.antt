@@ -6,5 +6,5 @@ use Rattle.wire_version.proofs.no_component.Tie as tie
 returns : tie.Need-returns
 returns c = rw c.new.ensures
 
-pub no-component-spec : {M : Type 1} → statement M
-no-component-spec = tie.close (tie.spec (λ c κs. search rules) returns)
+pub no_component_spec : {M : Type 1} → statement M
+no_component_spec = tie.close (tie.spec (λ c κs. search rules) returns)

@@ -4,39 +4,39 @@ use Prim.Native.Nat.{◌%◌}
 use native.Mathlib.Omega.{arith}
 use lib.ListN.{get_or}
 use borrow.Author.Tests.{eq-eqb, ne_eqb}
-use Rattle.wire_version.specs.Reply.{read_of, fieldsIn}
+use Rattle.wire_version.specs.Reply.{read_of, fields_in}
 use Rattle.wire_version.proofs.Laws.{known}
 use borrow.Author.Rules.{rules}
 use Rattle.wire_version.proofs.read_version_reply.Statement.{statement}
 use Rattle.wire_version.proofs.read_version_reply.Tie as tie
 
-table-requires : tie.Need-table-requires
-table-requires c κs =
+table_requires : tie.Need-table-requires
+table_requires c κs =
     let p = c.before.before.before.before.before.before.args.p.now in
     let k = known (get_or p 0 0) (get_or p 3 0 % 16) (sym c.before.is-allowed.ensures ∙ c.if2.true) in (search rules, omega arith)
 
 returns : tie.Need-returns
-unfolding read_of fieldsIn
+unfolding read_of fields_in
 returns c = rw (eq-eqb _ _ c.before.before.before.before.before.if1.true, sym c.before.before.is-allowed.ensures, c.before.if2.true, c.table.ensures)
 
-returns-2 : tie.Need-returns-2
+returns_2 : tie.Need-returns-2
 unfolding read_of
-returns-2 c = rw (eq-eqb _ _ c.before.before.before.before.before.if1.true, sym c.before.before.is-allowed.ensures, c.before.if2.false) c.refused.ensures
+returns_2 c = rw (eq-eqb _ _ c.before.before.before.before.before.if1.true, sym c.before.before.is-allowed.ensures, c.before.if2.false) c.refused.ensures
 
-returns-3 : tie.Need-returns-3
+returns_3 : tie.Need-returns-3
 unfolding read_of
-returns-3 c = rw (ne_eqb _ _ c.before.if1.false) c.refused2.ensures
+returns_3 c = rw (ne_eqb _ _ c.before.if1.false) c.refused2.ensures
 
-pub read-version-reply-spec : {M : Type 1} → statement M
-read-version-reply-spec =
+pub read_version_reply_spec : {M : Type 1} → statement M
+read_version_reply_spec =
     tie.close
     (tie.spec
     (λ c. search rules)
     (λ c. search rules)
     (λ c κs. search rules)
-    table-requires
+    table_requires
     (λ c κs. search rules)
     (λ c κs. search rules)
     returns
-    returns-2
-    returns-3)
+    returns_2
+    returns_3)

@@ -6,5 +6,5 @@ use Rattle.bundle_layout.proofs.BundleVerdict.is_refused.Tie as tie
 returns : tie.Need-returns
 returns c = rw c.number.ensures
 
-pub is-refused-spec : {M : Type 1} → statement M
-is-refused-spec = tie.close (tie.spec (λ c κs. search rules) returns)
+pub is_refused_spec : {M : Type 1} → statement M
+is_refused_spec = tie.close (tie.spec (λ c κs. search rules) returns)

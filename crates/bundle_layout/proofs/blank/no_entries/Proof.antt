@@ -6,5 +6,5 @@ use Rattle.bundle_layout.proofs.blank.no_entries.Tie as tie
 returns : tie.Need-returns
 returns c = rw c.no-entry.ensures
 
-pub no-entries-spec : {M : Type 1} → statement M
-no-entries-spec = tie.close (tie.spec (λ c κs. search rules) returns)
+pub no_entries_spec : {M : Type 1} → statement M
+no_entries_spec = tie.close (tie.spec (λ c κs. search rules) returns)

@@ -6,5 +6,5 @@ use Rattle.bundle_layout.proofs.blank.no_entry.Tie as tie
 returns : tie.Need-returns
 returns c = rw c.no-offer.ensures
 
-pub no-entry-spec : {M : Type 1} → statement M
-no-entry-spec = tie.close (tie.spec (λ c κs. search rules) returns)
+pub no_entry_spec : {M : Type 1} → statement M
+no_entry_spec = tie.close (tie.spec (λ c κs. search rules) returns)

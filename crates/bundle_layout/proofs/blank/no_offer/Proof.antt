@@ -6,5 +6,5 @@ use Rattle.bundle_layout.proofs.blank.no_offer.Tie as tie
 returns : tie.Need-returns
 returns c = rw c.new.ensures
 
-pub no-offer-spec : {M : Type 1} → statement M
-no-offer-spec = tie.close (tie.spec (λ c κs. search rules) returns)
+pub no_offer_spec : {M : Type 1} → statement M
+no_offer_spec = tie.close (tie.spec (λ c κs. search rules) returns)

@@ -6,5 +6,5 @@ use Rattle.bundle_layout.proofs.head.bad_count.Tie as tie
 returns : tie.Need-returns
 returns c = rw c.byte_at.ensures
 
-pub bad-count-spec : {M : Type 1} → statement M
-bad-count-spec = tie.close (tie.spec (λ c κs. search rules) (λ c. search rules) returns)
+pub bad_count_spec : {M : Type 1} → statement M
+bad_count_spec = tie.close (tie.spec (λ c κs. search rules) (λ c. search rules) returns)

@@ -6,5 +6,5 @@ use Rattle.bundle_layout.proofs.head.cut_table.Tie as tie
 returns : tie.Need-returns
 returns c = rw (c.table-end.ensures, c.before.byte_at.ensures)
 
-pub cut-table-spec : {M : Type 1} → statement M
-cut-table-spec = tie.close (tie.spec (λ c κs. search rules) (λ c κs. search rules) returns)
+pub cut_table_spec : {M : Type 1} → statement M
+cut_table_spec = tie.close (tie.spec (λ c κs. search rules) (λ c κs. search rules) returns)

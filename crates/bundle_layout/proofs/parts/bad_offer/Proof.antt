@@ -9,8 +9,8 @@ returns : tie.Need-returns
 unfolding any
 returns c = rw (c.byte-at7.ensures, c.before.byte-at6.ensures, c.before.before.byte-at5.ensures, c.before.before.before.byte-at4.ensures, c.before.before.before.before.byte-at3.ensures, c.before.before.before.before.before.byte-at2.ensures, c.before.before.before.before.before.before.byte_at.ensures) (simp (or_assoc, or-false))
 
-pub bad-offer-spec : {M : Type 1} → statement M
-bad-offer-spec =
+pub bad_offer_spec : {M : Type 1} → statement M
+bad_offer_spec =
     tie.close
     (tie.spec
     (λ c κs. search rules)

@@ -17,31 +17,31 @@ returns : tie.Need-returns
 unfolding next_of
 returns c = rw (lt-leb _ _ c.if1.true)
 
-returns-2 : tie.Need-returns-2
+returns_2 : tie.Need-returns-2
 unfolding next_of
-returns-2 c = rw (le-leb _ _ c.before.if1.false, lt-leb _ _ c.if2.true)
+returns_2 c = rw (le-leb _ _ c.before.if1.false, lt-leb _ _ c.if2.true)
 
 enum_told : tie.Need-enum-told
 enum_told c = search rules
 
-returns-3 : tie.Need-returns-3
+returns_3 : tie.Need-returns-3
 unfolding next_of
-returns-3 c = rw (within c.before.before.before.before, sym c.before.before.first.ensures, c.enum_told.given.1)
+returns_3 c = rw (within c.before.before.before.before, sym c.before.before.first.ensures, c.enum_told.given.1)
 
-returns-4 : tie.Need-returns-4
+returns_4 : tie.Need-returns-4
 unfolding next_of
-returns-4 c = rw (within c.before.before.before.before, sym c.before.before.first.ensures, c.enum-told2.given.1)
+returns_4 c = rw (within c.before.before.before.before, sym c.before.before.first.ensures, c.enum-told2.given.1)
 
-returns-5 : tie.Need-returns-5
+returns_5 : tie.Need-returns-5
 unfolding next_of
-returns-5 c = rw (within c.before.before.before.before.before, sym c.before.before.before.first.ensures, c.before.h.given.1)
+returns_5 c = rw (within c.before.before.before.before.before, sym c.before.before.before.first.ensures, c.before.h.given.1)
 
-pub next-record-spec : {M : Type 1} → statement M
-next-record-spec =
+pub next_record_spec : {M : Type 1} → statement M
+next_record_spec =
     tie.close
     (tie.spec
     returns
-    returns-2
+    returns_2
     (λ c. search rules)
     (λ c. search rules)
     (λ c. search rules)
@@ -52,6 +52,6 @@ next-record-spec =
     (λ c. search rules)
     (λ c. search rules)
     (λ c. search rules)
-    returns-3
-    returns-4
-    returns-5)
+    returns_3
+    returns_4
+    returns_5)

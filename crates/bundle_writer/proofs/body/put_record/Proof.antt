@@ -19,8 +19,8 @@ returns c =
     let e = put_three a.at (a.at + 4) (a.at + 5) (bytes_of 4 a.address) (length a.bytes.now ∷ []) a.bytes.now a.out.now (omega arith) (omega arith) (omega arith) in
     c.before.before.put-at3.ensures ∙ rw (second, first, bytes) e
 
-pub put-record-spec : {M : Type 1} → statement M
-put-record-spec =
+pub put_record_spec : {M : Type 1} → statement M
+put_record_spec =
     tie.close
     (tie.spec
     (λ c κs. search rules)

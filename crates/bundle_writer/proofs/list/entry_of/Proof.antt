@@ -2,8 +2,8 @@
 use mathlib.Core.Path.{◌≡◌}
 use Prim.Native.Nat.{◌+◌, ◌-◌, ◌*◌}
 use native.Mathlib.Omega.{arith}
-use Rattle.bundle_layout.specs.Layout.{ENTRY}
-use Rattle.bundle_writer.proofs.list.Laws.{length-entry}
+use Rattle.bundle_layout.specs.Layout.{entry_size}
+use Rattle.bundle_writer.proofs.list.Laws.{length_entry}
 use borrow.Author.Rules.{rules}
 use Rattle.bundle_writer.proofs.list.entry_of.Statement.{statement}
 use Rattle.bundle_writer.proofs.list.entry_of.Tie as tie
@@ -11,10 +11,10 @@ use Rattle.bundle_writer.proofs.list.entry_of.Tie as tie
 returns : tie.Need-returns
 returns c =
     let s = c.before in
-    let at = ENTRY * s.args.i in
-    let k : at + ENTRY - at ≡ ENTRY = omega arith in (rw k, rw k (length-entry s.args.list.now s.args.i s.requires))
+    let at = entry_size * s.args.i in
+    let k : at + entry_size - at ≡ entry_size = omega arith in (rw k, rw k (length_entry s.args.list.now s.args.i s.requires))
 
-pub entry-of-spec : {M : Type 1} → statement M
-entry-of-spec =
+pub entry_of_spec : {M : Type 1} → statement M
+entry_of_spec =
     tie.close
     (tie.spec (λ c. search rules) (λ c. search rules) (λ c. search rules) (λ c. search rules) (λ c. search rules) returns)

@@ -4,66 +4,66 @@ use Prim.Native.Nat.{◌+◌, ◌-◌}
 use native.Mathlib.Omega.{arith}
 use borrow.Author.Rules.{rules}
 use lib.ListN.{drop}
-use Rattle.bundle_layout.specs.Layout.{entriesIn}
-use Rattle.bundle_layout.specs.Rows.{firstEntry}
-use Rattle.bundle.proofs.Entries.{first-here, first_on, first-end}
-use Rattle.bundle_given.specs.Given.{entriesOf}
+use Rattle.bundle_layout.specs.Layout.{entries_in}
+use Rattle.bundle_layout.specs.Rows.{first_entry}
+use Rattle.bundle.proofs.Entries.{first_here, first_on, first_end}
+use Rattle.bundle_given.specs.Given.{entries_of}
 use Rattle.bundle_given.specs.Entry.{breaks}
-use Rattle.bundle_writer.specs.Rows.{firstBreaking}
-use Rattle.bundle_writer.proofs.list.Laws.{headed, entry-headed, entry_in}
+use Rattle.bundle_writer.specs.Rows.{first_breaking}
+use Rattle.bundle_writer.proofs.list.Laws.{headed, entry_headed, entry_in}
 use Rattle.bundle_writer.proofs.list.first_breaking.Statement.{statement}
 use Rattle.bundle_writer.proofs.list.first_breaking.Tie as tie
 
-abbrev invariant-loop : tie.invariant-loop
-invariant-loop rule list images count i₀ i = firstEntry (breaks rule images) (i + 1) (drop i (entriesIn (headed list))) ≡ firstBreaking rule list images
+abbrev invariant_loop : tie.invariant-loop
+invariant_loop rule list images count i₀ i = first_entry (breaks rule images) (i + 1) (drop i (entries_in (headed list))) ≡ first_breaking rule list images
 
-abbrev decreases-loop : tie.decreases-loop
-decreases-loop rule list images count i₀ i = count - i
+abbrev decreases_loop : tie.decreases-loop
+decreases_loop rule list images count i₀ i = count - i
 
-loop-holds : tie.Need-loop-init invariant-loop decreases-loop
-unfolding firstBreaking entriesIn entriesOf
-loop-holds c = refl
+loop_holds : tie.Need-loop-init invariant_loop decreases_loop
+unfolding first_breaking entries_in entries_of
+loop_holds c = refl
 
-entry-of-requires : tie.Need-entry-of-requires invariant-loop decreases-loop
-entry-of-requires c κs =
+entry_of_requires : tie.Need-entry-of-requires invariant_loop decreases_loop
+entry_of_requires c κs =
     let s = c.before.before.before.before.before in
     entry_in s.args.list.now s.requires c.before.loop.i (omega arith)
 
-returns : tie.Need-returns invariant-loop decreases-loop
+returns : tie.Need-returns invariant_loop decreases_loop
 returns c =
     let l = c.before.before.before.before in
     let a = l.before.before.before.before.args in
-    first-here (headed a.list.now) (breaks a.rule a.images.now) l.loop.i (omega arith)
-    (rw (entry-headed, ← c.before.before.entry_of.ensures.0) (sym c.before.breaks-rule.ensures ∙ c.if1.true))
+    first_here (headed a.list.now) (breaks a.rule a.images.now) l.loop.i (omega arith)
+    (rw (entry_headed, ← c.before.before.entry_of.ensures.0) (sym c.before.breaks-rule.ensures ∙ c.if1.true))
     ∙ l.loop.invariant
 
-loop-again : tie.Need-loop-preserved invariant-loop decreases-loop
-loop-again c =
+loop_again : tie.Need-loop-preserved invariant_loop decreases_loop
+loop_again c =
     let l = c.before.before.before.before in
     let a = l.before.before.before.before.args in
     first_on (headed a.list.now) (breaks a.rule a.images.now) l.loop.i (omega arith)
-    (rw (entry-headed, ← c.before.before.entry_of.ensures.0) (sym c.before.breaks-rule.ensures ∙ c.if1.false))
+    (rw (entry_headed, ← c.before.before.entry_of.ensures.0) (sym c.before.breaks-rule.ensures ∙ c.if1.false))
     ∙ l.loop.invariant
 
-returns-2 : tie.Need-returns-2 invariant-loop decreases-loop
-returns-2 c =
+returns_2 : tie.Need-returns-2 invariant_loop decreases_loop
+returns_2 c =
     let l = c.before in
     let a = l.before.before.before.before.args in
-    first-end (headed a.list.now) (breaks a.rule a.images.now) l.loop.i (omega arith) ∙ l.loop.invariant
+    first_end (headed a.list.now) (breaks a.rule a.images.now) l.loop.i (omega arith) ∙ l.loop.invariant
 
-pub first-breaking-spec : {M : Type 1} → statement M
-first-breaking-spec =
+pub first_breaking_spec : {M : Type 1} → statement M
+first_breaking_spec =
     tie.close
     (tie.spec
-    invariant-loop
-    decreases-loop
+    invariant_loop
+    decreases_loop
     (λ c κs. search rules)
-    loop-holds
-    entry-of-requires
+    loop_holds
+    entry_of_requires
     (λ c κs. search rules)
     (λ c. search rules)
     returns
     (λ c. search rules)
     (λ c. search rules)
-    loop-again
-    returns-2)
+    loop_again
+    returns_2)

@@ -19,8 +19,8 @@ returns c =
     let e : length (take (at + n - at) (drop at a.out.now)) ≡ n = simp (length-take, length-drop) (omega arith) in
     lent at n (λ old. a.bytes.now) a.out.now _ (c.before.before.copy.ensures ∙ rw (eq-eqb _ _ e))
 
-pub put-at-spec : {M : Type 1} → statement M
-put-at-spec =
+pub put_at_spec : {M : Type 1} → statement M
+put_at_spec =
     tie.close
     (tie.spec
     (λ c. search rules)

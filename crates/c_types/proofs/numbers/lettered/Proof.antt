@@ -7,8 +7,8 @@ use Rattle.c_types.proofs.numbers.lettered.Tie as tie
 returns : tie.Need-returns
 returns c = rw (eq-eqb _ _ c.if1.true)
 
-returns-2 : tie.Need-returns-2
-returns-2 c = rw (ne_eqb _ _ c.if1.false)
+returns_2 : tie.Need-returns-2
+returns_2 c = rw (ne_eqb _ _ c.if1.false)
 
-pub lettered-spec : {M : Type 1} → statement M
-lettered-spec = tie.close (tie.spec (λ c. search rules) returns returns-2)
+pub lettered_spec : {M : Type 1} → statement M
+lettered_spec = tie.close (tie.spec (λ c. search rules) returns returns_2)

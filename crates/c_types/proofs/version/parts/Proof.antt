@@ -6,5 +6,5 @@ use Rattle.c_types.proofs.version.parts.Tie as tie
 returns : tie.Need-returns
 returns c = rw (c.before.before.major.ensures, c.before.minor.ensures, c.variant.ensures)
 
-pub parts-spec : {M : Type 1} → statement M
-parts-spec = tie.close (tie.spec (λ c κs. search rules) (λ c κs. search rules) (λ c κs. search rules) returns)
+pub parts_spec : {M : Type 1} → statement M
+parts_spec = tie.close (tie.spec (λ c κs. search rules) (λ c κs. search rules) (λ c κs. search rules) returns)

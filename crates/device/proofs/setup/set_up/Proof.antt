@@ -2,37 +2,37 @@
 use mathlib.Core.Path.{sym}
 use native.Mathlib.Omega.{arith}
 use lib.ListN.{length}
-use Rattle.device.specs.Entries.{setUpOf}
+use Rattle.device.specs.Entries.{set_up_of}
 use Rattle.wire.proofs.Chain.{by}
 use Rattle.device_session.proofs.sound.Laws.{fine}
-use Rattle.device_component.proofs.setup.Laws.{fine-staging}
-use Rattle.device.proofs.setup.Laws.{refused-set-up, made-set-up}
+use Rattle.device_component.proofs.setup.Laws.{fine_staging}
+use Rattle.device.proofs.setup.Laws.{refused_set_up, made_set_up}
 use borrow.Author.Rules.{rules}
 use Rattle.device.proofs.setup.set_up.Statement.{statement}
 use Rattle.device.proofs.setup.set_up.Tie as tie
 
 returns : tie.Need-returns
-unfolding setUpOf
+unfolding set_up_of
 returns c =
     let v = c.before.before.before.setup-verdict in
     rw (← c.before.before.before.before.components-of.ensures, ← v.ensures, c.blank.ensures)
-    (sym (refused-set-up v.result _ (by c.before.before.is-refused.ensures c.before.if1.true)))
+    (sym (refused_set_up v.result _ (by c.before.before.is-refused.ensures c.before.if1.true)))
 
-cast-t12 : tie.Need-overflow-cast-t12
-cast-t12 c =
+cast_t12 : tie.Need-overflow-cast-t12
+cast_t12 c =
     let n = length c.before.before.before.before.before.before.args.staging.now in
     let h = rw c.before.before.before.setup-verdict.ensures at (by c.before.before.is-refused.ensures c.before.if1.false) in
-    record { fits = omega (arith, fine-staging n _ _ (fine _ h)) }
+    record { fits = omega (arith, fine_staging n _ _ (fine _ h)) }
 
-returns-2 : tie.Need-returns-2
-unfolding setUpOf
-returns-2 c =
+returns_2 : tie.Need-returns-2
+unfolding set_up_of
+returns_2 c =
     let v = c.before.before.before.setup-verdict in
     rw (← c.before.before.before.before.components-of.ensures, ← v.ensures, c.idle.ensures)
-    (sym (made-set-up v.result _ (by c.before.before.is-refused.ensures c.before.if1.false)))
+    (sym (made_set_up v.result _ (by c.before.before.is-refused.ensures c.before.if1.false)))
 
-pub set-up-spec : {M : Type 1} → statement M
-set-up-spec =
+pub set_up_spec : {M : Type 1} → statement M
+set_up_spec =
     tie.close
     (tie.spec
     (λ c κs. search rules)
@@ -41,5 +41,5 @@ set-up-spec =
     (λ c κs. search rules)
     returns
     (λ c κs. search rules)
-    cast-t12
-    returns-2)
+    cast_t12
+    returns_2)

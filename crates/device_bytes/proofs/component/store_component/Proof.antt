@@ -3,17 +3,17 @@ use mathlib.Core.Path.{◌≡◌}
 use Prim.Native.Nat.{◌+◌, ◌-◌}
 use native.Mathlib.Omega.{arith}
 use Rattle.wire.proofs.Chain.{by}
-use Rattle.device_component_bytes.specs.Layout.{COMPONENT-SIZE}
-use Rattle.device_bytes.proofs.component.Laws.{slot-within}
-use Rattle.device_bytes.proofs.Stored.{component-stored, component-stays}
+use Rattle.device_component_bytes.specs.Layout.{component_size}
+use Rattle.device_bytes.proofs.component.Laws.{slot_within}
+use Rattle.device_bytes.proofs.Stored.{component_stored, component_stays}
 use borrow.Author.Rules.{rules}
 use Rattle.device_bytes.proofs.component.store_component.Statement.{statement}
 use Rattle.device_bytes.proofs.component.store_component.Tie as tie
 
-part-copy-end : tie.Need-slice-bounds-copy-end
-part-copy-end c =
+part_copy_end : tie.Need-slice-bounds-copy-end
+part_copy_end c =
     let b = c.before in
-    let a = b.before.before.before.before.before.args in slot-within a.slot _ a.b.now c.component-start.ensures (by b.before.before.has-slot.ensures b.before.if1.true)
+    let a = b.before.before.before.before.before.args in slot_within a.slot _ a.b.now c.component-start.ensures (by b.before.before.has-slot.ensures b.before.if1.true)
 
 returns : tie.Need-returns
 returns c =
@@ -21,15 +21,15 @@ returns c =
     let b = s.before in
     let a = b.before.before.before.before.before.args in
     let n = s.component-start.result in
-    let k : (n + COMPONENT-SIZE) - n ≡ COMPONENT-SIZE = omega arith in
-    component-stored a.b.now _ _ a.slot n _ a.component (by b.before.before.has-slot.ensures b.before.if1.true) s.component-start.ensures k b.component_bytes.ensures c.before.before.copy.ensures
+    let k : (n + component_size) - n ≡ component_size = omega arith in
+    component_stored a.b.now _ _ a.slot n _ a.component (by b.before.before.has-slot.ensures b.before.if1.true) s.component-start.ensures k b.component_bytes.ensures c.before.before.copy.ensures
 
-returns-2 : tie.Need-returns-2
-returns-2 c =
-    let a = c.before.before.before.before.args in component-stays a.slot a.component _ (by c.before.has-slot.ensures c.if1.false)
+returns_2 : tie.Need-returns-2
+returns_2 c =
+    let a = c.before.before.before.before.args in component_stays a.slot a.component _ (by c.before.has-slot.ensures c.if1.false)
 
-pub store-component-spec : {M : Type 1} → statement M
-store-component-spec =
+pub store_component_spec : {M : Type 1} → statement M
+store_component_spec =
     tie.close
     (tie.spec
     (λ c κs. search rules)
@@ -38,10 +38,10 @@ store-component-spec =
     (λ c. search rules)
     (λ c. search rules)
     (λ c. search rules)
-    part-copy-end
+    part_copy_end
     (λ c. search rules)
     (λ c κs. search rules)
     (λ c. search rules)
     returns
     (λ c. search rules)
-    returns-2)
+    returns_2)

@@ -5,52 +5,52 @@ use native.Mathlib.Omega.{arith}
 use borrow.Author.Rules.{rules}
 use lib.ListN.{length, take, drop}
 use Rattle.wire.specs.Checks.{pairs}
-use Rattle.device_component.specs.Rules.{pairHolds}
-use Rattle.device_component.proofs.list.Loops.{ends, two_here, two-on, two-end}
+use Rattle.device_component.specs.Rules.{pair_holds}
+use Rattle.device_component.proofs.list.Loops.{ends, two_here, two_on, two_end}
 use Rattle.device_component.proofs.list.some_two.Statement.{statement}
 use Rattle.device_component.proofs.list.some_two.Tie as tie
 
-abbrev invariant-loop : tie.invariant-loop
-invariant-loop pair count components end i₀ i = pairs (pairHolds pair) (drop i (take count components)) ≡ pairs (pairHolds pair) (take count components)
+abbrev invariant_loop : tie.invariant-loop
+invariant_loop pair count components end i₀ i = pairs (pair_holds pair) (drop i (take count components)) ≡ pairs (pair_holds pair) (take count components)
 
-abbrev decreases-loop : tie.decreases-loop
-decreases-loop pair count components end i₀ i = end - i
+abbrev decreases_loop : tie.decreases-loop
+decreases_loop pair count components end i₀ i = end - i
 
 -- the loop ends where the list does
-last : (c : tie.After-within-slots invariant-loop decreases-loop) → c.within-slots.result ≡ length (take c.before.args.count c.before.args.t2)
+last : (c : tie.After-within-slots invariant_loop decreases_loop) → c.within-slots.result ≡ length (take c.before.args.count c.before.args.t2)
 last c = ends c.before.args.count c.before.args.t2 (search rules) c.within-slots.ensures
 
-loop-holds : tie.Need-loop-init invariant-loop decreases-loop
-loop-holds c = refl
+loop_holds : tie.Need-loop-init invariant_loop decreases_loop
+loop_holds c = refl
 
-returns : tie.Need-returns invariant-loop decreases-loop
+returns : tie.Need-returns invariant_loop decreases_loop
 returns c =
     let s = c.before.before.before.before.before.before in
     let l = c.before.before.before.before.before.loop in
     let e = rw c.before.before.rule-of.ensures at (sym c.before.some.ensures ∙ c.if1.true) in
-    two_here s.before.args.t2 s.before.args.count l.i (pairHolds s.before.args.pair) _ (omega (arith, last s)) e ∙ l.invariant
+    two_here s.before.args.t2 s.before.args.count l.i (pair_holds s.before.args.pair) _ (omega (arith, last s)) e ∙ l.invariant
 
-loop-again : tie.Need-loop-preserved invariant-loop decreases-loop
-loop-again c =
+loop_again : tie.Need-loop-preserved invariant_loop decreases_loop
+loop_again c =
     let s = c.before.before.before.before.before.before in
     let l = c.before.before.before.before.before.loop in
     let e = rw c.before.before.rule-of.ensures at (sym c.before.some.ensures ∙ c.if1.false) in
-    two-on s.before.args.t2 s.before.args.count l.i (pairHolds s.before.args.pair) _ (omega (arith, last s)) e ∙ l.invariant
+    two_on s.before.args.t2 s.before.args.count l.i (pair_holds s.before.args.pair) _ (omega (arith, last s)) e ∙ l.invariant
 
-returns-2 : tie.Need-returns-2 invariant-loop decreases-loop
-returns-2 c =
+returns_2 : tie.Need-returns-2 invariant_loop decreases_loop
+returns_2 c =
     let s = c.before.before in
     let l = c.before.loop in
-    two-end s.before.args.t2 s.before.args.count l.i (pairHolds s.before.args.pair) (omega (arith, last s)) ∙ l.invariant
+    two_end s.before.args.t2 s.before.args.count l.i (pair_holds s.before.args.pair) (omega (arith, last s)) ∙ l.invariant
 
-pub some-two-spec : {M : Type 1} → statement M
-some-two-spec =
+pub some_two_spec : {M : Type 1} → statement M
+some_two_spec =
     tie.close
     (tie.spec
-    invariant-loop
-    decreases-loop
+    invariant_loop
+    decreases_loop
     (λ c κs. search rules)
-    loop-holds
+    loop_holds
     (λ c. search rules)
     (λ c. search rules)
     (λ c. search rules)
@@ -60,5 +60,5 @@ some-two-spec =
     returns
     (λ c. search rules)
     (λ c. search rules)
-    loop-again
-    returns-2)
+    loop_again
+    returns_2)

@@ -6,5 +6,5 @@ use Rattle.device_component.proofs.record.blank_component.Tie as tie
 returns : tie.Need-returns
 returns c = rw (c.before.new.ensures, c.new2.ensures)
 
-pub blank-component-spec : {M : Type 1} → statement M
-blank-component-spec = tie.close (tie.spec (λ c κs. search rules) (λ c κs. search rules) returns)
+pub blank_component_spec : {M : Type 1} → statement M
+blank_component_spec = tie.close (tie.spec (λ c κs. search rules) (λ c κs. search rules) returns)

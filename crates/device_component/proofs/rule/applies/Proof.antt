@@ -9,20 +9,20 @@ enum_told c = search rules
 returns : tie.Need-returns
 returns c = rw c.before.enum_told.given.1 c.bad-id.ensures
 
-returns-2 : tie.Need-returns-2
-returns-2 c = rw c.before.before.rule.given.1
+returns_2 : tie.Need-returns-2
+returns_2 c = rw c.before.before.rule.given.1
 
-returns-3 : tie.Need-returns-3
-returns-3 c = rw c.before.before.rule2.given.1 c.bad-region.ensures
+returns_3 : tie.Need-returns-3
+returns_3 c = rw c.before.before.rule2.given.1 c.bad-region.ensures
 
-returns-4 : tie.Need-returns-4
-returns-4 c = rw c.before.before.rule3.given.1 c.overlaps.ensures
+returns_4 : tie.Need-returns-4
+returns_4 c = rw c.before.before.rule3.given.1 c.overlaps.ensures
 
-returns-5 : tie.Need-returns-5
-returns-5 c = rw c.before.enum-told2.given.1 c.bad-floor.ensures
+returns_5 : tie.Need-returns-5
+returns_5 c = rw c.before.enum-told2.given.1 c.bad-floor.ensures
 
-pub applies-spec : {M : Type 1} → statement M
-applies-spec =
+pub applies_spec : {M : Type 1} → statement M
+applies_spec =
     tie.close
     (tie.spec
     enum_told
@@ -35,7 +35,7 @@ applies-spec =
     (λ c. search rules)
     (λ c κs. search rules)
     returns
-    returns-2
-    returns-3
-    returns-4
-    returns-5)
+    returns_2
+    returns_3
+    returns_4
+    returns_5)

@@ -6,5 +6,5 @@ use Rattle.device_component.proofs.rule.bad_floor.Tie as tie
 returns : tie.Need-returns
 returns c = rw c.variant.ensures
 
-pub bad-floor-spec : {M : Type 1} → statement M
-bad-floor-spec = tie.close (tie.spec (λ c κs. search rules) returns)
+pub bad_floor_spec : {M : Type 1} → statement M
+bad_floor_spec = tie.close (tie.spec (λ c κs. search rules) returns)

@@ -6,5 +6,5 @@ use Rattle.device_component.proofs.rule.bad_region.Tie as tie
 returns : tie.Need-returns
 returns c = rw c.before.number.ensures
 
-pub bad-region-spec : {M : Type 1} → statement M
-bad-region-spec = tie.close (tie.spec (λ c κs. search rules) (λ c. search rules) (λ c. search rules) (λ c. search rules) returns)
+pub bad_region_spec : {M : Type 1} → statement M
+bad_region_spec = tie.close (tie.spec (λ c κs. search rules) (λ c. search rules) (λ c. search rules) (λ c. search rules) returns)

@@ -6,5 +6,5 @@ use Rattle.device_component.proofs.rule.clash.Tie as tie
 returns : tie.Need-returns
 returns c = rw c.overlaps.ensures
 
-pub clash-spec : {M : Type 1} → statement M
-clash-spec = tie.close (tie.spec (λ c κs. search rules) returns)
+pub clash_spec : {M : Type 1} → statement M
+clash_spec = tie.close (tie.spec (λ c κs. search rules) returns)

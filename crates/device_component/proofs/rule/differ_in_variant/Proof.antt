@@ -6,5 +6,5 @@ use Rattle.device_component.proofs.rule.differ_in_variant.Tie as tie
 returns : tie.Need-returns
 returns c = rw (c.before.variant.ensures, c.variant2.ensures)
 
-pub differ-in-variant-spec : {M : Type 1} → statement M
-differ-in-variant-spec = tie.close (tie.spec (λ c κs. search rules) (λ c κs. search rules) returns)
+pub differ_in_variant_spec : {M : Type 1} → statement M
+differ_in_variant_spec = tie.close (tie.spec (λ c κs. search rules) (λ c κs. search rules) returns)

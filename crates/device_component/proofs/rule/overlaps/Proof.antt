@@ -6,8 +6,8 @@ use Rattle.device_component.proofs.rule.overlaps.Tie as tie
 returns : tie.Need-returns
 returns c = rw (c.before.before.before.number.ensures, c.before.before.number2.ensures)
 
-pub overlaps-spec : {M : Type 1} → statement M
-overlaps-spec =
+pub overlaps_spec : {M : Type 1} → statement M
+overlaps_spec =
     tie.close
     (tie.spec
     (λ c κs. search rules)

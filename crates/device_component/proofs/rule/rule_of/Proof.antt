@@ -9,8 +9,8 @@ enum_told c = search rules
 returns : tie.Need-returns
 returns c = rw c.enum_told.given.1
 
-returns-2 : tie.Need-returns-2
-returns-2 c = rw c.enum-told2.given.1
+returns_2 : tie.Need-returns-2
+returns_2 c = rw c.enum-told2.given.1
 
-pub rule-of-spec : {M : Type 1} → statement M
-rule-of-spec = tie.close (tie.spec enum_told (λ c. search rules) returns returns-2)
+pub rule_of_spec : {M : Type 1} → statement M
+rule_of_spec = tie.close (tie.spec enum_told (λ c. search rules) returns returns_2)

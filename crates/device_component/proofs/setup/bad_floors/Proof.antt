@@ -6,5 +6,5 @@ use Rattle.device_component.proofs.setup.bad_floors.Tie as tie
 returns : tie.Need-returns
 returns c = rw c.some.ensures
 
-pub bad-floors-spec : {M : Type 1} → statement M
-bad-floors-spec = tie.close (tie.spec (λ c κs. search rules) returns)
+pub bad_floors_spec : {M : Type 1} → statement M
+bad_floors_spec = tie.close (tie.spec (λ c κs. search rules) returns)

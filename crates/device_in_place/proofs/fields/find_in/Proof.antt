@@ -6,13 +6,13 @@ use native.Mathlib.Omega.{arith}
 use borrow.Author.Tests.{eq-eqb, ne_eqb}
 use lib.Dec.{eqb}
 use lib.ListN.{length, take, drop}
-use Rattle.device_component.specs.Lists.{firstFrom, find}
-use Rattle.device_component.specs.Record.{blankComponent}
+use Rattle.device_component.specs.Lists.{first_from, find}
+use Rattle.device_component.specs.Record.{blank_component}
 use Rattle.device_component.specs.declared.record.Component.{Component}
-use Rattle.device_component.proofs.list.Loops.{ends, first-here, first_on, first-end}
-use Rattle.device_bytes.specs.Layout.{deviceIn}
+use Rattle.device_component.proofs.list.Loops.{ends, first_here, first_on, first_end}
+use Rattle.device_bytes.specs.Layout.{device_in}
 use borrow.Author.Rules.{rules}
-use Rattle.device_bytes.proofs.Fields.{full-in}
+use Rattle.device_bytes.proofs.Fields.{full_in}
 use Rattle.device_in_place.proofs.fields.find_in.Statement.{statement}
 use Rattle.device_in_place.proofs.fields.find_in.Tie as tie
 
@@ -20,55 +20,55 @@ use Rattle.device_in_place.proofs.fields.find_in.Tie as tie
 abbrev named : ℕ → Component → Bool
 named id c = eqb id c.fixed.id
 
-abbrev invariant-loop : tie.invariant-loop
-invariant-loop b count id end i₀ i =
-    firstFrom (named id) i (drop i (take count (deviceIn b).components)) ≡ find id count (deviceIn b).components
+abbrev invariant_loop : tie.invariant-loop
+invariant_loop b count id end i₀ i =
+    first_from (named id) i (drop i (take count (device_in b).components)) ≡ find id count (device_in b).components
 
-abbrev decreases-loop : tie.decreases-loop
-decreases-loop b count id end i₀ i = end - i
+abbrev decreases_loop : tie.decreases-loop
+decreases_loop b count id end i₀ i = end - i
 
 -- the loop ends where the components in use do
-last : (c : tie.After-within-slots invariant-loop decreases-loop)
-    → let a = c.before.before.args in c.within-slots.result ≡ length (take a.count (deviceIn a.b.now).components)
-last c = let a = c.before.before.args in ends a.count (deviceIn a.b.now).components (full-in a.b.now) c.within-slots.ensures
+last : (c : tie.After-within-slots invariant_loop decreases_loop)
+    → let a = c.before.before.args in c.within-slots.result ≡ length (take a.count (device_in a.b.now).components)
+last c = let a = c.before.before.args in ends a.count (device_in a.b.now).components (full_in a.b.now) c.within-slots.ensures
 
-loop-holds : tie.Need-loop-init invariant-loop decreases-loop
+loop_holds : tie.Need-loop-init invariant_loop decreases_loop
 unfolding find
-loop-holds c = refl
+loop_holds c = refl
 
-returns : tie.Need-returns invariant-loop decreases-loop
+returns : tie.Need-returns invariant_loop decreases_loop
 returns c =
     let s = c.before.before.before.before.before in
     let a = s.before.before.args in
     let l = c.before.before.before.before.loop in
-    first-here (deviceIn a.b.now).components a.count l.i (named a.id) blankComponent (omega (arith, last s))
+    first_here (device_in a.b.now).components a.count l.i (named a.id) blank_component (omega (arith, last s))
     (ap (named a.id) (sym c.before.before.component-at.ensures) ∙ eq-eqb a.id _ c.if1.true) ∙ l.invariant
 
-loop-again : tie.Need-loop-preserved invariant-loop decreases-loop
-loop-again c =
+loop_again : tie.Need-loop-preserved invariant_loop decreases_loop
+loop_again c =
     let s = c.before.before.before.before.before in
     let a = s.before.before.args in
     let l = c.before.before.before.before.loop in
-    first_on (deviceIn a.b.now).components a.count l.i (named a.id) blankComponent (omega (arith, last s))
+    first_on (device_in a.b.now).components a.count l.i (named a.id) blank_component (omega (arith, last s))
     (ap (named a.id) (sym c.before.before.component-at.ensures) ∙ ne_eqb a.id _ c.if1.false) ∙ l.invariant
 
-returns-2 : tie.Need-returns-2 invariant-loop decreases-loop
-returns-2 c =
+returns_2 : tie.Need-returns-2 invariant_loop decreases_loop
+returns_2 c =
     let s = c.before.before in
     let a = s.before.before.args in
-    first-end (deviceIn a.b.now).components a.count c.before.loop.i (named a.id) (omega (arith, last s)) ∙ c.before.loop.invariant
+    first_end (device_in a.b.now).components a.count c.before.loop.i (named a.id) (omega (arith, last s)) ∙ c.before.loop.invariant
 
-pub find-in-spec : {M : Type 1} → statement M
-find-in-spec =
+pub find_in_spec : {M : Type 1} → statement M
+find_in_spec =
     tie.close
     (tie.spec
-    invariant-loop
-    decreases-loop
+    invariant_loop
+    decreases_loop
     (λ c κs. search rules)
-    loop-holds
+    loop_holds
     (λ c κs. search rules)
     returns
     (λ c. search rules)
     (λ c. search rules)
-    loop-again
-    returns-2)
+    loop_again
+    returns_2)

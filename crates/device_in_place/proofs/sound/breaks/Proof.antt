@@ -21,8 +21,8 @@ returns c =
     r.session-in.result s.open-slot.result p.component-at.result n.count-in.ensures r.session-in.ensures s.open-slot.ensures k.slot_of.ensures p.component-at.ensures
     l.staging-too-long.ensures d.bad-count.ensures w.wrong-slot.ensures v.wrong-previous.ensures o.owes-on.ensures c.some-unsound.ensures
 
-pub breaks-spec : {M : Type 1} → statement M
-breaks-spec =
+pub breaks_spec : {M : Type 1} → statement M
+breaks_spec =
     tie.close
     (tie.spec
     (λ c κs. search rules)

@@ -16,8 +16,8 @@ returns c =
       c.before.before.before.before.before.slot_of.ensures,
     )
 
-pub judge-offer-spec : {M : Type 1} → statement M
-judge-offer-spec =
+pub judge_offer_spec : {M : Type 1} → statement M
+judge_offer_spec =
     tie.close
     (tie.spec
     (λ c κs. search rules)

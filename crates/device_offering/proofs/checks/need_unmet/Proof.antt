@@ -6,6 +6,6 @@ use Rattle.device_offering.proofs.checks.need_unmet.Tie as tie
 returns : tie.Need-returns
 returns c = cc
 
-pub need-unmet-spec : {M : Type 1} → statement M
-need-unmet-spec =
+pub need_unmet_spec : {M : Type 1} → statement M
+need_unmet_spec =
     tie.close (tie.spec (λ c κs. search rules) (λ c κs. search rules) (λ c κs. search rules) returns)

@@ -21,8 +21,8 @@ returns c =
       c.before.before.before.before.before.before.before.before.before.before.before.before.before.is-too-low.ensures,
     )
 
-pub unless-rejected-spec : {M : Type 1} → statement M
-unless-rejected-spec =
+pub unless_rejected_spec : {M : Type 1} → statement M
+unless_rejected_spec =
     tie.close
     (tie.spec
     (λ c κs. search rules)

@@ -3,11 +3,11 @@ use borrow.Author.Rules.{rules}
 use Rattle.device_offering.proofs.offer.after_offer.Statement.{statement}
 use Rattle.device_offering.proofs.offer.after_offer.Tie as tie
 
-returns-4 : tie.Need-returns-4
-returns-4 c = rw c.before.before.verdict.given.1 c.in-stage.ensures
+returns_4 : tie.Need-returns-4
+returns_4 c = rw c.before.before.verdict.given.1 c.in-stage.ensures
 
-pub after-offer-spec : {M : Type 1} → statement M
-after-offer-spec =
+pub after_offer_spec : {M : Type 1} → statement M
+after_offer_spec =
     tie.close
     (tie.spec
     (λ c. search rules)
@@ -18,4 +18,4 @@ after-offer-spec =
     (λ c. search rules)
     (λ c. search rules)
     (λ c. search rules)
-    returns-4)
+    returns_4)

@@ -6,8 +6,8 @@ use Rattle.device_offering.proofs.offer.on_offer.Tie as tie
 returns : tie.Need-returns
 returns c = cc
 
-pub on-offer-spec : {M : Type 1} → statement M
-on-offer-spec =
+pub on_offer_spec : {M : Type 1} → statement M
+on_offer_spec =
     tie.close
     (tie.spec
     (λ c κs. search rules)

@@ -9,17 +9,17 @@ enum_told c = search rules
 returns : tie.Need-returns
 returns c = rw c.before.enum_told.given.1 c.silent.ensures
 
-returns-2 : tie.Need-returns-2
-returns-2 c = rw c.before.before.p.given.1 c.on-offer.ensures
+returns_2 : tie.Need-returns-2
+returns_2 c = rw c.before.before.p.given.1 c.on-offer.ensures
 
-returns-3 : tie.Need-returns-3
-returns-3 c = rw c.before.before.p2.given.1 c.on-information.ensures
+returns_3 : tie.Need-returns-3
+returns_3 c = rw c.before.before.p2.given.1 c.on-information.ensures
 
-returns-4 : tie.Need-returns-4
-returns-4 c = rw c.before.before.p3.given.1 c.on-extended.ensures
+returns_4 : tie.Need-returns-4
+returns_4 c = rw c.before.before.p3.given.1 c.on-extended.ensures
 
-pub on-packet-spec : {M : Type 1} → statement M
-on-packet-spec =
+pub on_packet_spec : {M : Type 1} → statement M
+on_packet_spec =
     tie.close
     (tie.spec
     enum_told
@@ -31,6 +31,6 @@ on-packet-spec =
     (λ c. search rules)
     (λ c κs. search rules)
     returns
-    returns-2
-    returns-3
-    returns-4)
+    returns_2
+    returns_3
+    returns_4)

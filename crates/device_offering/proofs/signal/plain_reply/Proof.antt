@@ -7,5 +7,5 @@ use Rattle.device_offering.proofs.signal.plain_reply.Tie as tie
 returns : tie.Need-returns
 returns c = c.answered.ensures ∙ rw c.before.build-offer-reply.ensures
 
-pub plain-reply-spec : {M : Type 1} → statement M
-plain-reply-spec = tie.close (tie.spec (λ c κs. search rules) (λ c κs. search rules) returns)
+pub plain_reply_spec : {M : Type 1} → statement M
+plain_reply_spec = tie.close (tie.spec (λ c κs. search rules) (λ c κs. search rules) returns)

@@ -6,5 +6,5 @@ use Rattle.device_receiving.proofs.block.erase_on_first.Tie as tie
 returns : tie.Need-returns
 returns c = rw c.before.before.before.before.if1.true c.before.before.erase.ensures
 
-pub erase-on-first-spec : {M : Type 1} → statement M
-erase-on-first-spec = tie.close (tie.spec (λ c κs. search rules) (λ c. search rules) returns (λ c. search rules))
+pub erase_on_first_spec : {M : Type 1} → statement M
+erase_on_first_spec = tie.close (tie.spec (λ c κs. search rules) (λ c. search rules) returns (λ c. search rules))

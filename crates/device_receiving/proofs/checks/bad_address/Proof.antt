@@ -6,5 +6,5 @@ use Rattle.device_receiving.proofs.checks.bad_address.Tie as tie
 returns : tie.Need-returns
 returns c = rw c.holds.ensures
 
-pub bad-address-spec : {M : Type 1} → statement M
-bad-address-spec = tie.close (tie.spec (λ c. search rules) (λ c κs. search rules) returns)
+pub bad_address_spec : {M : Type 1} → statement M
+bad_address_spec = tie.close (tie.spec (λ c. search rules) (λ c κs. search rules) returns)

@@ -6,5 +6,5 @@ use Rattle.device_receiving.proofs.checks.bad_sequence.Tie as tie
 returns : tie.Need-returns
 returns c = rw (c.is-wrong.ensures, c.before.sequence-verdict.ensures)
 
-pub bad-sequence-spec : {M : Type 1} → statement M
-bad-sequence-spec = tie.close (tie.spec (λ c κs. search rules) (λ c κs. search rules) returns)
+pub bad_sequence_spec : {M : Type 1} → statement M
+bad_sequence_spec = tie.close (tie.spec (λ c κs. search rules) (λ c κs. search rules) returns)

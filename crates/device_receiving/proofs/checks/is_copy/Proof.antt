@@ -7,7 +7,7 @@ returns : tie.Need-returns
 returns c =
     rw (c.before.before.same.ensures, c.before.is-first.ensures, c.is_last.ensures, c.before.before.before.before.before.requires)
 
-pub is-copy-spec : {M : Type 1} → statement M
-is-copy-spec =
+pub is_copy_spec : {M : Type 1} → statement M
+is_copy_spec =
     tie.close
     (tie.spec (λ c. search rules) (λ c κs. search rules) (λ c κs. search rules) (λ c κs. search rules) returns)

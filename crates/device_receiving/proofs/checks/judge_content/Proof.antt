@@ -1,38 +1,38 @@
 -- `checks::judge_content` meets its contract: each answer from the checks that lead to it. Assumes nothing.
 use Rattle.wire.specs.Checks.{first_of}
-use Rattle.device_receiving.specs.Content.{contentVerdict}
+use Rattle.device_receiving.specs.Content.{content_verdict}
 use Rattle.wire.proofs.Chain.{chain, by}
 use Rattle.std.proofs.Common.{rules}
 use Rattle.device_receiving.proofs.checks.judge_content.Statement.{statement}
 use Rattle.device_receiving.proofs.checks.judge_content.Tie as tie
 
 returns : tie.Need-returns
-unfolding contentVerdict first_of
+unfolding content_verdict first_of
 returns c = search chain
 
-returns-2 : tie.Need-returns-2
-unfolding contentVerdict first_of
-returns-2 c = search chain
+returns_2 : tie.Need-returns-2
+unfolding content_verdict first_of
+returns_2 c = search chain
 
-returns-3 : tie.Need-returns-3
-unfolding contentVerdict first_of
-returns-3 c = search chain
+returns_3 : tie.Need-returns-3
+unfolding content_verdict first_of
+returns_3 c = search chain
 
-returns-4 : tie.Need-returns-4
-unfolding contentVerdict first_of
-returns-4 c = search chain
+returns_4 : tie.Need-returns-4
+unfolding content_verdict first_of
+returns_4 c = search chain
 
-returns-5 : tie.Need-returns-5
-unfolding contentVerdict first_of
-returns-5 c = search chain depth 6
+returns_5 : tie.Need-returns-5
+unfolding content_verdict first_of
+returns_5 c = search chain depth 6
 
-returns-6 : tie.Need-returns-6
-unfolding contentVerdict first_of
-returns-6 c = search chain depth 7
+returns_6 : tie.Need-returns-6
+unfolding content_verdict first_of
+returns_6 c = search chain depth 7
 
-returns-7 : tie.Need-returns-7
-unfolding contentVerdict first_of
-returns-7 c =
+returns_7 : tie.Need-returns-7
+unfolding content_verdict first_of
+returns_7 c =
     let k6 = c.before in
     let k5 = k6.before.before in
     let k4 = k5.before.before in
@@ -49,21 +49,21 @@ returns-7 c =
       c.slot.ensures,
     )
 
-pub judge-content-spec : {M : Type 1} → statement M
-judge-content-spec =
+pub judge_content_spec : {M : Type 1} → statement M
+judge_content_spec =
     tie.close
     (tie.spec
     (λ c κs. search rules)
     returns
     (λ c κs. search rules)
-    returns-2
+    returns_2
     (λ c κs. search rules)
-    returns-3
+    returns_3
     (λ c κs. search rules)
-    returns-4
+    returns_4
     (λ c κs. search rules)
-    returns-5
+    returns_5
     (λ c κs. search rules)
-    returns-6
+    returns_6
     (λ c κs. search rules)
-    returns-7)
+    returns_7)

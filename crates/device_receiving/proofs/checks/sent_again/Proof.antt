@@ -6,5 +6,5 @@ use Rattle.device_receiving.proofs.checks.sent_again.Tie as tie
 returns : tie.Need-returns
 returns c = rw (c.is-again.ensures, c.before.sequence-verdict.ensures)
 
-pub sent-again-spec : {M : Type 1} → statement M
-sent-again-spec = tie.close (tie.spec (λ c κs. search rules) (λ c κs. search rules) returns)
+pub sent_again_spec : {M : Type 1} → statement M
+sent_again_spec = tie.close (tie.spec (λ c κs. search rules) (λ c κs. search rules) returns)

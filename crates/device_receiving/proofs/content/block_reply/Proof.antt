@@ -6,5 +6,5 @@ use Rattle.device_receiving.proofs.content.block_reply.Tie as tie
 returns : tie.Need-returns
 returns c = c.answered.ensures ∙ rw c.before.build-content-reply.ensures
 
-pub block-reply-spec : {M : Type 1} → statement M
-block-reply-spec = tie.close (tie.spec (λ c κs. search rules) (λ c κs. search rules) returns)
+pub block_reply_spec : {M : Type 1} → statement M
+block_reply_spec = tie.close (tie.spec (λ c κs. search rules) (λ c κs. search rules) returns)

@@ -1,12 +1,12 @@
 -- `content::on_block` meets its contract: the end of the image, or one sequence on. Assumes nothing.
-use Rattle.device_receiving.specs.Receive.{onBlock}
+use Rattle.device_receiving.specs.Receive.{on_block}
 use Rattle.wire.proofs.Chain.{by}
 use Rattle.std.proofs.Common.{rules}
 use Rattle.device_receiving.proofs.content.on_block.Statement.{statement}
 use Rattle.device_receiving.proofs.content.on_block.Tie as tie
 
 returns : tie.Need-returns
-unfolding onBlock
+unfolding on_block
 returns c =
     let k = c.before.before.before.before in
     let h = k.before.before.before.before.requires in
@@ -18,9 +18,9 @@ returns c =
       h,
     )
 
-returns-2 : tie.Need-returns-2
-unfolding onBlock
-returns-2 c =
+returns_2 : tie.Need-returns-2
+unfolding on_block
+returns_2 c =
     let k = c.before.before in
     let h = k.before.before.before.before.requires in
     rw (
@@ -30,8 +30,8 @@ returns-2 c =
       h,
     )
 
-pub on-block-spec : {M : Type 1} → statement M
-on-block-spec =
+pub on_block_spec : {M : Type 1} → statement M
+on_block_spec =
     tie.close
     (tie.spec
     (λ c κs. search rules)
@@ -41,4 +41,4 @@ on-block-spec =
     (λ c κs. search rules)
     (λ c κs. search rules)
     returns
-    returns-2)
+    returns_2)

@@ -11,8 +11,8 @@ returns c =
     let e = rw (k.before.is-copy.ensures, h) at (by k.judge-content.ensures c.before.before.verdict.given.1) in
     (rw (e, c.block-reply.ensures, h), rw e)
 
-returns-2 : tie.Need-returns-2
-returns-2 c =
+returns_2 : tie.Need-returns-2
+returns_2 c =
     let w = c.before.before.before.before in
     let v = w.before.before.before in
     let k = v.before.before in
@@ -20,8 +20,8 @@ returns-2 c =
     let e = rw (k.before.is-copy.ensures, h) at (by k.judge-content.ensures v.verdict2.given.1) in
     (rw (e, c.on-block.ensures, w.write-block.ensures), rw e w.write-block.ensures)
 
-pub on-report-spec : {M : Type 1} → statement M
-on-report-spec =
+pub on_report_spec : {M : Type 1} → statement M
+on_report_spec =
     tie.close
     (tie.spec
     (λ c κs. search rules)
@@ -34,4 +34,4 @@ on-report-spec =
     (λ c κs. search rules)
     returns
     (λ c. search rules)
-    returns-2)
+    returns_2)

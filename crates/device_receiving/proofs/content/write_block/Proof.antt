@@ -19,8 +19,8 @@ returns c =
     let s = k.before.before.before in
     rw (s.requires, behind s.args.report.now k.least.result k.least.ensures) at c.before.before.take-block.ensures
 
-pub write-block-spec : {M : Type 1} → statement M
-write-block-spec =
+pub write_block_spec : {M : Type 1} → statement M
+write_block_spec =
     tie.close
     (tie.spec
     (λ c κs. search rules)

@@ -12,22 +12,22 @@ returns : tie.Need-returns
 unfolding finish
 returns c = rw (by c.before.before.before.image.ensures c.before.enum_told.given.1, c.failed.ensures)
 
-returns-2 : tie.Need-returns-2
+returns_2 : tie.Need-returns-2
 unfolding finish
-returns-2 c = rw (by c.before.before.before.image.ensures c.before.enum-told2.given.1, c.failed2.ensures)
+returns_2 c = rw (by c.before.before.before.image.ensures c.before.enum-told2.given.1, c.failed2.ensures)
 
-returns-3 : tie.Need-returns-3
+returns_3 : tie.Need-returns-3
 unfolding finish
-returns-3 c =
+returns_3 c =
     rw (
       by c.before.before.before.before.before.before.image.ensures c.before.before.before.before.judged.given.1,
       by c.before.before.image-version-fits.ensures c.before.if1.true,
       c.with-staged.ensures,
     )
 
-returns-4 : tie.Need-returns-4
+returns_4 : tie.Need-returns-4
 unfolding finish
-returns-4 c =
+returns_4 c =
     rw (
       by c.before.before.before.before.before.before.image.ensures c.before.before.before.before.judged.given.1,
       by c.before.before.image-version-fits.ensures c.before.if1.false,
@@ -48,6 +48,6 @@ finish_spec =
     (λ c κs. search rules)
     (λ c κs. search rules)
     returns
-    returns-2
-    returns-3
-    returns-4)
+    returns_2
+    returns_3
+    returns_4)

@@ -20,8 +20,8 @@ returns c =
     )
     (sym (grouped a.n a.count a.components a.session))
 
-pub breaks-d1-spec : {M : Type 1} → statement M
-breaks-d1-spec =
+pub breaks_d1_spec : {M : Type 1} → statement M
+breaks_d1_spec =
     tie.close
     (tie.spec
     (λ c κs. search rules)

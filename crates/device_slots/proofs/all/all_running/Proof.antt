@@ -4,45 +4,45 @@ use mathlib.Core.List.{List}
 use Prim.Native.Nat.{◌≤◌, ◌-◌}
 use native.Mathlib.Omega.{arith}
 use lib.ListN.{length, set}
-use Rattle.device_slots.proofs.Turns.{turned, turn, all-turned}
-use Rattle.wire.specs.Codes.{COMPONENT-LIMIT}
+use Rattle.device_slots.proofs.Turns.{turned, turn, all_turned}
+use Rattle.wire.specs.Codes.{component_limit}
 use Rattle.wire_version.specs.Reply.{none}
 use Rattle.wire_version.specs.declared.Running.{Running}
-use Rattle.device_slots.specs.Slots.{runningOf}
+use Rattle.device_slots.specs.Slots.{running_of}
 use borrow.Author.Rules.{rules}
 use Rattle.device_slots.proofs.all.all_running.Statement.{statement}
 use Rattle.device_slots.proofs.all.all_running.Tie as tie
 
-abbrev invariant-loop : tie.invariant-loop
-invariant-loop platform components all₀ i₀ all i = (all ≡ turned (runningOf platform) components all₀ i) × (i ≤ COMPONENT-LIMIT)
+abbrev invariant_loop : tie.invariant-loop
+invariant_loop platform components all₀ i₀ all i = (all ≡ turned (running_of platform) components all₀ i) × (i ≤ component_limit)
 
-abbrev decreases-loop : tie.decreases-loop
-decreases-loop platform components all₀ i₀ all i = COMPONENT-LIMIT - i
+abbrev decreases_loop : tie.decreases-loop
+decreases_loop platform components all₀ i₀ all i = component_limit - i
 
-loop-holds : tie.Need-loop-init invariant-loop decreases-loop
-loop-holds c = (refl, search rules)
+loop_holds : tie.Need-loop-init invariant_loop decreases_loop
+loop_holds c = (refl, search rules)
 
-loop-again : tie.Need-loop-preserved invariant-loop decreases-loop
-loop-again c =
+loop_again : tie.Need-loop-preserved invariant_loop decreases_loop
+loop_again c =
     let s = c.before.before.before.before.before.args in
     let l = c.before.before.before.loop in
-    let n : length s.t2 ≡ COMPONENT-LIMIT = search rules in
-    (ap (λ (p : List Running). set p l.i c.running.result) l.invariant.0 ∙ turn (runningOf s.platform) s.t2 _ n l.i (omega arith) _ none _ c.running.ensures, omega arith)
+    let n : length s.t2 ≡ component_limit = search rules in
+    (ap (λ (p : List Running). set p l.i c.running.result) l.invariant.0 ∙ turn (running_of s.platform) s.t2 _ n l.i (omega arith) _ none _ c.running.ensures, omega arith)
 
-returns : tie.Need-returns invariant-loop decreases-loop
+returns : tie.Need-returns invariant_loop decreases_loop
 returns c =
     let s = c.before.before.before.args in
     let l = c.before.loop in
-    let n : length s.t2 ≡ COMPONENT-LIMIT = search rules in l.invariant.0 ∙ all-turned (runningOf s.platform) s.t2 _ n l.i (omega arith)
+    let n : length s.t2 ≡ component_limit = search rules in l.invariant.0 ∙ all_turned (running_of s.platform) s.t2 _ n l.i (omega arith)
 
-pub all-running-spec : {M : Type 1} → statement M
-all-running-spec =
+pub all_running_spec : {M : Type 1} → statement M
+all_running_spec =
     tie.close
     (tie.spec
-    invariant-loop
-    decreases-loop
+    invariant_loop
+    decreases_loop
     (λ c κs. search rules)
-    loop-holds
+    loop_holds
     (λ c. search rules)
     (λ c. search rules)
     (λ c κs. search rules)
@@ -50,5 +50,5 @@ all-running-spec =
     (λ c. search rules)
     (λ c. search rules)
     (λ c. search rules)
-    loop-again
+    loop_again
     returns)

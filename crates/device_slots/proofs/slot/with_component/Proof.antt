@@ -6,8 +6,8 @@ use borrow.Author.Rules.{rules}
 use Rattle.device_slots.proofs.slot.with_component.Statement.{statement}
 use Rattle.device_slots.proofs.slot.with_component.Tie as tie
 
-returns-2 : tie.Need-returns-2
-returns-2 c = sym (set_out _ _ _ (omega arith))
+returns_2 : tie.Need-returns-2
+returns_2 c = sym (set_out _ _ _ (omega arith))
 
-pub with-component-spec : {M : Type 1} → statement M
-with-component-spec = tie.close (tie.spec (λ c. search rules) (λ c. search rules) (λ c. search rules) returns-2)
+pub with_component_spec : {M : Type 1} → statement M
+with_component_spec = tie.close (tie.spec (λ c. search rules) (λ c. search rules) (λ c. search rules) returns_2)

@@ -6,5 +6,5 @@ use Rattle.device_slots.proofs.standing.standing_of.Tie as tie
 returns : tie.Need-returns
 returns c = rw (c.component-at.ensures, c.before.slot_of.ensures, c.before.before.find.ensures)
 
-pub standing-of-spec : {M : Type 1} → statement M
-standing-of-spec = tie.close (tie.spec (λ c κs. search rules) (λ c κs. search rules) (λ c κs. search rules) returns)
+pub standing_of_spec : {M : Type 1} → statement M
+standing_of_spec = tie.close (tie.spec (λ c κs. search rules) (λ c κs. search rules) (λ c κs. search rules) returns)

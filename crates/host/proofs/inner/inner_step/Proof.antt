@@ -17,7 +17,7 @@ unlaid c =
     rw (ne_eqb _ _ e.if1.false)
     (ap (λ (x : InnerStep). record { step = record { row = x.step.row; sent = []; packet = a.packet.now; host = a.h }; cursor = a.cursor }) c.before.inner-in2.ensures)
 
-pub inner-step-spec : {M : Type 1} → statement M
-inner-step-spec =
+pub inner_step_spec : {M : Type 1} → statement M
+inner_step_spec =
     tie.close
     (tie.spec (λ c κs. search rules) (λ c. search rules) laid (λ c. search rules) (λ c κs. search rules) unlaid)

@@ -6,8 +6,8 @@ use Rattle.host.proofs.step.cursor_for.Tie as tie
 sending : tie.Need-returns-6
 sending c = rw c.before.before.before.stage.given.1 c.place_after.ensures
 
-pub cursor-for-spec : {M : Type 1} → statement M
-cursor-for-spec =
+pub cursor_for_spec : {M : Type 1} → statement M
+cursor_for_spec =
     tie.close
     (tie.spec
     (λ c. search rules)

@@ -6,5 +6,5 @@ use Rattle.host_decide.proofs.decide.completes.Tie as tie
 returns : tie.Need-returns
 returns c = rw c.with-bit.ensures
 
-pub completes-spec : {M : Type 1} → statement M
-completes-spec = tie.close (tie.spec (λ c κs. search rules) returns)
+pub completes_spec : {M : Type 1} → statement M
+completes_spec = tie.close (tie.spec (λ c κs. search rules) returns)

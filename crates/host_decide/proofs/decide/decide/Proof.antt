@@ -1,8 +1,8 @@
 -- `decide::decide`: by the stage. Assumes nothing.
 use mathlib.Core.Path.{◌∙◌, subst}
 use Rattle.host_record.specs.Spare.{SpareIn}
-use Rattle.host_decide.specs.Decide.{decideIn}
-use Rattle.host_decide.proofs.decide.Laws.{by-stage}
+use Rattle.host_decide.specs.Decide.{decide_in}
+use Rattle.host_decide.proofs.decide.Laws.{by_stage}
 use borrow.Author.Rules.{rules}
 use Rattle.host_decide.proofs.decide.decide.Statement.{statement}
 use Rattle.host_decide.proofs.decide.decide.Tie as tie
@@ -10,49 +10,49 @@ use Rattle.host_decide.proofs.decide.decide.Tie as tie
 enum_told : tie.Need-enum-told
 enum_told c = search rules
 
-hears-requires-3 : tie.Need-hears-requires-3
-hears-requires-3 c κs = let p = c.before.before.before.before.requires in (p.0, subst SpareIn c.before.stage.given.1 p.1)
+hears_requires_3 : tie.Need-hears-requires-3
+hears_requires_3 c κs = let p = c.before.before.before.before.requires in (p.0, subst SpareIn c.before.stage.given.1 p.1)
 
-hears-requires-4 : tie.Need-hears-requires-4
-hears-requires-4 c κs = let p = c.before.before.before.before.requires in (p.0, subst SpareIn c.before.stage2.given.1 p.1)
+hears_requires_4 : tie.Need-hears-requires-4
+hears_requires_4 c κs = let p = c.before.before.before.before.requires in (p.0, subst SpareIn c.before.stage2.given.1 p.1)
 
-hears-block-requires : tie.Need-hears-block-requires
-hears-block-requires c κs = let p = c.before.before.before.before.requires in let q = subst SpareIn c.before.stage3.given.1 p.1 in (p.0, q.0, q.1)
+hears_block_requires : tie.Need-hears-block-requires
+hears_block_requires c κs = let p = c.before.before.before.before.requires in let q = subst SpareIn c.before.stage3.given.1 p.1 in (p.0, q.0, q.1)
 
 returns : tie.Need-returns
-unfolding decideIn
-returns c = c.sends.ensures ∙ by-stage _ _ _ _ c.before.enum_told.given.1
+unfolding decide_in
+returns c = c.sends.ensures ∙ by_stage _ _ _ _ c.before.enum_told.given.1
 
-returns-2 : tie.Need-returns-2
-unfolding decideIn
-returns-2 c = c.hears.ensures ∙ by-stage _ _ _ _ c.before.enum-told2.given.1
+returns_2 : tie.Need-returns-2
+unfolding decide_in
+returns_2 c = c.hears.ensures ∙ by_stage _ _ _ _ c.before.enum-told2.given.1
 
-returns-3 : tie.Need-returns-3
-unfolding decideIn
-returns-3 c = c.hears2.ensures ∙ by-stage _ _ _ _ c.before.enum-told3.given.1
+returns_3 : tie.Need-returns-3
+unfolding decide_in
+returns_3 c = c.hears2.ensures ∙ by_stage _ _ _ _ c.before.enum-told3.given.1
 
-returns-4 : tie.Need-returns-4
-unfolding decideIn
-returns-4 c = c.hears3.ensures ∙ by-stage _ _ _ _ c.before.before.stage.given.1
+returns_4 : tie.Need-returns-4
+unfolding decide_in
+returns_4 c = c.hears3.ensures ∙ by_stage _ _ _ _ c.before.before.stage.given.1
 
-returns-5 : tie.Need-returns-5
-unfolding decideIn
-returns-5 c = c.hears4.ensures ∙ by-stage _ _ _ _ c.before.before.stage2.given.1
+returns_5 : tie.Need-returns-5
+unfolding decide_in
+returns_5 c = c.hears4.ensures ∙ by_stage _ _ _ _ c.before.before.stage2.given.1
 
-returns-6 : tie.Need-returns-6
-unfolding decideIn
-returns-6 c = c.hears-block.ensures ∙ by-stage _ _ _ _ c.before.before.stage3.given.1
+returns_6 : tie.Need-returns-6
+unfolding decide_in
+returns_6 c = c.hears-block.ensures ∙ by_stage _ _ _ _ c.before.before.stage3.given.1
 
-returns-7 : tie.Need-returns-7
-unfolding decideIn
-returns-7 c = c.hears5.ensures ∙ by-stage _ _ _ _ c.before.enum-told4.given.1
+returns_7 : tie.Need-returns-7
+unfolding decide_in
+returns_7 c = c.hears5.ensures ∙ by_stage _ _ _ _ c.before.enum-told4.given.1
 
-returns-8 : tie.Need-returns-8
-unfolding decideIn
-returns-8 c = by-stage _ _ _ _ c.enum-told5.given.1
+returns_8 : tie.Need-returns-8
+unfolding decide_in
+returns_8 c = by_stage _ _ _ _ c.enum-told5.given.1
 
-pub decide-spec : {M : Type 1} → statement M
-decide-spec =
+pub decide_spec : {M : Type 1} → statement M
+decide_spec =
     tie.close
     (tie.spec
     enum_told
@@ -62,19 +62,19 @@ decide-spec =
     (λ c. search rules)
     (λ c κs. search rules)
     (λ c. search rules)
-    hears-requires-3
+    hears_requires_3
     (λ c. search rules)
-    hears-requires-4
+    hears_requires_4
     (λ c. search rules)
-    hears-block-requires
+    hears_block_requires
     (λ c. search rules)
     (λ c κs. search rules)
     (λ c. search rules)
     returns
-    returns-2
-    returns-3
-    returns-4
-    returns-5
-    returns-6
-    returns-7
-    returns-8)
+    returns_2
+    returns_3
+    returns_4
+    returns_5
+    returns_6
+    returns_7
+    returns_8)

@@ -8,26 +8,26 @@ use Rattle.host_decide.proofs.decide.hears_reply.Tie as tie
 returns : tie.Need-returns
 returns c = rw (sym c.before.before.repeats-taken.ensures, c.before.if1.true) c.pass-over.ensures
 
-returns-2 : tie.Need-returns-2
-returns-2 c =
+returns_2 : tie.Need-returns-2
+returns_2 c =
     let d = c.before.before.before.before in
     rw (sym d.before.repeats-taken.ensures, d.if1.false, ne_eqb _ _ (rw c.before.before.before.sequence.ensures at c.before.if2.true))
     c.ends.ensures
 
-returns-3 : tie.Need-returns-3
-returns-3 c =
+returns_3 : tie.Need-returns-3
+returns_3 c =
     let s = c.before.before.before.before.before in
     rw (sym s.before.before.repeats-taken.ensures, s.before.if1.false, eq-eqb _ _ (rw s.sequence.ensures at c.before.before.before.if2.false), eq-eqb _ _ c.before.if3.true)
     c.goes_on.ensures
 
-returns-4 : tie.Need-returns-4
-returns-4 c =
+returns_4 : tie.Need-returns-4
+returns_4 c =
     let s = c.before.before.before.before.before in
     rw (sym s.before.before.repeats-taken.ensures, s.before.if1.false, eq-eqb _ _ (rw s.sequence.ensures at c.before.before.before.if2.false), ne_eqb _ _ c.before.if3.false)
     c.ends2.ensures
 
-pub hears-reply-spec : {M : Type 1} → statement M
-hears-reply-spec =
+pub hears_reply_spec : {M : Type 1} → statement M
+hears_reply_spec =
     tie.close
     (tie.spec
     (λ c κs. search rules)
@@ -35,8 +35,8 @@ hears-reply-spec =
     returns
     (λ c κs. search rules)
     (λ c κs. search rules)
-    returns-2
+    returns_2
     (λ c κs. search rules)
-    returns-3
+    returns_3
     (λ c κs. search rules)
-    returns-4)
+    returns_4)

@@ -8,10 +8,10 @@ use Rattle.host_decide.proofs.decide.repeats_taken.Tie as tie
 returns : tie.Need-returns
 returns c = rw c.if1.true
 
-returns-2 : tie.Need-returns-2
-returns-2 c =
+returns_2 : tie.Need-returns-2
+returns_2 c =
     let d = c.before.before.before.before in
     rw (le-leb 1 d.before.args.a.place.block (omega (arith, d.if1.false)), c.before.before.sequence.ensures)
 
-pub repeats-taken-spec : {M : Type 1} → statement M
-repeats-taken-spec = tie.close (tie.spec returns (λ c. search rules) (λ c κs. search rules) returns-2)
+pub repeats_taken_spec : {M : Type 1} → statement M
+repeats_taken_spec = tie.close (tie.spec returns (λ c. search rules) (λ c κs. search rules) returns_2)

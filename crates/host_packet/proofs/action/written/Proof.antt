@@ -13,5 +13,5 @@ refused : tie.Need-returns-2
 unfolding written_of
 refused c = rw (ne_eqb _ _ c.if1.false)
 
-pub written-spec : {M : Type 1} → statement M
-written-spec = tie.close (tie.spec (λ c κs. search rules) (λ c. search rules) laid refused)
+pub written_spec : {M : Type 1} → statement M
+written_spec = tie.close (tie.spec (λ c κs. search rules) (λ c. search rules) laid refused)

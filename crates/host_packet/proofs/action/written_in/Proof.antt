@@ -2,7 +2,7 @@
 use mathlib.Core.Path.{refl}
 use mathlib.Core.Bool.{true}
 use Rattle.host_packet.specs.Made.{laid_of}
-use Rattle.host_packet.proofs.action.Laws.{offer-laid, none-laid}
+use Rattle.host_packet.proofs.action.Laws.{offer_laid, none_laid}
 use borrow.Author.Rules.{rules}
 use Rattle.host_packet.proofs.action.written_in.Statement.{statement}
 use Rattle.host_packet.proofs.action.written_in.Tie as tie
@@ -12,15 +12,15 @@ unfolding laid_of
 silent c =
     let m = c.before.before.before.before in
     let s = m.before.before.before.before in
-    rw m.enum_told.given.1 (none-laid _ true _ s.args.cursor s.requires c.before.before.none.ensures)
+    rw m.enum_told.given.1 (none_laid _ true _ s.args.cursor s.requires c.before.before.none.ensures)
 
 information : tie.Need-returns-2
 unfolding laid_of
-information c = rw c.before.before.before.before.before.action.given.1 (offer-laid _ _ _ refl c.before.before.information.ensures)
+information c = rw c.before.before.before.before.before.action.given.1 (offer_laid _ _ _ refl c.before.before.information.ensures)
 
 notify : tie.Need-returns-3
 unfolding laid_of
-notify c = rw c.before.before.before.before.enum-told2.given.1 (offer-laid _ _ _ refl c.before.before.notify.ensures)
+notify c = rw c.before.before.before.before.enum-told2.given.1 (offer_laid _ _ _ refl c.before.before.notify.ensures)
 
 offered : tie.Need-returns-4
 unfolding laid_of
@@ -30,8 +30,8 @@ block : tie.Need-returns-5
 unfolding laid_of
 block c = rw c.before.before.before.before.before.action3.given.1 c.before.before.written-block.ensures
 
-pub written-in-spec : {M : Type 1} → statement M
-written-in-spec =
+pub written_in_spec : {M : Type 1} → statement M
+written_in_spec =
     tie.close
     (tie.spec
     (λ c. search rules)

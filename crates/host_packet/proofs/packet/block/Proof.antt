@@ -2,7 +2,7 @@
 use mathlib.Core.Path.{ap₂, ◌∙◌}
 use Prim.Native.Nat.{ℕ}
 use Rattle.wire_content.specs.Content.{head_of}
-use Rattle.host_packet.proofs.packet.Laws.{block-stored}
+use Rattle.host_packet.proofs.packet.Laws.{block_stored}
 use borrow.Author.Rules.{rules}
 use Rattle.host_packet.proofs.packet.block.Statement.{statement}
 use Rattle.host_packet.proofs.packet.block.Tie as tie
@@ -14,7 +14,7 @@ returns c =
     let h = j.before.before.before in
     let s = h.before.before.before.before.before in
     let a = s.args in
-    block-stored a.packet.now h.head.result j.copy.new.0 a.b.now k.copy2.new.0 c.before.before.fill.new.0 a.start a.size
+    block_stored a.packet.now h.head.result j.copy.new.0 a.b.now k.copy2.new.0 c.before.before.fill.new.0 a.start a.size
     a.k a.last a.address s.requires.0 s.requires.2 s.requires.3
     (h.head.ensures ∙ ap₂ (λ (f n : ℕ). head_of f a.size n a.address) h.before.before.flags.ensures h.before.sequence.ensures)
     j.copy.ensures k.copy2.ensures c.before.before.fill.ensures

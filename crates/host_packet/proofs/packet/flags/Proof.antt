@@ -6,14 +6,14 @@ use Rattle.host_packet.proofs.packet.flags.Tie as tie
 returns : tie.Need-returns
 returns c = rw (c.before.if1.true, c.if2.true)
 
-returns-2 : tie.Need-returns-2
-returns-2 c = rw (c.before.if1.true, c.if2.false)
+returns_2 : tie.Need-returns-2
+returns_2 c = rw (c.before.if1.true, c.if2.false)
 
-returns-3 : tie.Need-returns-3
-returns-3 c = rw (c.before.if1.false, c.if3.true)
+returns_3 : tie.Need-returns-3
+returns_3 c = rw (c.before.if1.false, c.if3.true)
 
-returns-4 : tie.Need-returns-4
-returns-4 c = rw (c.before.if1.false, c.if3.false)
+returns_4 : tie.Need-returns-4
+returns_4 c = rw (c.before.if1.false, c.if3.false)
 
-pub flags-spec : {M : Type 1} → statement M
-flags-spec = tie.close (tie.spec (λ c. search rules) returns returns-2 returns-3 returns-4)
+pub flags_spec : {M : Type 1} → statement M
+flags_spec = tie.close (tie.spec (λ c. search rules) returns returns_2 returns_3 returns_4)

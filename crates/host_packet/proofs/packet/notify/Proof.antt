@@ -10,5 +10,5 @@ use Rattle.host_packet.proofs.packet.notify.Tie as tie
 returns : tie.Need-returns
 returns c = c.before.before.lay.ensures ∙ ap (λ (q : List ℕ). q ++ replicate 44 0) c.before.before.before.before.build-extended.ensures
 
-pub notify-spec : {M : Type 1} → statement M
-notify-spec = tie.close (tie.spec (λ c κs. search rules) (λ c κs. search rules) (λ c. search rules) returns)
+pub notify_spec : {M : Type 1} → statement M
+notify_spec = tie.close (tie.spec (λ c κs. search rules) (λ c κs. search rules) (λ c. search rules) returns)

@@ -6,5 +6,5 @@ use Rattle.host_record.proofs.fits.breaks.Tie as tie
 returns : tie.Need-returns
 returns c = rw (c.before.before.before.stage-breaks.ensures, c.before.before.mask-breaks.ensures)
 
-pub breaks-spec : {M : Type 1} → statement M
-breaks-spec = tie.close (tie.spec (λ c κs. search rules) (λ c κs. search rules) returns)
+pub breaks_spec : {M : Type 1} → statement M
+breaks_spec = tie.close (tie.spec (λ c κs. search rules) (λ c κs. search rules) returns)

@@ -12,8 +12,8 @@ waiting c = rw c.before.before.stage2.given.1 c.turn-breaks2.ensures
 sending : tie.Need-returns-6
 sending c = rw c.before.before.before.stage3.given.1 c.place-breaks.ensures
 
-pub stage-breaks-spec : {M : Type 1} → statement M
-stage-breaks-spec =
+pub stage_breaks_spec : {M : Type 1} → statement M
+stage_breaks_spec =
     tie.close
     (tie.spec
     (λ c. search rules)

@@ -6,9 +6,9 @@ use lib.ListN.{get_or-eq_default}
 use Rattle.wire.proofs.words.byte_at.Statement.{statement}
 use Rattle.wire.proofs.words.byte_at.Tie as tie
 
-returns-2 : tie.Need-returns-2
-returns-2 c =
+returns_2 : tie.Need-returns-2
+returns_2 c =
     let a = c.before.args in sym (get_or-eq_default a.p.now 0 {n = a.i} (omega arith))
 
-pub byte-at-spec : {M : Type 1} → statement M
-byte-at-spec = tie.close (tie.spec (λ c. search rules) (λ c. search rules) returns-2)
+pub byte_at_spec : {M : Type 1} → statement M
+byte_at_spec = tie.close (tie.spec (λ c. search rules) (λ c. search rules) returns_2)

@@ -6,21 +6,21 @@ use native.Mathlib.Omega.{arith}
 use borrow.Author.Rules.{rules}
 use borrow.Author.Tests.{ne_eqb}
 use lib.ListN.{length, set, get_or, take, drop, length-set}
-use Rattle.wire.proofs.words.Copies.{copied, copy_more, copy-same}
+use Rattle.wire.proofs.words.Copies.{copied, copy_more, copy_same}
 use Rattle.wire.proofs.words.copy.Statement.{statement}
 use Rattle.wire.proofs.words.copy.Tie as tie
 
-abbrev invariant-loop : tie.invariant-loop
-invariant-loop target₀ source i₀ target i = (target ≡ take i source ++ drop i target₀) × (length target ≡ length target₀) × (i ≤ length target₀)
+abbrev invariant_loop : tie.invariant-loop
+invariant_loop target₀ source i₀ target i = (target ≡ take i source ++ drop i target₀) × (length target ≡ length target₀) × (i ≤ length target₀)
 
-abbrev decreases-loop : tie.decreases-loop
-decreases-loop target₀ source i₀ target i = length target₀ - i
+abbrev decreases_loop : tie.decreases-loop
+decreases_loop target₀ source i₀ target i = length target₀ - i
 
-loop-holds : tie.Need-loop-init invariant-loop decreases-loop
-loop-holds c = (refl, refl, search rules)
+loop_holds : tie.Need-loop-init invariant_loop decreases_loop
+loop_holds c = (refl, refl, search rules)
 
-loop-again : tie.Need-loop-preserved invariant-loop decreases-loop
-loop-again c =
+loop_again : tie.Need-loop-preserved invariant_loop decreases_loop
+loop_again c =
     let l = c.before.before.loop in
     let a = c.before.before.before.before.args in (
       ap (λ d. set d l.i (get_or a.source.now l.i 0)) l.invariant.0 ∙ copy_more l.i a.source.now a.target.now (omega arith) (omega arith),
@@ -28,30 +28,30 @@ loop-again c =
       omega arith,
     )
 
-same_length : tie.Need-same-length invariant-loop decreases-loop
+same_length : tie.Need-same-length invariant_loop decreases_loop
 same_length c = c.before.loop.invariant.1
 
-returns : tie.Need-returns invariant-loop decreases-loop
+returns : tie.Need-returns invariant_loop decreases_loop
 returns c =
     let a = c.before.before.before.args in
     let e : length a.target.now ≡ length a.source.now = c.before.before.if1.true in
-    copied a.source.now a.target.now _ c.before.loop.i c.before.loop.invariant.0 (omega arith) e ∙ sym (copy-same a.target.now a.source.now e)
+    copied a.source.now a.target.now _ c.before.loop.i c.before.loop.invariant.0 (omega arith) e ∙ sym (copy_same a.target.now a.source.now e)
 
-returns-2 : tie.Need-returns-2 invariant-loop decreases-loop
-returns-2 c = rw (ne_eqb _ _ c.if1.false)
+returns_2 : tie.Need-returns-2 invariant_loop decreases_loop
+returns_2 c = rw (ne_eqb _ _ c.if1.false)
 
 pub copy_spec : {M : Type 1} → statement M
 copy_spec =
     tie.close
     (tie.spec
-    invariant-loop
-    decreases-loop
-    loop-holds
+    invariant_loop
+    decreases_loop
+    loop_holds
     (λ c. omega arith)
     (λ c. omega arith)
     (λ c. omega arith)
     (λ c. omega arith)
-    loop-again
+    loop_again
     same_length
     returns
-    returns-2)
+    returns_2)

@@ -9,17 +9,17 @@ use Rattle.wire.proofs.words.Copies.{filled}
 use Rattle.wire.proofs.words.fill.Statement.{statement}
 use Rattle.wire.proofs.words.fill.Tie as tie
 
-abbrev invariant-loop : tie.invariant-loop
-invariant-loop s₀ value i₀ s i = (s ≡ replicate i value ++ drop i s₀) × (length s ≡ length s₀) × (i ≤ length s₀)
+abbrev invariant_loop : tie.invariant-loop
+invariant_loop s₀ value i₀ s i = (s ≡ replicate i value ++ drop i s₀) × (length s ≡ length s₀) × (i ≤ length s₀)
 
-abbrev decreases-loop : tie.decreases-loop
-decreases-loop s₀ value i₀ s i = length s₀ - i
+abbrev decreases_loop : tie.decreases-loop
+decreases_loop s₀ value i₀ s i = length s₀ - i
 
-loop-holds : tie.Need-loop-init invariant-loop decreases-loop
-loop-holds c = (refl, refl, omega arith)
+loop_holds : tie.Need-loop-init invariant_loop decreases_loop
+loop_holds c = (refl, refl, omega arith)
 
-loop-again : tie.Need-loop-preserved invariant-loop decreases-loop
-loop-again c =
+loop_again : tie.Need-loop-preserved invariant_loop decreases_loop
+loop_again c =
     let l = c.before.loop in
     let a = c.before.before.args in (
       ap (λ d. set d l.i a.value) l.invariant.0 ∙ fill_more l.i a.value a.s.now (omega arith),
@@ -27,13 +27,13 @@ loop-again c =
       omega arith,
     )
 
-same_length : tie.Need-same-length invariant-loop decreases-loop
+same_length : tie.Need-same-length invariant_loop decreases_loop
 same_length c = c.before.loop.invariant.1
 
-returns : tie.Need-returns invariant-loop decreases-loop
+returns : tie.Need-returns invariant_loop decreases_loop
 returns c =
     let a = c.before.before.args in
     filled a.value a.s.now _ c.before.loop.i c.before.loop.invariant.0 (omega arith)
 
 pub fill_spec : {M : Type 1} → statement M
-fill_spec = tie.close (tie.spec invariant-loop decreases-loop loop-holds (λ c. omega arith) (λ c. omega arith) (λ c. omega arith) loop-again same_length returns)
+fill_spec = tie.close (tie.spec invariant_loop decreases_loop loop_holds (λ c. omega arith) (λ c. omega arith) (λ c. omega arith) loop_again same_length returns)

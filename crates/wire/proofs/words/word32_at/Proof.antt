@@ -7,8 +7,8 @@ use Rattle.wire.proofs.words.word32_at.Tie as tie
 returns : tie.Need-returns
 returns c = simp (c.word32.ensures, c.before.byte-at4.ensures, c.before.before.byte-at3.ensures, c.before.before.before.byte-at2.ensures, c.before.before.before.before.byte_at.ensures, unary_clauses)
 
-pub word32-at-spec : {M : Type 1} → statement M
-word32-at-spec =
+pub word32_at_spec : {M : Type 1} → statement M
+word32_at_spec =
     tie.close
     (tie.spec
     (λ c κs. search rules)

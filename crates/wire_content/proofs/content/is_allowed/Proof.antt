@@ -6,5 +6,5 @@ use Rattle.wire_content.proofs.content.is_allowed.Tie as tie
 returns : tie.Need-returns
 returns c = refl
 
-pub is-allowed-spec : {M : Type 1} → statement M
-is-allowed-spec = tie.close (tie.spec returns)
+pub is_allowed_spec : {M : Type 1} → statement M
+is_allowed_spec = tie.close (tie.spec returns)

@@ -9,9 +9,9 @@ returns : tie.Need-returns
 unfolding read_of
 returns c = rw (eq-eqb _ _ c.before.if1.true) (cc)
 
-returns-2 : tie.Need-returns-2
+returns_2 : tie.Need-returns-2
 unfolding read_of
-returns-2 c = simp (ne_eqb _ _ c.before.if1.false, c.new.ensures)
+returns_2 c = simp (ne_eqb _ _ c.before.if1.false, c.new.ensures)
 
-pub read-content-spec : {M : Type 1} → statement M
-read-content-spec = tie.close (tie.spec (λ c κs. search rules) (λ c κs. search rules) returns returns-2)
+pub read_content_spec : {M : Type 1} → statement M
+read_content_spec = tie.close (tie.spec (λ c κs. search rules) (λ c κs. search rules) returns returns_2)

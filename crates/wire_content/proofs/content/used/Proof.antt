@@ -6,8 +6,8 @@ use Rattle.wire_content.proofs.content.used.Tie as tie
 returns : tie.Need-returns
 returns c = simp (le-leb _ _ c.if1.true)
 
-returns-2 : tie.Need-returns-2
-returns-2 c = simp (lt-leb _ _ c.if1.false)
+returns_2 : tie.Need-returns-2
+returns_2 c = simp (lt-leb _ _ c.if1.false)
 
-pub used-spec : {M : Type 1} → statement M
-used-spec = tie.close (tie.spec returns returns-2)
+pub used_spec : {M : Type 1} → statement M
+used_spec = tie.close (tie.spec returns returns_2)

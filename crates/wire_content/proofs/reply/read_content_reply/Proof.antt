@@ -1,20 +1,20 @@
 -- `read_content_reply` meets its contract: the test, and each answer. Assumes nothing.
 use borrow.Author.Tests.{eq-eqb, ne_eqb}
-use Rattle.wire_content.specs.Reply.{readReplyOf}
+use Rattle.wire_content.specs.Reply.{read_reply_of}
 use borrow.Author.Rules.{rules}
 use Rattle.wire_content.proofs.reply.read_content_reply.Statement.{statement}
 use Rattle.wire_content.proofs.reply.read_content_reply.Tie as tie
 
 returns : tie.Need-returns
-unfolding readReplyOf
+unfolding read_reply_of
 returns c = simp (eq-eqb _ _ c.before.before.before.before.if1.true, c.before.word16.ensures)
 
-returns-2 : tie.Need-returns-2
-unfolding readReplyOf
-returns-2 c = simp (ne_eqb _ _ c.if1.false)
+returns_2 : tie.Need-returns-2
+unfolding read_reply_of
+returns_2 c = simp (ne_eqb _ _ c.if1.false)
 
-pub read-content-reply-spec : {M : Type 1} → statement M
-read-content-reply-spec =
+pub read_content_reply_spec : {M : Type 1} → statement M
+read_content_reply_spec =
     tie.close
     (tie.spec
     (λ c. search rules)
@@ -22,4 +22,4 @@ read-content-reply-spec =
     (λ c κs. search rules)
     (λ c. search rules)
     returns
-    returns-2)
+    returns_2)

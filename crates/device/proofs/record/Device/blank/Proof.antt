@@ -6,5 +6,5 @@ use Rattle.device.proofs.record.Device.blank.Tie as tie
 returns : tie.Need-returns
 returns c = rw (c.idle.ensures, c.before.blank-component.ensures)
 
-pub blank-spec : {M : Type 1} → statement M
-blank-spec = tie.close (tie.spec (λ c κs. search rules) (λ c κs. search rules) returns)
+pub blank_spec : {M : Type 1} → statement M
+blank_spec = tie.close (tie.spec (λ c κs. search rules) (λ c κs. search rules) returns)

@@ -4,12 +4,12 @@ use mathlib.Core.List.{List}
 use Prim.Native.Nat.{ℕ}
 use lib.ListN.{set}
 use Rattle.device_component.specs.declared.record.Component.{Component}
-use Rattle.device_session.specs.Stage.{atSlot}
-use Rattle.device_receiving.specs.Receive.{onContent, stagingAfter}
+use Rattle.device_session.specs.Stage.{at_slot}
+use Rattle.device_receiving.specs.Receive.{on_content, staging_after}
 use Rattle.device_receiving.specs.declared.content.Taken.{Taken}
 use Rattle.device.specs.Record.{component}
-use Rattle.device.specs.Refusals.{Outcome, servedWith}
-use Rattle.device.specs.Content.{sessionComponent, received}
+use Rattle.device.specs.Refusals.{Outcome, served_with}
+use Rattle.device.specs.Content.{session_component, received}
 use Rattle.device.specs.declared.record.Device.{Device}
 use borrow.Author.Rules.{rules}
 use Rattle.device.proofs.record.Device.on_content.Statement.{statement}
@@ -17,11 +17,11 @@ use Rattle.device.proofs.record.Device.on_content.Tie as tie
 
 -- what is done with the component in a slot, where that is the session's
 stored : (d : Device) (p s s' : List ℕ) (slot : ℕ) (c : Component) (t : Taken) (cs : List Component) (a : Outcome)
-    → slot ≡ atSlot d.session.stage → c ≡ component d slot
-    → (t ≡ onContent c d.session p s) × (s' ≡ stagingAfter c.fixed.region d.session p s)
-    → cs ≡ set d.components slot t.component → a ≡ servedWith d cs t.effect
-    → (a ≡ received d (onContent (sessionComponent d) d.session p s))
-    × (s' ≡ stagingAfter (sessionComponent d).fixed.region d.session p s)
+    → slot ≡ at_slot d.session.stage → c ≡ component d slot
+    → (t ≡ on_content c d.session p s) × (s' ≡ staging_after c.fixed.region d.session p s)
+    → cs ≡ set d.components slot t.component → a ≡ served_with d cs t.effect
+    → (a ≡ received d (on_content (session_component d) d.session p s))
+    × (s' ≡ staging_after (session_component d).fixed.region d.session p s)
 stored d p s s' slot c t cs a x y z v w = let h = rw (y, x) at z in (rw (w, v, h.0, x), h.1)
 
 returns : tie.Need-returns
@@ -32,8 +32,8 @@ returns c =
     stored a.self a.report.now a.staging.now j.on-report.new.1.1.1.0 k.before.slot.result k.component-at.result j.on-report.result c.before.with-component.result _
     k.before.slot.ensures k.component-at.ensures j.on-report.ensures c.before.with-component.ensures c.served.ensures
 
-pub on-content-spec : {M : Type 1} → statement M
-on-content-spec =
+pub on_content_spec : {M : Type 1} → statement M
+on_content_spec =
     tie.close
     (tie.spec
     (λ c κs. search rules)

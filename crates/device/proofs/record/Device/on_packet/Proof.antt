@@ -15,8 +15,8 @@ returns c =
       c.before.before.before.before.before.id-of.ensures,
     )
 
-pub on-packet-spec : {M : Type 1} → statement M
-on-packet-spec =
+pub on_packet_spec : {M : Type 1} → statement M
+on_packet_spec =
     tie.close
     (tie.spec
     (λ c κs. search rules)

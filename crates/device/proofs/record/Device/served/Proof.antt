@@ -6,5 +6,5 @@ use Rattle.device.proofs.record.Device.served.Tie as tie
 returns : tie.Need-returns
 returns c = rw c.with-session.ensures
 
-pub served-spec : {M : Type 1} → statement M
-served-spec = tie.close (tie.spec (λ c κs. search rules) returns)
+pub served_spec : {M : Type 1} → statement M
+served_spec = tie.close (tie.spec (λ c κs. search rules) returns)

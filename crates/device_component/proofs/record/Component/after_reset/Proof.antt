@@ -6,5 +6,5 @@ use Rattle.device_component.proofs.record.Component.after_reset.Tie as tie
 returns : tie.Need-returns
 returns c = rw c.effective.ensures
 
-pub after-reset-spec : {M : Type 1} → statement M
-after-reset-spec = tie.close (tie.spec (λ c κs. search rules) returns)
+pub after_reset_spec : {M : Type 1} → statement M
+after_reset_spec = tie.close (tie.spec (λ c κs. search rules) returns)

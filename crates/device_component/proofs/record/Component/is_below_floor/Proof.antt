@@ -6,5 +6,5 @@ use Rattle.device_component.proofs.record.Component.is_below_floor.Tie as tie
 returns : tie.Need-returns
 returns c = cc
 
-pub is-below-floor-spec : {M : Type 1} → statement M
-is-below-floor-spec = tie.close (tie.spec (λ c κs. search rules) (λ c κs. search rules) returns)
+pub is_below_floor_spec : {M : Type 1} → statement M
+is_below_floor_spec = tie.close (tie.spec (λ c κs. search rules) (λ c κs. search rules) returns)

@@ -6,5 +6,5 @@ use Rattle.device_component.proofs.record.Component.is_old.Tie as tie
 returns : tie.Need-returns
 returns c = cc
 
-pub is-old-spec : {M : Type 1} → statement M
-is-old-spec = tie.close (tie.spec (λ c κs. search rules) (λ c κs. search rules) returns)
+pub is_old_spec : {M : Type 1} → statement M
+is_old_spec = tie.close (tie.spec (λ c κs. search rules) (λ c κs. search rules) returns)

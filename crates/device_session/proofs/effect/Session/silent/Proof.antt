@@ -6,5 +6,5 @@ use Rattle.device_session.proofs.effect.Session.silent.Tie as tie
 returns : tie.Need-returns
 returns c = rw c.none.ensures
 
-pub silent-spec : {M : Type 1} → statement M
-silent-spec = tie.close (tie.spec (λ c κs. search rules) returns)
+pub silent_spec : {M : Type 1} → statement M
+silent_spec = tie.close (tie.spec (λ c κs. search rules) returns)

@@ -6,14 +6,14 @@ use Rattle.device_session.proofs.stage.Stage.sequence_verdict.Tie as tie
 returns : tie.Need-returns
 returns c = rw (c.before.before.before.self.given.1, eq-eqb _ _ c.if1.true)
 
-returns-4 : tie.Need-returns-4
-returns-4 c = rw (c.before.before.before.before.self.given.1, ne_eqb _ _ c.before.if1.false, c.if2.true)
+returns_4 : tie.Need-returns-4
+returns_4 c = rw (c.before.before.before.before.self.given.1, ne_eqb _ _ c.before.if1.false, c.if2.true)
 
-returns-5 : tie.Need-returns-5
-returns-5 c = rw (c.before.before.before.before.self.given.1, ne_eqb _ _ c.before.if1.false, c.if2.false)
+returns_5 : tie.Need-returns-5
+returns_5 c = rw (c.before.before.before.before.self.given.1, ne_eqb _ _ c.before.if1.false, c.if2.false)
 
-pub sequence-verdict-spec : {M : Type 1} → statement M
-sequence-verdict-spec =
+pub sequence_verdict_spec : {M : Type 1} → statement M
+sequence_verdict_spec =
     tie.close
     (tie.spec
     (λ c. search rules)
@@ -22,5 +22,5 @@ sequence-verdict-spec =
     returns
     (λ c. search rules)
     (λ c. search rules)
-    returns-4
-    returns-5)
+    returns_4
+    returns_5)

@@ -6,5 +6,5 @@ use Rattle.image.proofs.region.Region.place_of.Tie as tie
 returns : tie.Need-returns
 returns c = rw c.before.number.ensures
 
-pub place-of-spec : {M : Type 1} → statement M
-place-of-spec = tie.close (tie.spec (λ c κs. search rules) (λ c. search rules) returns)
+pub place_of_spec : {M : Type 1} → statement M
+place_of_spec = tie.close (tie.spec (λ c κs. search rules) (λ c. search rules) returns)

@@ -31,12 +31,14 @@ covered_after : (r : Block) (rs : List Block) (x : ℕ) → Apart (r ∷ rs) →
 unfolding Apart Covers
 covered_after r (s ∷ rs) x h (inl c) = omega (arith, h.0, c.0)
 covered_after r (s ∷ rs) x h (inr c) = omega (arith, h.0, covered_after s rs x h.1 c)
+covered_after r [] x h x4 = elim x4 [ ]
 
 -- a record whose next place is covered is full
 touched : (r : Block) (rs : List Block) → Apart (r ∷ rs) → Full (r ∷ rs) → Covers rs (end_of r) → length r.bytes ≡ data_limit
 unfolding Apart Full Covers
 touched r (s ∷ rs) h f (inl c) = f.0 (omega (arith, h.0, c.0))
 touched r (s ∷ rs) h f (inr c) = f.0 (omega (arith, h.0, covered_after s rs (end_of r) h.1 c))
+touched r [] h f x3 = elim x3 [ ]
 
 module _ (d : List ℕ) where
   -- records with the rule from a place on

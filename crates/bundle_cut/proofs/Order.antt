@@ -157,6 +157,7 @@ covers_first : (rs ss : List Block) (x : ℕ) → Covers rs x → Covers (rs ++ 
 unfolding Covers
 covers_first (r ∷ rs) ss x (inl h) = inl h
 covers_first (r ∷ rs) ss x (inr h) = inr (covers_first rs ss x h)
+covers_first [] ss x x3 = elim x3 [ ]
 
 covers_last : (rs ss : List Block) (x : ℕ) → Covers ss x → Covers (rs ++ ss) x
 unfolding Covers

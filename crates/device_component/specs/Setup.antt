@@ -1,5 +1,5 @@
 -- Rows S1 to S5 (document 01, "Numbered refusals"; S5: document 02, A5), tried one after another over the whole list.
-use Rattle.std.specs.Prelude.{ℕ, ◌+◌, Bool, not, cond, ◌||◌, ◌&&◌, List, [], ◌∷◌, ltb, leb, eqb, take}
+use Rattle.std.specs.Prelude.{ℕ, ◌+◌, Bool, not, cond, ◌||◌, ◌&&◌, List, [], ◌∷◌, ltb, eqb, take}
 use Rattle.wire.specs.Codes.{component_limit, id_limit}
 use Rattle.wire.specs.Checks.{first_of, any, pairs}
 use Rattle.wire.specs.Version.{variant_of}

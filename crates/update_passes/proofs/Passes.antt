@@ -82,6 +82,7 @@ some_mono (j ∷ js) p q h t =
 and_mono : (a b c : Bool) → (T a → T b) → T (a && c) → T (b && c)
 and_mono true true c h t = t
 and_mono true false c h t = h tt
+and_mono false b c h t = elim t [ ]
 
 -- a need that a set meets, a larger set meets
 pub need_monotone : NeedMonotone

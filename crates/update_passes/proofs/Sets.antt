@@ -64,6 +64,7 @@ pub some_in : (os : List ℕ) (p : ℕ → Bool) (j : ℕ) → In j os → T (p 
 unfolding any
 some_in (k ∷ ks) p j (inl q) t = or_inl (p k) (any p ks) (subst (λ (n : ℕ). T (p n)) q t)
 some_in (k ∷ ks) p j (inr m) t = or_inr (p k) (any p ks) (some_in ks p j m t)
+some_in [] p j x'' t = elim x'' [ ]
 
 -- weights grow with the set
 cond_mono : (a b : Bool) (n : ℕ) → (T a → T b) → cond a n zero ≤ cond b n zero

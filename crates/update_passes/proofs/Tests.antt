@@ -16,6 +16,7 @@ bool_cases false f g = g tt
 -- one of two tests: the first
 pub or_inl : (a b : Bool) → T a → T (a || b)
 or_inl true b t = tt
+or_inl false b t = elim t [ ]
 
 -- one of two tests: the second
 pub or_inr : (a b : Bool) → T b → T (a || b)
@@ -30,26 +31,33 @@ or_cases false b f g t = g t
 -- neither of two tests: not the first
 pub nor_l : (a b : Bool) → T (not (a || b)) → T (not a)
 nor_l false b t = tt
+nor_l true b t = elim t [ ]
 
 -- neither of two tests: not the second
 pub nor_r : (a b : Bool) → T (not (a || b)) → T (not b)
 nor_r false b t = t
+nor_r true b t = elim t [ ]
 
 -- a test that does not fail
 pub not_not : (a : Bool) → T (not (not a)) → T a
 not_not true t = tt
+not_not false t = elim t [ ]
 
 -- both of two tests
 pub both : (a b : Bool) → T a → T b → T (a && b)
 both true true p q = tt
+both false b p q = elim p [ ]
+both true false p q = elim q [ ]
 
 -- the first of two tests
 pub and_l : (a b : Bool) → T (a && b) → T a
 and_l true b t = tt
+and_l false b t = elim t [ ]
 
 -- the second of two tests
 pub and_r : (a b : Bool) → T (a && b) → T b
 and_r true b t = t
+and_r false b t = elim t [ ]
 
 -- not both of two tests
 pub nand : {C : Type 0} (a b : Bool) → (T (not a) → C) → (T (not b) → C) → T (not (a && b)) → C
@@ -59,10 +67,12 @@ nand false b f g t = f tt
 -- a test that is known, as an equation to rewrite by
 pub is_true : (b : Bool) → T b → b ≡ true
 is_true true t = refl
+is_true false t = elim t [ ]
 
 -- a test that fails is false
 pub is_false : (b : Bool) → T (not b) → b ≡ false
 is_false false t = refl
+is_false true t = elim t [ ]
 
 -- a test that is true holds
 pub holds : (b : Bool) → b ≡ true → T b

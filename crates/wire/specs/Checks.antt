@@ -1,5 +1,5 @@
 -- Checks in a list: the first that applies answers. Some, every, some two, and the first of a list.
-use Rattle.std.specs.Prelude.{ℕ, zero, suc, Bool, false, cond, ◌||◌, List, [], ◌∷◌}
+use Rattle.std.specs.Prelude.{Bool, false, cond, ◌||◌, List, [], ◌∷◌}
 
 module _ {A : Type 0} where
   -- the answer of the first check that applies, or `last` where none does

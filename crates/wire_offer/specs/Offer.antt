@@ -2,7 +2,7 @@
 use Rattle.std.specs.Prelude.{ℕ, ◌*◌, ◌/◌, ◌%◌, ◌^◌, ◌<◌, Bool, true, false, cond, ◌&&◌, List, ◌∷◌, ◌++◌, eqb, leb, ltb, get_or, replicate}
 use Rattle.wire.specs.Bytes.{number, bytes_of, bytes_at}
 use Rattle.wire.specs.Version.{FitsVersion, version_at, version_bytes}
-use Rattle.wire.specs.Rows.{Row, served, row_p, row_of, Told}
+use Rattle.wire.specs.Rows.{served, row_p, row_of, Told}
 use Rattle.wire.specs.Codes.{short_size}
 use Rattle.wire_offer.specs.declared.offer.OfferFields.{OfferFields}
 use Rattle.wire_offer.specs.declared.offer.BuiltOffer.{BuiltOffer}

@@ -1,0 +1,6 @@
+-- `BundleVerdict::is_refused`: by the number. Assumes nothing.
+use borrow.Author.Rules.{rules}
+use Rattle.bundle_layout.proofs.BundleVerdict.is_refused.Goals as goal
+
+pub returns : goal.returns
+returns c = rw c.number.ensures

@@ -1,0 +1,6 @@
+-- `blank::refused`: the row with no contents. Assumes nothing.
+use borrow.Author.Rules.{rules}
+use Rattle.bundle_layout.proofs.blank.refused.Goals as goal
+
+pub returns : goal.returns
+returns c = rw c.no_entries-none.ensures

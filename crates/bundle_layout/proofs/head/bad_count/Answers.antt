@@ -1,0 +1,6 @@
+-- `head::bad_count`: the count is byte 0. Assumes nothing.
+use borrow.Author.Rules.{rules}
+use Rattle.bundle_layout.proofs.head.bad_count.Goals as goal
+
+pub returns : goal.returns
+returns c = rw c.byte_at-count.ensures

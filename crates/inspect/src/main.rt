@@ -20,17 +20,14 @@ fn print_entry(out: &mut impl Write, e: Entry) -> io::Result<()> {
     text(out, b"\n")
 }
 
-fn print_entries(
-    out: &mut impl Write,
-    table: [Entry; OFFER_LIMIT],
-    count: u8,
-) -> io::Result<()> {
+fn print_entries(out: &mut impl Write, table: [Entry; OFFER_LIMIT], count: u8) -> io::Result<()> {
     for e in table.iter().take(count as usize) {
         print_entry(out, *e)?;
     }
     Ok(())
 }
 
+// What the bundle contains, or what refuses it; more bytes than the buffer holds are too many.
 fn run(input: &mut impl Read, out: &mut impl Write) -> io::Result<()> {
     let mut buffer = [0u8; 65536];
     let n = read_full(input, &mut buffer)?;

@@ -90,18 +90,14 @@ fn wide(n: u8) -> usize {
 }
 
 // The next frame. Its packet comes into the buffer.
-fn next_frame(
-    input: &mut impl Read,
-    out: &mut impl Write,
-    packet: &mut [u8],
-) -> io::Result<Frame> {
+fn next_frame(input: &mut impl Read, out: &mut impl Write, packet: &mut [u8]) -> io::Result<Frame> {
     let mut head = [0u8; 2];
     let got = read_full(input, &mut head)?;
     if got == 0 {
         return Ok(ended());
     }
     let n = wide(head[1]);
-    if (got < 2) || !read_first(input, packet, n)? {
+    if got < 2 || !read_first(input, packet, n)? {
         text(out, b"cut frame\n")?;
         return Ok(ended());
     }
@@ -174,8 +170,8 @@ fn serve(
         if !frame.whole {
             break;
         }
-        let len = frame.len;
-        turn(out, &mut device, staging, frame, run_print::first(packet, len))?;
+        let report = run_print::first(packet, frame.len);
+        turn(out, &mut device, staging, frame, report)?;
     }
     Ok(())
 }

@@ -108,6 +108,7 @@ fn run_frame(
     }
 }
 
+// The frames of the script, one after the other.
 fn run(input: &mut impl Read, out: &mut impl Write) -> io::Result<()> {
     let mut buffer = [0u8; 65600];
     let mut record = [0u8; DEVICE_SIZE];

@@ -55,6 +55,7 @@ fn run_frame(
     Ok(len)
 }
 
+// The frames of the script, one after the other.
 fn run(input: &mut impl Read, out: &mut impl Write) -> io::Result<()> {
     let mut record = [0u8; HOST_SIZE];
     let mut bundle = [0u8; PAYLOAD_SIZE];

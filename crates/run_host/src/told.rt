@@ -39,7 +39,12 @@ fn stage(out: &mut impl Write, b: &[u8]) -> io::Result<()> {
     let first = rest(b, FIRST_AT as usize);
     let second = rest(b, SECOND_AT as usize);
     if stage == ENDED {
-        return pick(out, b"done|H1 status %4|H2|H3|H4", byte_at(first, 0), second);
+        return pick(
+            out,
+            b"done|H1 status %4|H2|H3|H4",
+            byte_at(first, 0),
+            second,
+        );
     }
     pick(
         out,

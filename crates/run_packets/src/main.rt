@@ -40,6 +40,7 @@ fn run_frame(out: &mut impl Write, kind: u8, p: &[u8]) -> io::Result<()> {
     line::word(out, names::END)
 }
 
+// The frames of the script, one after the other.
 fn run(input: &mut impl Read, out: &mut impl Write) -> io::Result<()> {
     for _ in 0..FRAMES {
         let mut payload = [0u8; PAYLOAD_SIZE];

@@ -45,11 +45,7 @@ pub struct Frame {
 }
 
 // The next frame of the input: kind, length (2 bytes) and payload, which comes into the buffer. The payload of `#` is printed.
-pub fn next(
-    input: &mut impl Read,
-    out: &mut impl Write,
-    payload: &mut [u8],
-) -> io::Result<Frame> {
+pub fn next(input: &mut impl Read, out: &mut impl Write, payload: &mut [u8]) -> io::Result<Frame> {
     let mut head = [0u8; 3];
     if read_first(input, &mut head, 3)? {
         let kind = head[0];

@@ -202,6 +202,7 @@ fn run_case(out: &mut impl Write, p: &[u8], twice: bool) -> io::Result<()> {
     Ok(())
 }
 
+// The frames of the script, one after the other.
 fn run(input: &mut impl Read, out: &mut impl Write) -> io::Result<()> {
     for _ in 0..FRAMES {
         let mut payload = [0u8; PAYLOAD_SIZE];

@@ -6,7 +6,7 @@ use native.Mathlib.Omega.{arith}
 use lib.Dec.{eqb}
 use Rattle.bundle_layout.specs.declared.BundleVerdict.{BundleVerdict}
 use Rattle.bundle_layout.specs.declared.BundleVerdict.TheVariants.{Fine, B1, B2, B3, B4, B5, B6, B7, B8}
-use Rattle.bundle_layout.specs.Rows.{Row, served, row_b, number_of, is_refused, row_at, row_of, verdict_of}
+use Rattle.bundle_layout.specs.Rows.{served, row_b, number_of, is_refused, row_at, row_of, verdict_of}
 
 -- a verdict is that of its number
 pub verdict_number : (v : BundleVerdict) → verdict_of (number_of v) ≡ v

@@ -1,6 +1,6 @@
 -- The bundle's layout (document 01, "The bundle"): byte 0 count, byte 1 = 1, bytes 2-7 zero; per offer 24 bytes, the offer, the body's offset (4)
 -- and its length (4); then the bodies.
-use Rattle.std.specs.Prelude.{ℕ, zero, suc, ◌+◌, ◌*◌, List, [], ◌∷◌, length, get_or, take, drop}
+use Rattle.std.specs.Prelude.{ℕ, zero, suc, ◌+◌, ◌*◌, List, [], ◌∷◌, get_or, take, drop}
 use Rattle.wire.specs.Bytes.{number, bytes_at}
 use Rattle.wire.specs.Codes.{short_size}
 use Rattle.wire_offer.specs.Offer.{blank_offer}

@@ -1,5 +1,4 @@
 -- `BundleVerdict::is_refused`: by the number. Assumes nothing.
-use borrow.Author.Rules.{rules}
 use Rattle.bundle_layout.proofs.BundleVerdict.is_refused.Goals as goal
 
 pub returns : goal.returns

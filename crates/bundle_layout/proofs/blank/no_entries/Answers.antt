@@ -1,5 +1,4 @@
 -- `blank::no_entries`: no entry, as often as the limit. Assumes nothing.
-use borrow.Author.Rules.{rules}
 use Rattle.bundle_layout.proofs.blank.no_entries.Goals as goal
 
 pub returns : goal.returns

@@ -1,5 +1,4 @@
 -- `blank::no_entry`: every field is zero. Assumes nothing.
-use borrow.Author.Rules.{rules}
 use Rattle.bundle_layout.proofs.blank.no_entry.Goals as goal
 
 pub returns : goal.returns

@@ -1,5 +1,4 @@
 -- `blank::refused`: the row with no contents. Assumes nothing.
-use borrow.Author.Rules.{rules}
 use Rattle.bundle_layout.proofs.blank.refused.Goals as goal
 
 pub returns : goal.returns

@@ -1,5 +1,4 @@
 -- `head::bad_count`: the count is byte 0. Assumes nothing.
-use borrow.Author.Rules.{rules}
 use Rattle.bundle_layout.proofs.head.bad_count.Goals as goal
 
 pub returns : goal.returns

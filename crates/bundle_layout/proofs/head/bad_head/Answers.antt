@@ -1,7 +1,6 @@
 -- `head::bad_head`: the tests in another bracketing. Assumes nothing.
 use mathlib.Core.Bool.{or_assoc, or-false}
 use Rattle.wire.specs.Checks.{any}
-use borrow.Author.Rules.{rules}
 use Rattle.bundle_layout.proofs.head.bad_head.Goals as goal
 
 pub returns : goal.returns

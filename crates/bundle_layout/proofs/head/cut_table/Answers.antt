@@ -1,5 +1,4 @@
 -- `head::cut_table`: the table's end is that of the definition. Assumes nothing.
-use borrow.Author.Rules.{rules}
 use Rattle.bundle_layout.proofs.head.cut_table.Goals as goal
 
 pub returns : goal.returns

@@ -1,7 +1,6 @@
 -- `parts::bad_offer`: the tests in another bracketing. Assumes nothing.
 use mathlib.Core.Bool.{or_assoc, or-false}
 use Rattle.wire.specs.Checks.{any}
-use borrow.Author.Rules.{rules}
 use Rattle.bundle_layout.proofs.parts.bad_offer.Goals as goal
 
 pub returns : goal.returns

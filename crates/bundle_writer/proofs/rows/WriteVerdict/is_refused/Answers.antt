@@ -1,0 +1,6 @@
+-- `WriteVerdict::is_refused`: by the number. Assumes nothing.
+use borrow.Author.Rules.{rules}
+use Rattle.bundle_writer.proofs.rows.WriteVerdict.is_refused.Goals as goal
+
+pub returns : goal.returns
+returns c = rw c.number.ensures

@@ -1,0 +1,6 @@
+-- `decide::completes`: the mask has the bit. Assumes nothing.
+use borrow.Author.Rules.{rules}
+use Rattle.host_decide.proofs.decide.completes.Goals as goal
+
+pub returns : goal.returns
+returns c = rw c.with_bit.ensures

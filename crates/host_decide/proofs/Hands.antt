@@ -1,5 +1,5 @@
 -- A block that is sent is of the entry in hand. Assumes nothing.
-use mathlib.Core.Path.{◌≡◌, refl, ap, subst}
+use mathlib.Core.Path.{◌≡◌, refl, subst}
 use mathlib.Core.Bool.{Bool, true, false, cond}
 use mathlib.Core.List.{List}
 use Prim.Native.Nat.{ℕ, ◌+◌}
@@ -11,7 +11,6 @@ use Rattle.host_record.specs.Fits.{record_breaks, last_of, in_hand}
 use Rattle.host_decide.specs.declared.Action.{Action}
 use Rattle.host_decide.specs.declared.Action.TheVariants.{Nothing, Information, Notify, Offer, Block}
 use Rattle.host_decide.specs.declared.Move.{Move}
-use Rattle.host_decide.specs.declared.Decided.{Decided}
 use Rattle.host_decide.specs.declared.Decided.TheVariants.{N1, Moves}
 use Rattle.host_decide.specs.Decide.{ends, offer_from, noted, completes, decide_in, decide_of, decision_of, BlocksInHand}
 use Rattle.host_decide.proofs.Moves.{offer_cases, opening_cases, listing_cases, offering_cases, waiting_cases, sending_cases, closing_cases}

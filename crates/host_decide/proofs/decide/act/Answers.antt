@@ -3,7 +3,6 @@ use borrow.Author.Tests.{lt-ltb, le-ltb, ne_eqb}
 use mathlib.Core.Path.{ap, ◌∙◌}
 use Prim.Native.Nat.{◌+◌}
 use Rattle.host_decide.specs.Decide.{act, offer_from}
-use borrow.Author.Rules.{rules}
 use Rattle.host_decide.proofs.decide.act.Goals as goal
 
 pub offer_from-requires-in-4 : goal.offer_from-requires-in-4
@@ -50,6 +49,6 @@ returns-else-replays c = rw (c.in-7.is, ← c.replays.ensures, c.if-replays.fals
 pub returns-in_default : goal.returns-in_default
 unfolding act
 returns-in_default c =
-    let r = c.in_default in
-    simp (ne_eqb _ 1 r.not-1, ne_eqb _ 2 r.not-2, ne_eqb _ 3 r.not-3, ne_eqb _ 4 r.not-4, ne_eqb _ 5 r.not-5, ne_eqb _ 6 r.not-6, ne_eqb _ 7 r.not-7)
+    let r = c.in_default.in_default-own.rest in
+    simp (ne_eqb _ 1 r.0.0.0.0.0.0.1, ne_eqb _ 2 r.0.0.0.0.0.1, ne_eqb _ 3 r.0.0.0.0.1, ne_eqb _ 4 r.0.0.0.1, ne_eqb _ 5 r.0.0.1, ne_eqb _ 6 r.0.1, ne_eqb _ 7 r.1)
     c.ends-in_default.ensures

@@ -1,5 +1,4 @@
 -- `decide::completes`: the mask has the bit. Assumes nothing.
-use borrow.Author.Rules.{rules}
 use Rattle.host_decide.proofs.decide.completes.Goals as goal
 
 pub returns : goal.returns

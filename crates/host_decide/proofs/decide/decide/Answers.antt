@@ -3,7 +3,6 @@ use mathlib.Core.Path.{◌∙◌, subst}
 use Rattle.host_record.specs.Spare.{SpareIn}
 use Rattle.host_decide.specs.Decide.{decide_in}
 use Rattle.host_decide.proofs.decide.Laws.{by_stage}
-use borrow.Author.Rules.{rules}
 use Rattle.host_decide.proofs.decide.decide.Goals as goal
 
 pub hears-requires-in-Offering : goal.hears-requires-in-Offering

@@ -2,7 +2,6 @@
 use mathlib.Core.Path.{ap, ◌∙◌}
 use Prim.Native.Nat.{◌+◌}
 use Rattle.host_decide.specs.Decide.{offer_from}
-use borrow.Author.Rules.{rules}
 use Rattle.host_decide.proofs.decide.goes_on.Goals as goal
 
 pub offer_from-requires : goal.offer_from-requires

@@ -4,7 +4,6 @@ use mathlib.Core.Path.{◌≡◌, ◌∙◌}
 use Rattle.wire_offer.specs.Reply.{reply_in}
 use Rattle.host_decide.specs.Decide.{hears}
 use Rattle.host_decide.proofs.decide.Laws.{offer_read}
-use borrow.Author.Rules.{rules}
 use Rattle.host_decide.proofs.decide.hears.Goals.{After-read_offer_reply-read}
 use Rattle.host_decide.proofs.decide.hears.Goals as goal
 

@@ -4,7 +4,6 @@ use mathlib.Core.Path.{◌≡◌, ap, ◌∙◌}
 use Rattle.wire_content.specs.Reply.{reply_in}
 use Rattle.host_decide.specs.Decide.{hears_reply, hears_block}
 use Rattle.host_decide.proofs.decide.Laws.{content_read}
-use borrow.Author.Rules.{rules}
 use Rattle.host_decide.proofs.decide.hears_block.Goals.{After-read_content_reply-read}
 use Rattle.host_decide.proofs.decide.hears_block.Goals as goal
 

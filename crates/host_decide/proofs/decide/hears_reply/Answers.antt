@@ -1,7 +1,6 @@
 -- `decide::hears_reply`: whether it repeats the one just taken, then the sequence, then the status. Assumes nothing.
 use borrow.Author.Tests.{eq-eqb, ne_eqb}
 use mathlib.Core.Path.{sym}
-use borrow.Author.Rules.{rules}
 use Rattle.host_decide.proofs.decide.hears_reply.Goals as goal
 
 pub returns-then-repeats_taken : goal.returns-then-repeats_taken

@@ -1,6 +1,5 @@
 -- `decide::offer_from`: by the test. Assumes nothing.
 use borrow.Author.Tests.{lt-ltb, le-ltb}
-use borrow.Author.Rules.{rules}
 use Rattle.host_decide.proofs.decide.offer_from.Goals as goal
 
 pub returns-then-entry-n : goal.returns-then-entry-n

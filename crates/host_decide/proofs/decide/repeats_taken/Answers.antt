@@ -1,7 +1,6 @@
 -- `decide::repeats_taken`: no block stands before block 0; else the tests as they are. Assumes nothing.
 use borrow.Author.Tests.{le-leb}
 use native.Mathlib.Omega.{arith}
-use borrow.Author.Rules.{rules}
 use Rattle.host_decide.proofs.decide.repeats_taken.Goals as goal
 
 pub returns-then-block-eq0 : goal.returns-then-block-eq0

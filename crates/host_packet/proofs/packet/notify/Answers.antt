@@ -1,0 +1,9 @@
+-- `packet::notify` meets its contract: what is built, the rest cleared. Assumes nothing.
+use mathlib.Core.Path.{ap, ◌∙◌}
+use mathlib.Core.List.{List, ◌++◌}
+use Prim.Native.Nat.{ℕ}
+use lib.ListN.{replicate}
+use Rattle.host_packet.proofs.packet.notify.Goals as goal
+
+pub returns : goal.returns
+returns c = c.lay.ensures ∙ ap (λ (q : List ℕ). q ++ replicate 44 0) c.build_extended-p.ensures

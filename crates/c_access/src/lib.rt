@@ -40,8 +40,7 @@ fn listed(c: CListed) -> Listed
 }
 
 // A component goes into the list that set-up takes, at a place counted from 0; a refusal leaves the list as it was.
-#[unsafe(no_mangle)]
-pub extern "C" fn cfu_list_put(list: &mut [u8], place: u32, component: CListed) -> u32
+pub fn cfu_list_put(list: &mut [u8], place: u32, component: CListed) -> u32
     ensures { leaves result list.new ≡ list_call list.old place component }
 {
     if list.len() != LIST_SIZE {
@@ -118,8 +117,7 @@ fn told(c: Component) -> CComponent
 }
 
 // The component of a device at a place counted from 0.
-#[unsafe(no_mangle)]
-pub extern "C" fn cfu_device_component(device: &[u8], place: u32) -> CComponent
+pub fn cfu_device_component(device: &[u8], place: u32) -> CComponent
     ensures { result ≡ component_call device.now place }
 {
     if device.len() != DEVICE_SIZE {
@@ -162,8 +160,7 @@ fn body_told(body: Body) -> CEntry
 }
 
 // The entry of a checked bundle at a place counted from 0, by the contents that the check left.
-#[unsafe(no_mangle)]
-pub extern "C" fn cfu_contents_entry(contents: &[u8], place: u32) -> CEntry
+pub fn cfu_contents_entry(contents: &[u8], place: u32) -> CEntry
     ensures { result ≡ entry_call contents.now place }
 {
     if !are_contents(contents) {

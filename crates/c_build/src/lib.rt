@@ -56,13 +56,7 @@ fn built_offer(o: COffer) -> BuiltOffer
     }
 }
 
-#[unsafe(no_mangle)]
-pub extern "C" fn cfu_build_version_reply(
-    count: u8,
-    protocol: u8,
-    components: &[u8],
-    packet: &mut [u8],
-) -> u32
+pub fn cfu_build_version_reply(count: u8, protocol: u8, components: &[u8], packet: &mut [u8]) -> u32
     ensures { leaves result packet.new ≡ build_version_reply_call count protocol components.now packet.old }
 {
     if components.len() != COMPONENTS_SIZE {
@@ -79,8 +73,7 @@ pub extern "C" fn cfu_build_version_reply(
     leave(packet, packet_number(verdict), &p)
 }
 
-#[unsafe(no_mangle)]
-pub extern "C" fn cfu_build_offer(offer: COffer, packet: &mut [u8]) -> u32
+pub fn cfu_build_offer(offer: COffer, packet: &mut [u8]) -> u32
     ensures { leaves result packet.new ≡ build_offer_call offer packet.old }
 {
     let built = built_offer(offer);
@@ -89,24 +82,21 @@ pub extern "C" fn cfu_build_offer(offer: COffer, packet: &mut [u8]) -> u32
     leave(packet, packet_number(verdict), &p)
 }
 
-#[unsafe(no_mangle)]
-pub extern "C" fn cfu_build_information(code: u8, token: u8, packet: &mut [u8]) -> u32
+pub fn cfu_build_information(code: u8, token: u8, packet: &mut [u8]) -> u32
     ensures { leaves result packet.new ≡ build_information_call code token packet.old }
 {
     let p = build_information(Signal { code, token });
     leave(packet, SERVED, &p)
 }
 
-#[unsafe(no_mangle)]
-pub extern "C" fn cfu_build_extended(code: u8, token: u8, packet: &mut [u8]) -> u32
+pub fn cfu_build_extended(code: u8, token: u8, packet: &mut [u8]) -> u32
     ensures { leaves result packet.new ≡ build_extended_call code token packet.old }
 {
     let p = build_extended(Signal { code, token });
     leave(packet, SERVED, &p)
 }
 
-#[unsafe(no_mangle)]
-pub extern "C" fn cfu_build_offer_reply(token: u8, reason: u8, status: u8, packet: &mut [u8]) -> u32
+pub fn cfu_build_offer_reply(token: u8, reason: u8, status: u8, packet: &mut [u8]) -> u32
     ensures { leaves result packet.new ≡ build_offer_reply_call token reason status packet.old }
 {
     let p = build_offer_reply(OfferReply {
@@ -117,8 +107,7 @@ pub extern "C" fn cfu_build_offer_reply(token: u8, reason: u8, status: u8, packe
     leave(packet, SERVED, &p)
 }
 
-#[unsafe(no_mangle)]
-pub extern "C" fn cfu_build_content(
+pub fn cfu_build_content(
     flags: u8,
     length: u8,
     sequence: u16,
@@ -145,8 +134,7 @@ pub extern "C" fn cfu_build_content(
     leave(packet, packet_number(verdict), &p)
 }
 
-#[unsafe(no_mangle)]
-pub extern "C" fn cfu_build_content_reply(sequence: u16, status: u8, packet: &mut [u8]) -> u32
+pub fn cfu_build_content_reply(sequence: u16, status: u8, packet: &mut [u8]) -> u32
     ensures { leaves result packet.new ≡ build_content_reply_call sequence status packet.old }
 {
     let p = build_content_reply(ContentReply { sequence, status });

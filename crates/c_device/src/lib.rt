@@ -22,8 +22,7 @@ pub fn device_number(refusal: Refusal) -> u32
 }
 
 // Set-up over a list of components as bytes.
-#[unsafe(no_mangle)]
-pub extern "C" fn cfu_device_set_up(
+pub fn cfu_device_set_up(
     device: &mut [u8],
     platform: u16,
     list: &[u8],
@@ -47,8 +46,7 @@ pub extern "C" fn cfu_device_set_up(
     store(device, lettered(ROW_S, verdict.number()), &b)
 }
 
-#[unsafe(no_mangle)]
-pub extern "C" fn cfu_device_version_reply(device: &[u8], packet: &mut [u8]) -> u32
+pub fn cfu_device_version_reply(device: &[u8], packet: &mut [u8]) -> u32
     ensures { leaves result packet.new ≡ versions_call device.now packet.old }
 {
     if device.len() != DEVICE_SIZE {
@@ -61,8 +59,7 @@ pub extern "C" fn cfu_device_version_reply(device: &[u8], packet: &mut [u8]) -> 
     leave(packet, device_number(refusal), &p)
 }
 
-#[unsafe(no_mangle)]
-pub extern "C" fn cfu_device_reset(device: &mut [u8]) -> u32
+pub fn cfu_device_reset(device: &mut [u8]) -> u32
     ensures { leaves result device.new ≡ reset_call device.old }
 {
     if device.len() != DEVICE_SIZE {

@@ -84,8 +84,7 @@ fn answered(a: Reply, replies: &mut [u8]) -> CReplies
 }
 
 // An offer, an information or an extended packet.
-#[unsafe(no_mangle)]
-pub extern "C" fn cfu_device_offer(
+pub fn cfu_device_offer(
     device: &mut [u8],
     staging: &[u8],
     report: &[u8],
@@ -105,8 +104,7 @@ pub extern "C" fn cfu_device_offer(
     answered(a, replies)
 }
 
-#[unsafe(no_mangle)]
-pub extern "C" fn cfu_device_content(
+pub fn cfu_device_content(
     device: &mut [u8],
     staging: &mut [u8],
     report: &[u8],

@@ -25,8 +25,7 @@ use host_record::report::Progress;
 use wire::words;
 
 // The check of a bundle; its contents are left for cfu_host_step_checked.
-#[unsafe(no_mangle)]
-pub extern "C" fn cfu_bundle_check(bundle: &[u8], contents: &mut [u8]) -> CCheck
+pub fn cfu_bundle_check(bundle: &[u8], contents: &mut [u8]) -> CCheck
     ensures { told_check result contents.new ≡ check_call bundle.now contents.old }
 {
     if contents.len() != CONTENTS_SIZE {
@@ -47,8 +46,7 @@ pub extern "C" fn cfu_bundle_check(bundle: &[u8], contents: &mut [u8]) -> CCheck
     }
 }
 
-#[unsafe(no_mangle)]
-pub extern "C" fn cfu_host_fresh(host: &mut [u8], token: u8) -> u32
+pub fn cfu_host_fresh(host: &mut [u8], token: u8) -> u32
     ensures { leaves result host.new ≡ fresh_call host.old token }
 {
     if host.len() != HOST_SIZE {
@@ -100,8 +98,7 @@ fn ending_status(progress: Progress) -> u32
     }
 }
 
-#[unsafe(no_mangle)]
-pub extern "C" fn cfu_host_report(host: &[u8]) -> CReport
+pub fn cfu_host_report(host: &[u8]) -> CReport
     ensures { result ≡ report_call host.now }
 {
     if host.len() != HOST_SIZE {

@@ -65,13 +65,7 @@ fn answered(host: &mut [u8], refusal: StepRefusal, sent: Sent, next: Host) -> CS
     }
 }
 
-#[unsafe(no_mangle)]
-pub extern "C" fn cfu_host_step(
-    host: &mut [u8],
-    bundle: &[u8],
-    reply: &[u8],
-    packet: &mut [u8],
-) -> CStep
+pub fn cfu_host_step(host: &mut [u8], bundle: &[u8], reply: &[u8], packet: &mut [u8]) -> CStep
     ensures { told_step result host.new packet.new ≡ step_call host.old bundle.now reply.now packet.old }
 {
     let number = lent_number(
@@ -143,8 +137,7 @@ fn kept(s: Stepped, host: &mut [u8], contents: &mut [u8]) -> CStep
 }
 
 // The step over contents that the check left: the bundle is not checked again.
-#[unsafe(no_mangle)]
-pub extern "C" fn cfu_host_step_checked(
+pub fn cfu_host_step_checked(
     host: &mut [u8],
     contents: &mut [u8],
     bundle: &[u8],

@@ -26,8 +26,7 @@ use wire_offer::signal::Signal;
 use wire_version::read_version_reply;
 
 // The components are left in the lent bytes.
-#[unsafe(no_mangle)]
-pub extern "C" fn cfu_read_version_reply(packet: &[u8], components: &mut [u8]) -> CVersionReply
+pub fn cfu_read_version_reply(packet: &[u8], components: &mut [u8]) -> CVersionReply
     ensures { told_versions result components.new ≡ read_version_reply_call packet.now components.old }
 {
     if components.len() != COMPONENTS_SIZE {
@@ -142,16 +141,14 @@ fn packet_fields(read: OfferPacket) -> COfferPacket
     }
 }
 
-#[unsafe(no_mangle)]
-pub extern "C" fn cfu_read_offer(packet: &[u8]) -> COfferPacket
+pub fn cfu_read_offer(packet: &[u8]) -> COfferPacket
     ensures { result ≡ read_offer_call packet.now }
 {
     let read = read_offer_packet(packet);
     packet_fields(read)
 }
 
-#[unsafe(no_mangle)]
-pub extern "C" fn cfu_read_offer_reply(packet: &[u8]) -> COfferReply
+pub fn cfu_read_offer_reply(packet: &[u8]) -> COfferReply
     ensures { result ≡ read_offer_reply_call packet.now }
 {
     let read = read_offer_reply(packet);
@@ -166,8 +163,7 @@ pub extern "C" fn cfu_read_offer_reply(packet: &[u8]) -> COfferReply
 }
 
 // The data is left in the lent bytes.
-#[unsafe(no_mangle)]
-pub extern "C" fn cfu_read_content(packet: &[u8], bytes: &mut [u8]) -> CContent
+pub fn cfu_read_content(packet: &[u8], bytes: &mut [u8]) -> CContent
     ensures { told_content result bytes.new ≡ read_content_call packet.now bytes.old }
 {
     if bytes.len() != DATA_SIZE {
@@ -194,8 +190,7 @@ pub extern "C" fn cfu_read_content(packet: &[u8], bytes: &mut [u8]) -> CContent
     }
 }
 
-#[unsafe(no_mangle)]
-pub extern "C" fn cfu_read_content_reply(packet: &[u8]) -> CContentReply
+pub fn cfu_read_content_reply(packet: &[u8]) -> CContentReply
     ensures { result ≡ read_content_reply_call packet.now }
 {
     let read = read_content_reply(packet);

@@ -9,8 +9,7 @@ use c_types::numbers::{ROW_W, lettered};
 use c_types::types::CWritten;
 
 // The bundle of a list of offers and images goes to the start of the lent output; a refusal leaves the output as it was.
-#[unsafe(no_mangle)]
-pub extern "C" fn cfu_bundle_write(list: &[u8], images: &[u8], out: &mut [u8]) -> CWritten
+pub fn cfu_bundle_write(list: &[u8], images: &[u8], out: &mut [u8]) -> CWritten
     ensures { told_write result out.new ≡ write_call list.now images.now out.old }
 {
     let w = write(out, list, images);

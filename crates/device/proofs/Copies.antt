@@ -164,7 +164,7 @@ previous_judged = record { packets = packets; versions = λ d r z n. rw (judges_
     packets d Content staging report r z n = rw (judges_previous d r z n)
 
 -- each of the six moves leaves a packet only where the session receives
-move_holds : {d d' : Device} {channel : Channel} {staging report : List ℕ} → Move d channel staging report d' → HoldsNone d → HoldsNone d'
+move_holds : {d : Device} {channel : Channel} {staging report : List ℕ} {d' : Device} → Move d channel staging report d' → HoldsNone d → HoldsNone d'
 move_holds stays h = h
 move_holds idles h = λ e. refl
 move_holds (opens k a q) h = λ e. refl

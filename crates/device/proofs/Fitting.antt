@@ -84,7 +84,7 @@ block_bytes_lem r c bytes s h b =
     write_bytes r _ (either Bytes (is_first c) _ _ (erase_bytes r s b) b) _ _ (first_bytes c.length bytes h)
 
 -- each of the six moves keeps the values
-move_fits : {d d' : Device} {channel : Channel} {staging report : List ℕ} → FitsDevice d → Bytes report → Bytes staging → Move d channel staging report d' → FitsDevice d'
+move_fits : {d : Device} {channel : Channel} {staging report : List ℕ} {d' : Device} → FitsDevice d → Bytes report → Bytes staging → Move d channel staging report d' → FitsDevice d'
 unfolding offers.fields_in
 move_fits f h b stays = f
 move_fits {d} f h b idles = fits_with d f d.components f.slots f.each _ idle_fits

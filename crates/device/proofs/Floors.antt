@@ -70,7 +70,7 @@ staged_keeps : (c : Component) (v : Version) → image_version_fits c v ≡ true
 staged_keeps c v e = (refl, (λ w h. inr (subst (Allowed c) (one_version v w h) (staged_floor_lem c v (image_staged_lem c v e)))), inl refl)
 
 -- a packet
-move_keeps : {d d' : Device} {channel : Channel} {staging report : List ℕ} → Move d channel staging report d' → (k : ℕ) → Keeps (component d k) (component d' k)
+move_keeps : {d : Device} {channel : Channel} {staging report : List ℕ} {d' : Device} → Move d channel staging report d' → (k : ℕ) → Keeps (component d k) (component d' k)
 move_keeps {d} stays k = unchanged (component d k)
 move_keeps {d} idles k = unchanged (component d k)
 move_keeps {d} (opens j a q) k = unchanged (component d k)

@@ -58,7 +58,7 @@ set_up_passes platform list count n l = go (setup_verdict n count (map listed li
   go S5 e h = let z : ◌≡◌ {A = ℕ} 0 1 = cc in absurd (omega arith)
 
 -- each of the six moves keeps D1
-move_passes : {d d' : Device} {channel : Channel} {staging report : List ℕ} → Passes d → Move d channel staging report d' → breaks_d1 d' ≡ false
+move_passes : {d : Device} {channel : Channel} {staging report : List ℕ} {d' : Device} → Passes d → Move d channel staging report d' → breaks_d1 d' ≡ false
 move_passes {d} p stays = keeps p
 move_passes {d} p idles = keeps (record { setup = p.setup; slot = refl; previous = refl; owed = refl; staged = p.staged })
 move_passes {d} p (opens k a q) =

@@ -27,7 +27,7 @@ use Rattle.device.proofs.Passes.{serves}
 use Rattle.device.proofs.Staging.{changes}
 
 -- of the six moves only one opens a session
-move_opens : {d d' : Device} {channel : Channel} {staging report : List ℕ} (k : ℕ) → Move d channel staging report d' → open_slot d'.session.stage ≡ found.At k
+move_opens : {d : Device} {channel : Channel} {staging report : List ℕ} {d' : Device} (k : ℕ) → Move d channel staging report d' → open_slot d'.session.stage ≡ found.At k
     → (open_slot d.session.stage ≡ found.At k) ⊎ Accepts d channel staging report k
 move_opens k stays e = inl e
 move_opens k idles e = let z : ◌≡◌ {A = ℕ} 0 1 = cc in absurd (omega arith)

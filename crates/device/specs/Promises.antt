@@ -1,5 +1,5 @@
 -- What is promised of the device's entries, for every record and every input (document 00, questions 1 and 2).
-use Rattle.std.specs.Prelude.{ℕ, ◌+◌, ◌-◌, ◌^◌, ◌≤◌, ◌<◌, ◌≡◌, ◌⊎◌, Bool, true, false, not, cond, ◌&&◌, List, [], ◌∷◌, map, eqb, length, get_or, replicate}
+use Rattle.std.specs.Prelude.{ℕ, ◌+◌, ◌-◌, ◌^◌, ◌≤◌, ◌<◌, ◌≡◌, ◌⊎◌, Bool, false, not, cond, ◌&&◌, List, [], ◌∷◌, map, eqb, length, get_or, replicate}
 use Rattle.wire.specs.Codes.{notify_on_ready, component_limit, data_at}
 use Rattle.wire_version.specs.Reply.{reply_size}
 use Rattle.wire_offer.specs.Kind.{Kind, offer, information, extended, kind_in}
@@ -19,7 +19,7 @@ use Rattle.device_session.specs.Stage.{is_open, open_slot}
 use Rattle.device_session.specs.Owed.{owes}
 use Rattle.device_receiving.specs.Content.{is_first}
 use Rattle.device.specs.Record.{FitsDevice, blank_device}
-use Rattle.device.specs.Refusals.{Row, served, row_d, Outcome, breaks_d1, refused_by, ready_sent}
+use Rattle.device.specs.Refusals.{served, row_d, breaks_d1, refused_by, ready_sent}
 use Rattle.device.specs.Offer.{offer_entry}
 use Rattle.device.specs.Content.{window, content_verdict, content_entry, content_staging}
 use Rattle.device.specs.Entries.{set_up_of, version_entry, reset_entry, serve_entry, serve_staging}

@@ -16,7 +16,6 @@ use Rattle.device_component.specs.declared.record.Staged.TheVariants.{Pending}
 use Rattle.device_session.proofs.sound.Laws.{passes}
 use Rattle.device.specs.Record.{component}
 use Rattle.device.proofs.Lists.{none_below}
-use Rattle.device.specs.Calls.{versions}
 use Rattle.device_rules.specs.Rules as rules
 use Rattle.device_rules.specs.Rules.{versions01, versions_a1, with_floor}
 use Rattle.device_rules.specs.Promises.{OneVariant, OneVariantAsBefore, SoundStagedOne}

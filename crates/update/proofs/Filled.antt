@@ -41,7 +41,7 @@ fine_setup d h = fine _ (passes h).setup
 writes_length : (len : ℕ) (m : List ℕ) (rs : List Block) → length m ≡ len → Inside len rs → length (writes m rs) ≡ len
 unfolding writes
 writes_length len m [] e h = e
-writes_length len m (x ∷ xs) e h = writes_length len _ xs (put_length x.address.0 x.bytes m (omega (arith, h.0)) ∙ e) h.1
+writes_length len m (x ∷ xs) e h = writes_length len (put x.address.0 x.bytes m) xs (put_length x.address.0 x.bytes m (omega (arith, h.0)) ∙ e) h.1
 
 -- an image is as long as its region
 pub image_length : (len : ℕ) (rs : List Block) → Inside len rs → length (image_of len rs) ≡ len
@@ -134,6 +134,7 @@ module _ (b : List ℕ) (α : Accepted b) (d : Device) (slots : length d.compone
           not_both : (x y : Bool) → T x → (T (x && y) → ⊥) → T (not y)
           not_both true true p n = absurd (n tt)
           not_both true false p n = tt
+          not_both false y p n = elim p [ ]
 
           out : Untouched d b S j
           out i k l t q =

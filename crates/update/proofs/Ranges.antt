@@ -22,11 +22,11 @@ device_fits d vs h =
       platform = f.0.1;
       staging = f.1.0.1;
       count = f.1.1.0.1;
-      slots = sym (length-map d.components (C.the_field).into) ∙ a.1.0.1;
+      slots = a.1.0.1;
       each = components_range d.components a.0 a.1.1;
       session = session_range d.session _ f.1.1.1.1.0;
     }
 
 -- the last reply of both ends
 pub reply_length : (e : BothEnds) (vs : List Val) → Is E.the_row e vs → length e.replies.reply ≡ 16
-reply_length e vs h = sym (length-map e.replies.reply (λ v. v)) ∙ h.1.1.1.1.0.1.1.1.0.1.0.1
+reply_length e vs h = h.1.1.1.1.0.1.1.1.0.1.0.1

@@ -4,7 +4,6 @@ use mathlib.Core.Bool.{false}
 use mathlib.Core.List.{[], ◌∷◌}
 use Prim.Native.Nat.{ℕ}
 use native.Mathlib.Omega.{arith}
-use borrow.Author.Rules.{rules}
 use borrow.Author.Tests.{ne_eqb}
 use lib.ListN.{length}
 use Rattle.wire.specs.Checks.{first_of}
@@ -111,7 +110,10 @@ pub put_bundle-requires : goal.put_bundle-requires
 put_bundle-requires c =
     let e = c.bundle_length-size.ensures in
     let f = (goal.at.put_bundle-requires c).Else-lent-ne0 in
-    ((good (goal.at.put_bundle-requires c).Else-bad_list, lent f), (rw (← e) (omega arith), rw (← e) (omega arith)))
+    record {
+      list_value = (good (goal.at.put_bundle-requires c).Else-bad_list, lent f);
+      images_len_bound = (rw (← e) (omega arith), rw (← e) (omega arith));
+    }
 
 pub returns : goal.returns
 unfolding make_of

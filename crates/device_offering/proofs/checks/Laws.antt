@@ -9,7 +9,6 @@ use Rattle.wire_offer.specs.declared.offer.OfferFields.{OfferFields}
 use Rattle.device_component.specs.Record.{is_pending}
 use Rattle.device_component.specs.Lists.{find, component_at}
 use Rattle.device_component.specs.declared.record.Component.{Component}
-use Rattle.device_component.specs.declared.record.Staged.{Staged}
 use Rattle.device_component.specs.declared.list.Found.{Found}
 use Rattle.device_component.specs.declared.list.Found.TheVariants as found
 use Rattle.device_slots.specs.Slots.{slot_of}

@@ -1,11 +1,10 @@
 -- A session that a parameter holds is a value of its type. Assumes nothing.
-use Rattle.std.proofs.Common.{ℕ, List, [], ◌∷◌, map, sym, ◌∙◌}
-use lib.ListN.{length-map}
+use Rattle.std.proofs.Common.{ℕ, List, [], ◌∷◌}
 use mir.Val.{Val}
 use denote.Array.{each}
 use denote.Laws.{Is}
 use denote.Shadow.{shadow}
-use denote.Struct.Field.{u8-field}
+use denote.Builtin.{u8}
 use Rattle.wire.specs.Bytes.{Bytes}
 use Rattle.wire.proofs.Bounds.{cons_bytes, no_bytes}
 use Rattle.device_session.specs.Stage.{FitsStage}
@@ -32,7 +31,7 @@ owed_range Nothing vs h = tt
 owed_range (Token t) vs h = h.1.1.1.1.0.1
 
 -- the bytes of an array
-bytes_range : (l : List ℕ) (us : List Val) → shadow (each u8-field.row.Denot u8-field.row.own_val (map u8-field.into l) us) → Bytes l
+bytes_range : (l : List ℕ) (us : List Val) → shadow (each u8.Denot u8.own_val l us) → Bytes l
 bytes_range [] us h = no_bytes
 bytes_range (b ∷ l) [] h = absurd h
 bytes_range (b ∷ l) (u ∷ us) h = cons_bytes b l h.0.1 (bytes_range l us h.1)
@@ -45,6 +44,6 @@ session_range s vs h =
     record {
       stage = stage_range s.stage _ f.0;
       owed = owed_range s.owed _ f.1.0;
-      size = sym (length-map s.previous (λ b. b)) ∙ a.1.0.1;
+      size = a.1.0.1;
       bytes = bytes_range s.previous a.0 a.1.1;
     }

@@ -1,6 +1,5 @@
 -- D1 in another order: the tests of each component, and of each two, in one walk. Assumes nothing.
 use Rattle.std.proofs.Common.{◌≡◌, ℕ, Bool, true, false, not, ◌||◌, eqb, List, [], ◌∷◌, take, sym, refl, ap, ◌∙◌, ap₂}
-use mathlib.Core.Bool.{or_comm}
 use Rattle.wire.specs.Checks.{first_of, any, pairs}
 use Rattle.device_component.specs.Versions.{keeps_staged}
 use Rattle.device_component.specs.Setup.{is_refused, staging_too_long, bad_count, bad_id, bad_ids, bad_region, bad_regions, bad_floor, bad_floors, overlap, setup_verdict}

@@ -1,14 +1,12 @@
 -- `body::body_length` meets its contract: what was counted and what is left make the whole. Assumes nothing.
 use mathlib.Core.Path.{◌≡◌, sym, ap}
-use Prim.Native.Nat.{◌+◌, ◌-◌, ◌*◌, ◌≤◌}
 use native.Mathlib.Omega.{arith}
-use borrow.Author.Rules.{rules}
 use lib.ListN.{length, take, length-append}
 use lib.Seq.{length-take-le}
 use Rattle.bundle_cut.specs.declared.Piece.TheVariants.{Gap, Data}
-use Rattle.bundle_cut.specs.Cut.{crc_place, before_crc, image_body}
+use Rattle.bundle_cut.specs.Cut.{crc_place, before_crc}
 use Rattle.bundle_writer.proofs.body.Laws.{left, Step, step, record_length, left_data, crc_bytes, body_is}
-use Rattle.bundle_writer.proofs.body.body_length.Goals.{After-crc_place-crc, After-next_piece-p, After-shared_slice_known-1, In-Data, In-Gap}
+use Rattle.bundle_writer.proofs.body.body_length.Goals.{After-crc_place-crc, After-next_piece-p, In-Data, In-Gap}
 use Rattle.bundle_writer.proofs.body.body_length.Goals as goal
 
 -- what the step of this turn says
@@ -41,7 +39,7 @@ loop-to-init c =
     )
 
 pub slice_bounds-next_piece-end : goal.slice_bounds-next_piece-end
-slice_bounds-next_piece-end c = sym (placed (goal.at.slice_bounds-next_piece-end c).After-shared_slice_known-1)
+slice_bounds-next_piece-end c = sym (placed (goal.at.slice_bounds-next_piece-end c).After-crc_place-crc)
 
 pub returns-in-End : goal.returns-in-End
 returns-in-End c =
@@ -49,30 +47,30 @@ returns-in-End c =
     omega arith
 
 pub loop-to-smaller-in-Gap : goal.loop-to-smaller-in-Gap
-loop-to-smaller-in-Gap c = let t = gone (goal.at.loop-to-smaller-in-Gap c).In-Gap in let l = placed (goal.at.loop-to-smaller-in-Gap c).After-shared_slice_known-1 in omega arith
+loop-to-smaller-in-Gap c = let t = gone (goal.at.loop-to-smaller-in-Gap c).In-Gap in let l = placed (goal.at.loop-to-smaller-in-Gap c).After-crc_place-crc in omega arith
 
 pub loop-to-preserved-in-Gap : goal.loop-to-preserved-in-Gap
 loop-to-preserved-in-Gap c =
     let t = gone (goal.at.loop-to-preserved-in-Gap c).In-Gap in
-    let l = placed (goal.at.loop-to-preserved-in-Gap c).After-shared_slice_known-1 in
+    let l = placed (goal.at.loop-to-preserved-in-Gap c).After-crc_place-crc in
     let i = c.loop-to.invariant in
     (rw (← t.0) i.0, omega arith, omega arith)
 
 pub overflow_sub-size-in-Data : goal.overflow_sub-size-in-Data
-overflow_sub-size-in-Data c = let t = kept (goal.at.overflow_sub-size-in-Data c).In-Data in let l = placed (goal.at.overflow_sub-size-in-Data c).After-shared_slice_known-1 in omega arith
+overflow_sub-size-in-Data c = let t = kept (goal.at.overflow_sub-size-in-Data c).In-Data in let l = placed (goal.at.overflow_sub-size-in-Data c).After-crc_place-crc in omega arith
 
 pub overflow_add-size-in-Data : goal.overflow_add-size-in-Data
-overflow_add-size-in-Data c = let t = kept (goal.at.overflow_add-size-in-Data c).In-Data in let l = placed (goal.at.overflow_add-size-in-Data c).After-shared_slice_known-1 in omega arith
+overflow_add-size-in-Data c = let t = kept (goal.at.overflow_add-size-in-Data c).In-Data in let l = placed (goal.at.overflow_add-size-in-Data c).After-crc_place-crc in omega arith
 
 pub overflow_add-size-in-Data-2 : goal.overflow_add-size-in-Data-2
-overflow_add-size-in-Data-2 c = let t = kept (goal.at.overflow_add-size-in-Data-2 c).In-Data in let l = placed (goal.at.overflow_add-size-in-Data-2 c).After-shared_slice_known-1 in omega arith
+overflow_add-size-in-Data-2 c = let t = kept (goal.at.overflow_add-size-in-Data-2 c).In-Data in let l = placed (goal.at.overflow_add-size-in-Data-2 c).After-crc_place-crc in omega arith
 
 pub loop-to-smaller : goal.loop-to-smaller
-loop-to-smaller c = let t = kept (goal.at.loop-to-smaller c).In-Data in let l = placed (goal.at.loop-to-smaller c).After-shared_slice_known-1 in omega arith
+loop-to-smaller c = let t = kept (goal.at.loop-to-smaller c).In-Data in let l = placed (goal.at.loop-to-smaller c).After-crc_place-crc in omega arith
 
 pub loop-to-preserved : goal.loop-to-preserved
 loop-to-preserved c =
     let t = kept (goal.at.loop-to-preserved c).In-Data in
-    let l = placed (goal.at.loop-to-preserved c).After-shared_slice_known-1 in
+    let l = placed (goal.at.loop-to-preserved c).After-crc_place-crc in
     let e = left_data _ _ _ t in
     (omega arith, omega arith, omega arith)

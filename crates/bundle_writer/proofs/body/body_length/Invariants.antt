@@ -1,13 +1,9 @@
 -- `body::body_length` meets its contract: what was counted and what is left make the whole. Assumes nothing.
-use mathlib.Core.Path.{◌≡◌, sym, ap}
+use mathlib.Core.Path.{◌≡◌}
 use Prim.Native.Nat.{◌+◌, ◌-◌, ◌*◌, ◌≤◌}
-use native.Mathlib.Omega.{arith}
-use borrow.Author.Rules.{rules}
-use lib.ListN.{length, take, length-append}
-use lib.Seq.{length-take-le}
-use Rattle.bundle_cut.specs.declared.Piece.TheVariants.{Gap, Data}
-use Rattle.bundle_cut.specs.Cut.{crc_place, before_crc, image_body}
-use Rattle.bundle_writer.proofs.body.Laws.{left, Step, step, record_length, left_data, crc_bytes, body_is}
+use lib.ListN.{length, take}
+use Rattle.bundle_cut.specs.Cut.{image_body}
+use Rattle.bundle_writer.proofs.body.Laws.{left}
 use Rattle.bundle_writer.proofs.body.body_length.Given as goal
 
 abbrev pub invariant-loop-to : goal.invariant-loop-to

@@ -2,15 +2,14 @@
 use mathlib.Core.Path.{◌≡◌, sym, ap, ◌∙◌}
 use Prim.Native.Nat.{◌+◌, ◌-◌, ◌≤◌, ◌<◌}
 use native.Mathlib.Omega.{arith}
-use borrow.Author.Rules.{rules}
 use lib.ListN.{length, length-take, length-drop}
 use Rattle.bundle_records.specs.Record.{data_limit}
 use Rattle.image.specs.Region.{put}
 use Rattle.image.proofs.region.Within.{put_length}
 use Rattle.bundle_cut.specs.declared.Piece.TheVariants.{End, Gap, Data}
 use Rattle.bundle_cut.specs.Cut.{crc_place, before_crc, image_body}
-use Rattle.bundle_writer.proofs.body.Laws.{Step, step, left_data, length_before, Going, going, going_long, going_gap, going_data, gone}
-use Rattle.bundle_writer.proofs.body.put_body.Goals.{After-next_piece-p, After-slice_known-in-End-1, In-Data, In-End, In-Gap}
+use Rattle.bundle_writer.proofs.body.Laws.{Step, step, left_data, length_before, going, going_long, going_gap, going_data, gone}
+use Rattle.bundle_writer.proofs.body.put_body.Goals.{After-next_piece-p, After-put_record, In-Data, In-End, In-Gap}
 use Rattle.bundle_writer.proofs.body.put_body.Goals as goal
 
 -- what the step of this turn says
@@ -58,15 +57,15 @@ room c =
     let n = l.invariant.1.long in (omega arith, omega arith, omega arith, omega arith)
 
 -- the whole
-whole : (c : After-slice_known-in-End-1) →
+whole : (c : After-put_record) →
     let l = c.loop-out in
     let a = c.args in
-    (c.put_record.new.0 ≡ put a.start (image_body a.m.now) a.out.now)
+    (c.put_record.new.out ≡ put a.start (image_body a.m.now) a.out.now)
     × (l.end + 5 + (length a.m.now - crc_place a.m.now) ≡ a.start + length (image_body a.m.now))
 whole c =
     let l = c.loop-out in
     let a = c.args in
-    let t = gone a.out.now a.start a.m.now l.out l.at l.end l.invariant.1 (omega arith) (ended (goal.at.After-slice_known-in-End-1 c).In-End) in
+    let t = gone a.out.now a.start a.m.now l.out l.at l.end l.invariant.1 (omega arith) (ended (goal.at.After-put_record c).In-End) in
     ((rw l.invariant.0 at c.put_record.ensures) ∙ t.0, t.1)
 
 pub loop-out-init : goal.loop-out-init
@@ -99,10 +98,10 @@ overflow_add-result-in-End c = let r = room_crc (goal.at.overflow_add-result-in-
 pub shape_of-out-in-End : goal.shape_of-out-in-End
 shape_of-out-in-End c =
     let a = c.args in
-    ap length (whole c).0 ∙ put_length a.start (image_body a.m.now) a.out.now (omega arith)
+    ap length (whole (goal.at.shape_of-out-in-End c).After-put_record).0 ∙ put_length a.start (image_body a.m.now) a.out.now (omega arith)
 
 pub returns-in-End : goal.returns-in-End
-returns-in-End c = let w = whole c in (rw c.loop-out.invariant.0 w.1, w.0)
+returns-in-End c = let w = whole (goal.at.returns-in-End c).After-put_record in (rw c.loop-out.invariant.0 w.1, w.0)
 
 pub loop-out-smaller-in-Gap : goal.loop-out-smaller-in-Gap
 loop-out-smaller-in-Gap c = let t = gap (goal.at.loop-out-smaller-in-Gap c).In-Gap in let e = length_before c.args.m.now in let i = c.loop-out.invariant.0 in omega arith
@@ -116,11 +115,11 @@ overflow_cast-at c = let r = room (goal.at.overflow_cast-at c).In-Data in omega 
 pub slice_bounds-put_record-count-in-Data : goal.slice_bounds-put_record-count-in-Data
 slice_bounds-put_record-count-in-Data c = let r = room (goal.at.slice_bounds-put_record-count-in-Data c).In-Data in omega arith
 
-pub slice-bounds-put-record-start-2 : goal.slice-bounds-put-record-start-2
-slice-bounds-put-record-start-2 c = let r = room c.before.before in search rules
+pub slice_bounds-put_record-start-in-Data : goal.slice_bounds-put_record-start-in-Data
+slice_bounds-put_record-start-in-Data c = let r = room (goal.at.slice_bounds-put_record-start-in-Data c).In-Data in omega arith
 
-pub slice-bounds-put-record-end-2 : goal.slice-bounds-put-record-end-2
-slice-bounds-put-record-end-2 c = let r = room c.before.before in search rules
+pub slice_bounds-put_record-end-in-Data : goal.slice_bounds-put_record-end-in-Data
+slice_bounds-put_record-end-in-Data c = let r = room (goal.at.slice_bounds-put_record-end-in-Data c).In-Data in omega arith
 
 pub put_record-requires-in-Data : goal.put_record-requires-in-Data
 put_record-requires-in-Data c =

@@ -1,6 +1,5 @@
 -- `list::count_of`: at most 7 fit a byte. Assumes nothing.
 use native.Mathlib.Omega.{arith}
-use borrow.Author.Rules.{rules}
 use Rattle.bundle_writer.proofs.list.Laws.{good_list}
 use Rattle.bundle_writer.proofs.list.count_of.Goals as goal
 

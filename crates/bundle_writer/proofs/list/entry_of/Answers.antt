@@ -4,7 +4,6 @@ use Prim.Native.Nat.{◌+◌, ◌-◌, ◌*◌}
 use native.Mathlib.Omega.{arith}
 use Rattle.bundle_layout.specs.Layout.{entry_size}
 use Rattle.bundle_writer.proofs.list.Laws.{length_entry}
-use borrow.Author.Rules.{rules}
 use Rattle.bundle_writer.proofs.list.entry_of.Goals as goal
 
 pub returns : goal.returns

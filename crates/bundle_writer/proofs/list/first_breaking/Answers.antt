@@ -1,11 +1,7 @@
 -- `list::first_breaking`: the entries that are left give the answer for all. Assumes nothing.
-use mathlib.Core.Path.{◌≡◌, refl, sym, ◌∙◌}
-use Prim.Native.Nat.{◌+◌, ◌-◌}
+use mathlib.Core.Path.{refl, sym, ◌∙◌}
 use native.Mathlib.Omega.{arith}
-use borrow.Author.Rules.{rules}
-use lib.ListN.{drop}
 use Rattle.bundle_layout.specs.Layout.{entries_in}
-use Rattle.bundle_layout.specs.Rows.{first_entry}
 use Rattle.bundle.proofs.Entries.{first_here, first_on, first_end}
 use Rattle.bundle_given.specs.Given.{entries_of}
 use Rattle.bundle_given.specs.Entry.{breaks}

@@ -1,16 +1,12 @@
 -- `list::first_breaking`: the entries that are left give the answer for all. Assumes nothing.
-use mathlib.Core.Path.{◌≡◌, refl, sym, ◌∙◌}
+use mathlib.Core.Path.{◌≡◌}
 use Prim.Native.Nat.{◌+◌, ◌-◌}
-use native.Mathlib.Omega.{arith}
-use borrow.Author.Rules.{rules}
 use lib.ListN.{drop}
 use Rattle.bundle_layout.specs.Layout.{entries_in}
 use Rattle.bundle_layout.specs.Rows.{first_entry}
-use Rattle.bundle.proofs.Entries.{first_here, first_on, first_end}
-use Rattle.bundle_given.specs.Given.{entries_of}
 use Rattle.bundle_given.specs.Entry.{breaks}
 use Rattle.bundle_writer.specs.Rows.{first_breaking}
-use Rattle.bundle_writer.proofs.list.Laws.{headed, entry_headed, entry_in}
+use Rattle.bundle_writer.proofs.list.Laws.{headed}
 use Rattle.bundle_writer.proofs.list.first_breaking.Given as goal
 
 abbrev pub invariant-loop-i : goal.invariant-loop-i

@@ -1,16 +1,12 @@
 -- `list::is_used`: the entries that are left give the answer for the first n. Assumes nothing.
-use mathlib.Core.Path.{◌≡◌, refl, sym, ◌∙◌}
+use mathlib.Core.Path.{◌≡◌}
 use Prim.Native.Nat.{◌-◌}
-use native.Mathlib.Omega.{arith}
-use borrow.Author.Rules.{rules}
-use borrow.Author.Tests.{eq-eqb, ne_eqb}
 use lib.Dec.{eqb}
 use lib.ListN.{take, drop}
 use Rattle.wire.specs.Checks.{any}
 use Rattle.bundle_layout.specs.Layout.{entries_in, id_in}
-use Rattle.bundle.proofs.Entries.{some_here, some_on, some_end}
 use Rattle.bundle_given.specs.Given.{entries_of}
-use Rattle.bundle_writer.proofs.list.Laws.{headed, entry_headed, entry_in}
+use Rattle.bundle_writer.proofs.list.Laws.{headed}
 use Rattle.bundle_writer.proofs.list.is_used.Given as goal
 
 abbrev pub invariant-loop-i : goal.invariant-loop-i

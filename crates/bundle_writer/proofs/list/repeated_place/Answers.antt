@@ -1,11 +1,7 @@
 -- `list::repeated_place`: the entries that are left, after the ids of those before, give the answer for all. Assumes nothing.
-use mathlib.Core.Path.{◌≡◌, refl, sym, ◌∙◌}
-use Prim.Native.Nat.{◌+◌, ◌-◌}
+use mathlib.Core.Path.{refl, sym, ◌∙◌}
 use native.Mathlib.Omega.{arith}
-use borrow.Author.Rules.{rules}
-use lib.ListN.{drop}
 use Rattle.bundle_layout.specs.Layout.{entries_in}
-use Rattle.bundle_layout.specs.Rows.{repeated}
 use Rattle.bundle.proofs.Entries.{ids_to, repeated_here, repeated_on, repeated_end}
 use Rattle.bundle_given.specs.Given.{entries_of}
 use Rattle.bundle_writer.specs.Rows.{row_w3}

@@ -1,15 +1,12 @@
 -- `list::repeated_place`: the entries that are left, after the ids of those before, give the answer for all. Assumes nothing.
-use mathlib.Core.Path.{◌≡◌, refl, sym, ◌∙◌}
+use mathlib.Core.Path.{◌≡◌}
 use Prim.Native.Nat.{◌+◌, ◌-◌}
-use native.Mathlib.Omega.{arith}
-use borrow.Author.Rules.{rules}
 use lib.ListN.{drop}
 use Rattle.bundle_layout.specs.Layout.{entries_in}
 use Rattle.bundle_layout.specs.Rows.{repeated}
-use Rattle.bundle.proofs.Entries.{ids_to, repeated_here, repeated_on, repeated_end}
-use Rattle.bundle_given.specs.Given.{entries_of}
+use Rattle.bundle.proofs.Entries.{ids_to}
 use Rattle.bundle_writer.specs.Rows.{row_w3}
-use Rattle.bundle_writer.proofs.list.Laws.{headed, entries_headed, entry_headed, entry_in}
+use Rattle.bundle_writer.proofs.list.Laws.{headed}
 use Rattle.bundle_writer.proofs.list.repeated_place.Given as goal
 
 abbrev pub invariant-loop-i : goal.invariant-loop-i

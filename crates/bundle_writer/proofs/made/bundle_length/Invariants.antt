@@ -1,18 +1,12 @@
 -- `made::bundle_length` meets its contract: what was counted and the bodies that are left make the whole. Assumes nothing.
-use mathlib.Core.Path.{◌≡◌, ap, ◌∙◌}
+use mathlib.Core.Path.{◌≡◌}
 use Prim.Native.Nat.{◌+◌, ◌-◌, ◌*◌, ◌≤◌}
-use native.Mathlib.Omega.{arith}
-use borrow.Author.Rules.{rules}
 use lib.ListN.{length, drop}
 use Rattle.device_component.specs.Setup.{staging_limit}
 use Rattle.bundle_layout.specs.Layout.{offer_limit, table_end}
-use Rattle.bundle_cut.specs.Cut.{image_body}
-use Rattle.bundle_given.specs.Given.{count_of, entries_of, image_at}
+use Rattle.bundle_given.specs.Given.{count_of, entries_of}
 use Rattle.bundle_writer.specs.Bundle.{made_bundle}
 use Rattle.bundle_writer.specs.Promises.{bodies_length}
-use Rattle.bundle_writer.proofs.Promises.{made_size}
-use Rattle.bundle_writer.proofs.list.Laws.{entry_of, good_list, entry_in}
-use Rattle.bundle_writer.proofs.made.Laws.{image_sized, body_most, bodies_on, bodies_none}
 use Rattle.bundle_writer.proofs.made.bundle_length.Given as goal
 
 abbrev pub invariant-loop-i : goal.invariant-loop-i

@@ -2,7 +2,6 @@
 use mathlib.Core.Path.{◌≡◌, ap, ◌∙◌}
 use Prim.Native.Nat.{◌+◌, ◌-◌, ◌≤◌}
 use native.Mathlib.Omega.{arith}
-use borrow.Author.Rules.{rules}
 use mathlib.Core.List.{◌∷◌}
 use lib.ListN.{length, replicate}
 use Rattle.image.specs.Region.{put}
@@ -13,14 +12,14 @@ use Rattle.bundle_writer.specs.Bundle.{made_bundle}
 use Rattle.bundle_writer.proofs.Puts.{put_again, over_put}
 use Rattle.bundle_writer.proofs.Promises.{made_size}
 use Rattle.bundle_writer.proofs.list.Laws.{entry_of, entry_in, length_entry}
-use Rattle.bundle_writer.proofs.made.Laws.{image_sized, bodies_on, Filling, fill_start, fill_on, fill_end}
+use Rattle.bundle_writer.proofs.made.Laws.{image_sized, bodies_on, fill_start, fill_on, fill_end}
 use Rattle.bundle_writer.proofs.made.put_bundle.Goals.{After-image_at, After-put_body-next, After-put_head}
 use Rattle.bundle_writer.proofs.made.put_bundle.Goals as goal
 
 -- the output after the head
 headed : (c : After-put_head) →
     let s = c in
-    (c.put_head.new.0 ≡ put 0 (count_of s.args.list.now ∷ 1 ∷ replicate 6 0) s.args.out.now) × (length c.put_head.new.0 ≡ length s.args.out.now)
+    (c.put_head.new.out ≡ put 0 (count_of s.args.list.now ∷ 1 ∷ replicate 6 0) s.args.out.now) × (length c.put_head.new.out ≡ length s.args.out.now)
 headed c =
     let s = c in
     let m = made_size s.args.list.now s.args.images.now in
@@ -50,7 +49,7 @@ ended : (c : After-put_body-next) →
     let s = c in
     let l = c.loop-i in
     let w = image_body (image_at s.args.images.now (entry_of s.args.list.now l.i)) in
-    (c.put_body-next.result ≡ l.end + length w) × (c.put_body-next.new.0 ≡ put l.end w l.out)
+    (c.put_body-next.result ≡ l.end + length w) × (c.put_body-next.new.out ≡ put l.end w l.out)
 ended c = let e = rw (given (goal.at.After-put_body-next c).After-image_at) at c.put_body-next.ensures in (e.0, e.1)
 
 pub put_head-requires : goal.put_head-requires
@@ -67,20 +66,20 @@ loop-i-init c =
       k,
       omega arith,
       rw (c.table_end-end.ensures, k)
-          (fill_start s.args.list.now s.args.images.now c.put_head.new.0 (omega arith)
+          (fill_start s.args.list.now s.args.images.now c.put_head.new.out (omega arith)
           (rw h.0 (put_again (count_of s.args.list.now ∷ 1 ∷ replicate 6 0) s.args.out.now (omega arith)))),
     )
 
 pub entry_of-e-requires : goal.entry_of-e-requires
 entry_of-e-requires c =
     let s = c in
-    entry_in s.args.list.now s.requires.0.0 c.loop-i.i (omega arith)
+    entry_in s.args.list.now s.requires.list_value.0 c.loop-i.i (omega arith)
 
 pub put_body-next-requires : goal.put_body-next-requires
 put_body-next-requires c =
     let s = c in
     let r = room c in (
-      rw (given c) (image_sized s.args.list.now s.args.images.now s.requires.0.1 c.loop-i.i (omega arith)).1,
+      rw (given c) (image_sized s.args.list.now s.args.images.now s.requires.list_value.1 c.loop-i.i (omega arith)).1,
       rw (given c) (omega arith),
     )
 
@@ -109,8 +108,8 @@ loop-i-preserved c =
     let l = c.loop-i in
     let e = ended (goal.at.loop-i-preserved c).After-put_body-next in
     let h = headed (goal.at.loop-i-preserved c).After-put_head in
-    let f = fill_on s.args.list.now s.args.images.now c.put_head.new.0 (omega arith) l.out l.end l.i l.invariant.2 (omega arith)
-    (length_entry s.args.list.now l.i (entry_in s.args.list.now s.requires.0.0 l.i (omega arith))) in
+    let f = fill_on s.args.list.now s.args.images.now c.put_head.new.out (omega arith) l.out l.end l.i l.invariant.2 (omega arith)
+    (length_entry s.args.list.now l.i (entry_in s.args.list.now s.requires.list_value.0 l.i (omega arith))) in
     let g : c.put_body-next.result - l.end ≡ length (image_body (image_at s.args.images.now (entry_of s.args.list.now l.i))) = omega arith in
     (l.invariant.0, omega arith, rw (c.put_entry.ensures, c.entry_of-e.ensures.0, c.table_end.ensures, e.1, g, e.0) f)
 
@@ -123,5 +122,5 @@ returns c =
     let l = c.loop-i in
     let h = headed (goal.at.returns c).After-put_head in
     let m = made_size s.args.list.now s.args.images.now in
-    fill_end s.args.list.now s.args.images.now c.put_head.new.0 (omega arith) l.out l.end l.i l.invariant.2 (omega arith)
+    fill_end s.args.list.now s.args.images.now c.put_head.new.out (omega arith) l.out l.end l.i l.invariant.2 (omega arith)
     ∙ rw h.0 (over_put (made_bundle s.args.list.now s.args.images.now) _ s.args.out.now (omega arith))

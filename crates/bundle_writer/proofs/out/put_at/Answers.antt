@@ -6,7 +6,6 @@ use borrow.Author.Tests.{eq-eqb}
 use lib.ListN.{length, take, drop, length-take, length-drop}
 use Rattle.image.specs.Region.{put, within}
 use Rattle.image.proofs.region.Lent.{lent}
-use borrow.Author.Rules.{rules}
 use Rattle.bundle_writer.proofs.out.put_at.Goals as goal
 
 pub returns : goal.returns

@@ -1,5 +1,5 @@
 -- `sound::breaks_d1` meets its contract: D1 in another order, each part as its helper says. Assumes nothing.
-use Rattle.std.proofs.Common.{sym, rules}
+use Rattle.std.proofs.Common.{sym}
 use Rattle.device_session.proofs.sound.Grouped.{grouped}
 use Rattle.device_session.proofs.sound.breaks_d1.Goals as goal
 

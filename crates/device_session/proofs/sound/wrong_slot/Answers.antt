@@ -1,5 +1,4 @@
 -- `sound::wrong_slot` meets its contract: by cases on where the session is open. Assumes nothing.
-use Rattle.std.proofs.Common.{rules}
 use Rattle.device_session.proofs.sound.wrong_slot.Goals as goal
 
 pub returns-in-At : goal.returns-in-At

@@ -1,5 +1,4 @@
 -- `WriteVerdict::is_refused`: by the number. Assumes nothing.
-use borrow.Author.Rules.{rules}
 use Rattle.bundle_writer.proofs.rows.WriteVerdict.is_refused.Goals as goal
 
 pub returns : goal.returns

@@ -1,5 +1,4 @@
 -- `Session::silent` meets its contract: nothing is sent. Assumes nothing.
-use Rattle.std.proofs.Common.{rules}
 use Rattle.device_session.proofs.effect.Session.silent.Goals as goal
 
 pub returns : goal.returns

@@ -1,5 +1,4 @@
 -- `Stage::open_slot` meets its contract: by cases on the stage. Assumes nothing.
-use Rattle.std.proofs.Common.{rules}
 use Rattle.device_session.proofs.stage.Stage.open_slot.Goals as goal
 
 pub returns-in-Offered : goal.returns-in-Offered

@@ -1,5 +1,5 @@
 -- `Stage::sequence_verdict` meets its contract: by cases on the stage. Assumes nothing.
-use Rattle.std.proofs.Common.{rules, eq-eqb, ne_eqb}
+use Rattle.std.proofs.Common.{eq-eqb, ne_eqb}
 use Rattle.device_session.proofs.stage.Stage.sequence_verdict.Goals as goal
 
 pub returns-then-sequence-r : goal.returns-then-sequence-r

@@ -1,0 +1,8 @@
+-- `staged_bytes` meets its contract: by what is staged. Assumes nothing.
+use Rattle.device_component_bytes.proofs.staged_bytes.Goals as goal
+
+pub returns-in-Nothing : goal.returns-in-Nothing
+returns-in-Nothing c = rw c.in-Nothing.is
+
+pub returns-in-Pending : goal.returns-in-Pending
+returns-in-Pending c = rw (c.in-Pending.is, c.bytes-b.ensures)

@@ -5,8 +5,8 @@ usage: tools/contracts.py            a line for each crate: lines of code, of wh
        tools/contracts.py --check    status 1 where a public function of the updater asks something of its caller, has no contract, or puts a hypothesis
                                      in the place of its equation
 
-Believed are the lines of specs/ and of contracts. Blank lines and comments do not count. The updater's crates are all but those that read input or print, whose
-lines in crates.txt name `io`, and those that are only measured, speed_*. One contract may carry a claim with a premise of document 00 beside its equation, and
+Believed are the lines of specs/ and of contracts. Blank lines and comments do not count. The updater's crates are all but programs, what they print with (run_*),
+and what is only measured (speed_*). One contract may carry a claim with a premise of document 00 beside its equation, and
 names it: `update::run`, `DemandOf`."""
 import glob
 import os
@@ -14,9 +14,12 @@ import re
 import sys
 from collections import namedtuple
 
-TOP = os.path.dirname(os.path.dirname(os.path.abspath(__file__)))
+sys.path.insert(0, os.path.dirname(os.path.abspath(__file__)))
+import crates as listed
+
+TOP = listed.TOP
 FUNCTION = re.compile(r'^[ \t]*(?P<pub>pub(?:\([a-z]+\))? )?(?:extern "C" )?fn (?P<name>\w+)', re.M)
-CLAUSE = re.compile(r'\b(requires|ensures)\b[^{]*\{')
+CLAUSE = re.compile(r'\b(requires|ensures|ghost)\b[^{]*\{')
 # One function: its crate, its name, whether other crates may call it, and the texts of its clauses.
 Function = namedtuple('Function', 'crate name public requires ensures')
 
@@ -27,10 +30,8 @@ def read(path):
 
 def crates():
     """Each crate with whether it belongs to the updater, in the order of crates.txt."""
-    for line in read(f'{TOP}/crates.txt').split('\n'):
-        if line.strip() and not line.startswith('#'):
-            name, below = line.split(':')
-            yield name, 'io' not in below.split() and not name.startswith('speed_')
+    for name, crate in listed.crates().items():
+        yield name, listed.is_updater(crate)
 
 
 def texts(folder, ending):
@@ -53,7 +54,7 @@ def functions(crate):
         for found in FUNCTION.finditer(text):
             # The signature ends at the first brace; what stands between it and the body is clauses.
             at = found.end()
-            clauses = {'requires': [], 'ensures': []}
+            clauses = {'requires': [], 'ensures': [], 'ghost': []}
             while True:
                 brace = text.index('{', at)
                 clause = CLAUSE.search(text, at, brace + 1)

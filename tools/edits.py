@@ -1,30 +1,23 @@
 """The wrong programs of each crate, and the function that each changes.
 
-They stand in edit files: crates/NAME/must-fail/*.edit, which `rt ci` tries, and tests/wrong/NAME/*.edit, which tools/wrong tries over what was just proved. A
-file holds one wrong program or several. Each is a comment with its words, then `file:`, `old:` and `new:` of one line. Several stand together where they
+They stand in edit files: crates/NAME/must-fail/*.edit, which `rt ci` tries, and tests/wrong/NAME/*.edit, which tools/wrong tries beside those. A file holds one
+wrong program or several. Each is a comment with its words, then `file:`, `old:` and `new:` of one line. Several stand together where they
 change different functions, whether or not one calls the other: each is refused at a fact of its own function, and one check of the crate tries them all
 (docs/DECISIONS.md, Q147)."""
 import glob
 import os
 import re
+import sys
 from collections import namedtuple
 
-TOP = os.path.dirname(os.path.dirname(os.path.abspath(__file__)))
+sys.path.insert(0, os.path.dirname(os.path.abspath(__file__)))
+from crates import TOP, crates
+
 ITEM = re.compile(r'^\s*(?:pub(?:\([a-z]+\))? )?(?:extern "C" )?(fn|const) (\w+)', re.M)
-DEFINITION = re.compile(r'^\s*(?:unfoldable |abbrev )?(?:pub )?([\w′«»-]+) :', re.M)
+DEFINITION = re.compile(r"^\s*(?:unfoldable |abbrev )?(?:pub )?([\w'«»-]+) :", re.M)
 
 # One wrong program. path: its edit file; kind: 'fn' or 'const' of the code, or 'definition'; item: its name; text: the file that it changes.
 Wrong = namedtuple('Wrong', 'crate path label words file old new kind item text')
-
-
-def crates():
-    """The crates of crates.txt, in its order, each with those below it."""
-    found = {}
-    for line in open(f'{TOP}/crates.txt', encoding='utf-8'):
-        if line.strip() and not line.startswith('#'):
-            name, below = line.split(':')
-            found[name.strip()] = below.split()
-    return found
 
 
 def read(path):
@@ -45,9 +38,11 @@ def paths(crate, kind):
     return [p for k, folder in folders.items() if kind in (None, k) for p in sorted(glob.glob(f'{folder}/*.edit'))]
 
 
-def wrong_programs(kind=None):
-    """Every wrong program, in the order of the crates."""
+def wrong_programs(kind=None, asked=()):
+    """Every wrong program, or those of the crates that are asked for, in the order of the crates."""
     for crate in crates():
+        if asked and crate not in asked:
+            continue
         for path in paths(crate, kind):
             label, words, file, old = os.path.basename(path)[:-len('.edit')], '', '', ''
             for line in read(path).split('\n'):

@@ -18,7 +18,7 @@ import cfu  # noqa: E402
 from cfu import BUNDLE_LIMIT, OFFER_AT, OFFER_LIMIT, STAGING_LIMIT, image, offer, version, version_parts  # noqa: E402
 
 UPDATE = os.path.join(TOP, "target", "c", "update")
-INSPECT = os.path.join(TOP, "target", "bin", "inspect")
+INSPECT = os.path.join(TOP, "crates", "inspect", "out", "inspect")
 WRITTEN, REFUSED, COMMAND_LINE, NO_FILE = 0, 1, 2, 3
 failures = []
 passed = 0
@@ -251,7 +251,7 @@ def main():
         if not few:
             further(command, work)
     if not os.path.exists(INSPECT):
-        print("target/bin/inspect is not built: it was not run")
+        print("crates/inspect/out/inspect is not built: it was not run")
     print(f"{passed} passed, {len(failures)} failed: {' '.join(command)}")
     sys.exit(1 if failures or not passed else 0)
 

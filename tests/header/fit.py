@@ -1,5 +1,5 @@
 #!/usr/bin/env python3
-"""Checks include/cfu.h against what is proved: each function against crates/c_*/src, each struct against crates/c_types/src, each number against the constants
+"""Checks include/cfu.h against what is proved: each function against crates/cfu/src, each struct against crates/c_types/src, each number against the constants
 of specs/ and src/; and against the wrappers for C that tools/rust_crate makes, whose structs are those of its crate.
 
 fit.py [--made CRATE] [HEADER]    HEADER is include/cfu.h unless it is given; CRATE is a crate of tools/rust_crate
@@ -54,12 +54,24 @@ def values(pairs, below=None):
 
 # What is proved
 
+# The constants of specs/ whose names are other than those of src/ in small letters: the two would stand for something else there.
+NAMED = {"block_offset": "BLOCK_AT", "body_part_size": "BODY_SIZE", "done_number": "DONE", "entry_offset": "ENTRY_AT", "entry_size": "ENTRY",
+         "head_size": "HEAD", "id_offset": "ID_AT", "next_offset": "NEXT_AT", "packet_data_size": "DATA_SIZE", "passed_offset": "PASSED_AT",
+         "protocol_number": "PROTOCOL", "records_offset": "RECORDS_IN", "row_offset": "ROW_AT", "running_number": "RUNNING", "served_number": "SERVED",
+         "success_status": "SUCCESS"}
+
+
+def named(name):
+    """The name in src/ of a constant of specs/."""
+    return NAMED.get(name, name.upper())
+
+
 def spec_pairs(crate):
-    """The constants that specs/ declares, with _ for -, each with its expression."""
+    """The constants that specs/ declares, by their names in src/, each with its expression."""
     pairs = {}
-    for name, expression in re.findall(r"^abbrev pub ([A-Z][A-Z0-9-]*) : ℕ\n\1 = ([^\n]+)$", files(f"{crate}/specs/*.antt"), re.M):
-        if re.fullmatch(r"[A-Z0-9a-fx\-_+* ]+", expression):
-            pairs[name.replace("-", "_")] = expression.replace("-", "_")
+    for name, expression in re.findall(r"^abbrev pub ([a-z][a-z0-9_]*) : ℕ\n\1 = ([^\n]+)$", files(f"{crate}/specs/*.antt"), re.M):
+        if re.fullmatch(r"[a-z0-9A-Fx_+* ]+", expression):
+            pairs[named(name)] = re.sub(r"\b[a-z]\w*", lambda each: named(each.group()), expression)
     return pairs
 
 
@@ -124,29 +136,29 @@ def found(pattern, text):
 
 def letter_of(function, letter, entry):
     """The letter of a row's number: the definition adds it to the row's own number."""
-    named = re.search(rf"^{function} \((?:\w+\.)?{letter} k{entry}\) = (ROW-\w) \+ k$", NUMBERS, re.M)
-    if named is None:
-        misfit(f"specs/Numbers.antt: {function} of {letter} is no letter and a number")
+    line = re.search(rf"^{function} \((?:\w+\.)?row_{letter} k{entry}\) = (letter_\w) \+ k$", NUMBERS, re.M)
+    if line is None:
+        misfit(f"specs/Numbers.antt: {function} of row_{letter} is no letter and a number")
         return 0
-    return found(rf"^{named.group(1)} = (0x[0-9A-F]+)$", NUMBERS)
+    return found(rf"^{line.group(1)} = (0x[0-9A-F]+)$", NUMBERS)
 
 
 def row_numbers():
     """The rows, each with its letter by specs/Numbers.antt and its number by its own name."""
     out = {}
-    for enum, function, letter, entry in (("Verdict", "packetNumber", "P", ""), ("SetupVerdict", "setupNumber", "S", ""), ("Refusal", "deviceNumber", "D", ""),
-                                          ("BundleVerdict", "bundleNumber", "B", " entry"), ("WriteVerdict", "writeNumber", "W", " entry"),
-                                          ("StepRefusal", "stepNumber", "N", "")):
+    for enum, function, letter, entry in (("Verdict", "packet_number", "p", ""), ("SetupVerdict", "setup_number", "s", ""), ("Refusal", "device_number", "d", ""),
+                                          ("BundleVerdict", "bundle_number", "b", " entry"), ("WriteVerdict", "write_number", "w", " entry"),
+                                          ("StepRefusal", "step_number", "n", "")):
         base = letter_of(function, letter, entry)
         rows = variants(enum)
         if not rows:
             misfit(f"enum {enum} names no row")
         for row in rows:
             out[row] = base + int(row[1:])
-    if letter_of("stepNumber", "B", " entry") != out["B1"] - 1:
+    if letter_of("step_number", "b", " entry") != out["B1"] - 1:
         misfit("specs/Numbers.antt: the step gives a bundle's rows other numbers than the check does")
-    for row, number in re.findall(r"^numberOf \(?(H\d)[^=\n]* = (\d+)$", files("host_record/specs/Record.antt"), re.M):
-        out[row] = found(r"^ROW-H = (0x[0-9A-F]+)$", NUMBERS) + int(number)
+    for row, number in re.findall(r"^number_of \(?row_(h\d)[^=\n]* = (\d+)$", files("host_record/specs/Record.antt"), re.M):
+        out[row.upper()] = found(r"^letter_h = (0x[0-9A-F]+)$", NUMBERS) + int(number)
     return out
 
 
@@ -246,7 +258,7 @@ def hold_layouts(text):
                 misfit(f"{', '.join(names)}: the header's comment has {given}, {place} of {crate} has {expected}")
 
 
-# What the header declares, and what crates/c_*/src export with the structs of crates/c_types/src, in C's words
+# What the header declares, and what crates/cfu/src exports with the structs of crates/c_types/src, in C's words
 
 WIDTHS = {"u8": "uint8_t", "u16": "uint16_t", "u32": "uint32_t", "u64": "uint64_t", "usize": "size_t"}
 
@@ -257,7 +269,7 @@ def c_type(text):
         return WIDTHS[text]
     if re.fullmatch(r"C[A-Z]\w*", text):
         return "cfu" + re.sub(r"([A-Z])", lambda m: "_" + m.group(1).lower(), text[1:])
-    misfit(f"crates/c_*/src: the type {text} has no place in C")
+    misfit(f"crates/cfu/src: the type {text} has no place in C")
     return text
 
 
@@ -282,14 +294,14 @@ def structs_in(text):
 
 
 def exported():
-    text = re.sub(r"//[^\n]*", "", files("c_*/src/*.rt"))
+    text = re.sub(r"//[^\n]*", "", files("cfu/src/*.rt"))
     functions = {}
-    for mangle, name, parameters, result in re.findall(r'(#\[no_mangle\]\s+)?pub extern "C" fn (\w+)\s*\((.*?)\)\s*->\s*(\w+)', text, re.S):
+    for mangle, name, parameters, result in re.findall(r'(#\[unsafe\(no_mangle\)\]\s+)?pub extern "C" fn (\w+)\s*\((.*?)\)\s*->\s*(\w+)', text, re.S):
         if not mangle:
             misfit(f"{name}: exported without no_mangle")
         functions[name] = (c_type(result), [p for part in parameters.split(",") if part.strip() for p in c_parameter(part)])
     if len(functions) != len(re.findall(r'extern "C"', text)):
-        misfit("crates/c_*/src: an exported function that this test does not read")
+        misfit("crates/cfu/src: an exported function that this test does not read")
     return functions, structs_in(files("c_types/src/types.rt"))
 
 

@@ -1,6 +1,6 @@
 #!/bin/sh
 # Runs the proved program `inspect` on every bundle of make.py and compares what it prints.
-# First: rt check inspect
+# First: rt ci, or rt run in crates/inspect
 top=$(cd "$(dirname "$0")/../.." && pwd)
 work=$(mktemp -d)
 trap 'rm -rf "$work"' EXIT
@@ -9,7 +9,7 @@ passed=0
 failed=0
 for bundle in "$work"/*.bundle; do
     name=$(basename "$bundle" .bundle)
-    "$top/target/bin/inspect" < "$bundle" > "$work/printed" 2>&1
+    "$top/crates/inspect/out/inspect" < "$bundle" > "$work/printed" 2>&1
     if cmp -s "$work/$name.expected" "$work/printed"; then
         passed=$((passed + 1))
         echo "ok    $name: $(tr '\n' ';' < "$work/printed")"

@@ -1,6 +1,6 @@
 #!/usr/bin/env bash
 # The frames that main_loop reads and the lines that it must print are those that cases.py writes, and the program prints them; a head cut in two and an
-# empty input end the loop too. First: rt check main_loop
+# empty input end the loop too. First: rt ci, or rt run in crates/main_loop
 set -eu
 cd "$(dirname "$0")/../.."
 made=$(mktemp -d)
@@ -10,7 +10,7 @@ for file in stdin stdout; do
     cmp "$made/$file" "crates/main_loop/$file" || { echo "tests/main_loop: crates/main_loop/$file is stale"; exit 1; }
 done
 holds() {
-    target/bin/main_loop >"$made/printed"
+    crates/main_loop/out/main_loop >"$made/printed"
     cmp "$made/printed" "$made/expected" || { echo "tests/main_loop: $1: printed $(tail -n 1 "$made/printed")"; exit 1; }
 }
 cp "$made/stdout" "$made/expected"

@@ -11,52 +11,66 @@ import glob
 import os
 import re
 import shutil
-import subprocess
 import sys
 import tempfile
 from concurrent.futures import ThreadPoolExecutor
 
 HERE = os.path.dirname(os.path.abspath(__file__))
 TOP = os.path.dirname(os.path.dirname(HERE))
+sys.path.insert(0, f'{TOP}/tools')
+import crates as listed  # noqa: E402
+import kit  # noqa: E402
+
 CRATES = ['wire', 'wire_offer', 'wire_content', 'wire_version', 'crc16', 'image', 'device_component', 'device_slots', 'device_session', 'device_offering',
           'device_receiving', 'device', 'device_rules', 'bundle_records', 'bundle_layout', 'bundle', 'host_record', 'host_table', 'host_decide', 'host_packet', 'host',
           'update_passes', 'update']
+# the crate that is checked; the others are handed to the same check as source
+CHECKED = 'update'
 # the statements that compute, and what they stand on
 PROOFS = {'wire': ['Tests', 'Bounds'], 'device_component': ['record/Fits', 'record/Ranges'], 'device_session': ['effect/Laws', 'effect/Ranges'], 'device': ['Bench'],
           'device_rules': ['Examples'], 'update': ['Fitting', 'Goodness', 'Bench', 'Cases']}
 
 
 def types_only(text):
-    """A source file without its functions: modules, types and constants stay."""
-    kept, lines, i = [], text.split('\n'), 0
+    """A source file without its functions: modules, types and constants stay, and of the names that a `use` brings those of types and constants."""
+    kept, held, lines, i = [], [], text.split('\n'), 0
     while i < len(lines):
         line = lines[i]
-        if re.match(r'(pub(\(crate\))? )?fn |impl ', line):
-            while not lines[i].startswith('}'):
+        if re.match(r'#\[', line):
+            held.append(line)  # an attribute goes with the item below it
+        elif re.match(r'(pub(\(crate\))? )?fn |impl\b', line):
+            held = []
+            while not lines[i].startswith('}') and not lines[i].endswith('{}'):
                 i += 1
-        elif line.startswith('ghost use') or re.match(r'use .*::[a-z_]\w*;', line):
+        elif re.match(r'(ghost )?use |pub use ', line):
+            start = i
             while not lines[i].rstrip().endswith(';'):
                 i += 1
+            if not line.startswith('ghost'):
+                kept += brought(' '.join(lines[start:i + 1]))
         else:
-            kept.append(line)
+            kept += held + [line]
+            held = []
         i += 1
     return '\n'.join(kept)
 
 
+def brought(use):
+    """A `use` item without the functions and modules that it brings."""
+    path, names = re.fullmatch(r'\s*(?:pub )?use (.*?)::(\{.*\}|\w+);\s*', use).groups()
+    left = [name for name in re.findall(r'\w+', names) if name[0].isupper()]
+    return [f'use {path}::{{{", ".join(left)}}};'] if left else []
+
+
 def definitions(folder):
     """The repository without its functions and their proofs."""
-    table = open(os.path.join(TOP, 'crates.txt'), encoding='utf-8').read().split('\n')
-    with open(os.path.join(folder, 'crates.txt'), 'w', encoding='utf-8') as out:
-        for line in table:
-            if line.split(':')[0] in CRATES:
-                name, rest = line.split(':')
-                out.write(name + ': ' + ' '.join(d for d in rest.split() if d in CRATES) + '\n')
     for crate in CRATES:
         source, target = os.path.join(TOP, 'crates', crate), os.path.join(folder, 'crates', crate)
         shutil.copytree(os.path.join(source, 'specs'), os.path.join(target, 'specs'))
-        os.makedirs(os.path.join(target, 'src'))
-        for path in glob.glob(os.path.join(source, 'src', '*.rt')):
-            with open(os.path.join(target, 'src', os.path.basename(path)), 'w', encoding='utf-8') as out:
+        for path in glob.glob(os.path.join(source, 'src', '**', '*.rt'), recursive=True):
+            to = os.path.join(target, os.path.relpath(path, source))
+            os.makedirs(os.path.dirname(to), exist_ok=True)
+            with open(to, 'w', encoding='utf-8') as out:
                 out.write(types_only(open(path, encoding='utf-8').read()))
         if crate in PROOFS:
             proofs = os.path.join(target, 'proofs')
@@ -69,12 +83,17 @@ def definitions(folder):
             if own:
                 with open(os.path.join(proofs, 'Lib.antt'), 'w', encoding='utf-8') as out:
                     out.write(''.join(f'pub mod {name}\n' for name in own))
-    subprocess.run(['git', 'init', '-q', folder], check=True)
 
 
 def check(folder):
-    done = subprocess.run(['rt', 'check', 'device_rules', 'update'], cwd=folder, capture_output=True, text=True, env=dict(os.environ, RT_CUT='0'))
-    return done.returncode, done.stdout + done.stderr
+    """One check of all the definitions in a folder, over what an earlier one left there."""
+    known, others = listed.crates(), ['--extern', f'core={kit.kit()}/rlibs/core.rlib']
+    for crate in CRATES:
+        if crate != CHECKED:
+            uses = ','.join(['core', 'std'] + [below for below in known[crate].below if below in CRATES])
+            others += ['--lib', f'{crate}:{uses}={folder}/crates/{crate}/src/lib.rt']
+    own = f'{folder}/crates/{CHECKED}'
+    return kit.rattle('check', *kit.words(CHECKED, own), *others, '--incremental', f'{folder}/kept', folder=own)
 
 
 def tried(name, whole):
@@ -83,15 +102,15 @@ def tried(name, whole):
     lines = open(os.path.join(HERE, name + '.mutant'), encoding='utf-8').read().split('\n')
     field = {l.split(': ', 1)[0]: l.split(': ', 1)[1] for l in lines if ': ' in l and not l.startswith('--')}
     folder = os.path.join(os.path.dirname(whole), name)
-    shutil.copytree(whole, folder, symlinks=True)
+    kit.linked(whole, folder)
     path = os.path.join(folder, field['file'])
     before = open(path, encoding='utf-8').read()
     assert before.count(field['old']) == 1, (name, before.count(field['old']))
     with open(path, 'w', encoding='utf-8') as out:
         out.write(before.replace(field['old'], field['new']))
     status, said = check(folder)
-    errors = [l for l in said.split('\n') if ': error: `' in l]
-    first = re.search(r'error: `([\w-]+)`', errors[0]).group(1) if errors else 'nothing'
+    errors = re.findall(r": error: `([\w'-]+)`: ", said)
+    first = errors[0] if errors else 'nothing'
     good = (status != 0) == (field['breaks'] != 'nothing') and first == field['breaks']
     shutil.rmtree(folder)
     return good, f"{'as said' if good else 'NOT AS SAID'}  {name}: {lines[0][3:]}\n    breaks {first}" + ('' if good else f", not {field['breaks']}")
@@ -101,14 +120,14 @@ def main():
     bad = 0
     with tempfile.TemporaryDirectory() as folder:
         whole = os.path.join(folder, 'definitions')
-        os.makedirs(whole)
+        os.makedirs(f'{whole}/kept')
         definitions(whole)
         status, said = check(whole)
         if status != 0:
             print('the definitions themselves do not pass:\n' + said[-2000:])
             return 1
         wanted = sys.argv[1:] or sorted(os.path.basename(p)[:-len('.mutant')] for p in glob.glob(os.path.join(HERE, '*.mutant')))
-        with ThreadPoolExecutor(2) as pool:
+        with ThreadPoolExecutor(len(os.sched_getaffinity(0))) as pool:
             for good, told in pool.map(lambda name: tried(name, whole), wanted):
                 bad += not good
                 print(told, flush=True)

@@ -10,16 +10,34 @@ import tempfile
 
 TOP = os.path.join(os.path.dirname(os.path.abspath(__file__)), '..', '..')
 # The script, and what it takes beside the crates.
-NEEDED = ('tools/rust_crate', 'tools/words.py', 'include/words.txt', 'include/cfu.h')
+NEEDED = ('tools/rust_crate', 'tools/crates.py', 'tools/words.py', 'include/words.txt', 'include/cfu.h')
 
-CRATES = '# crates\nlow:\nhigh: low\n\n# programs, and what they print with\nrun_print: io\ntool: run_print high low io\n\n# measured\nspeed_low: low\n'
+CRATES = '''# crates
+low:
+high: low
+
+# programs, and what they print with
+run_print:
+tool: run_print high low
+
+# for C
+low_c staticlib: low
+
+# measured
+speed_low staticlib: low
+'''
 LOW = '''// The low crate: [brackets] and <signs> in words, `a[0]` as code.
-ghost use mathlib.Core.Path.{_≡_};
-ghost use lib.ListN.{length,
+#![tactic(auto)]
+
+ghost use Rattle.std.specs.Prelude.{◌≡◌};
+ghost use Rattle.std.specs.Prelude.{length,
     take};
 pub mod part; // part.rt: a module
 
+pub use part::{lent, next};
+
 // A pair.
+#[derive(Clone, Copy)]
 #[repr(C)]
 pub struct Pair {
     // The left one.
@@ -28,6 +46,7 @@ pub struct Pair {
 }
 
 // A lent number.
+#[derive(Drop)]
 pub struct Lent<'a>(pub &'a mut u8);
 
 // What was found.
@@ -40,11 +59,9 @@ pub enum Found {
 PART = '''// A module whose name the high crate has too.
 use crate::Found;
 use crate::Pair;
-use std::num::wrapping_sub_u8;
 
-// For C, with bytes and a struct.
-#[no_mangle]
-pub extern "C" fn lent(read: &[u8], p: Pair, written: &mut [u8]) -> Pair {
+// With bytes and a struct.
+pub fn lent(read: &[u8], p: Pair, written: &mut [u8]) -> Pair {
     if read.len() == 0 {
         return p;
     }
@@ -52,27 +69,28 @@ pub extern "C" fn lent(read: &[u8], p: Pair, written: &mut [u8]) -> Pair {
     Pair { left: 1, right: p.left }
 }
 
-// For C.
-#[no_mangle]
-pub extern "C" fn next(a: u16) -> u16
-    ensures wraps { λ x'. ⌜ x' ≡ (record { value = a } .value + 1) % 2 ^ 16 ⌝ }
+// The next one.
+#[tactic(auto, using(crate::proofs::Next::next_wraps))]
+pub fn next(a: u16) -> u16
+    ensures wraps { result ≡ (record { value = a } .value + 1) % 2 ^ 16 }
     // about the clause below
-    ensures { λ r. ⌜ T {r} ⌝ }
+    ensures other { T {result} }
 {
-    std::num::wrapping_add_u16(a, 1)
+    prove!(a < 65536);
+    a.wrapping_add(1)
 }
 
 pub(crate) fn before(a: u8) -> u8
-    ghost { ℕ }
-    requires { λ g. ⌜ a ≡ g ⌝ }
+    ghost g: { ℕ }
+    requires* same { ⌜ a ≡ g ⌝ }
 {
-    wrapping_sub_u8(a, b'\\x01')
+    a.wrapping_sub(b'\\x01')
 }
 
 impl Pair {
     // The left one, whatever b is.
     pub fn left_of(self, b: u8) -> u16
-        ensures { λ r. ⌜ r ≡ leftOf self b ⌝ }
+        ensures { result ≡ left_of self b }
     {
         self.left
     }
@@ -87,6 +105,23 @@ pub fn first(p: Pair, xs: [u8; 2]) -> Found {
     Found::Nothing
 }
 '''
+LOW_C = '''// For C.
+#![tactic(auto)]
+
+use low::{Found, Pair};
+
+#[unsafe(no_mangle)]
+pub extern "C" fn lent(read: &[u8], p: Pair, written: &mut [u8]) -> Pair {
+    low::lent(read, p, written)
+}
+
+#[unsafe(no_mangle)]
+pub extern "C" fn next(a: u16) -> u16
+    ensures { result ≡ (a + 1) % 2 ^ 16 }
+{
+    low::next(a)
+}
+'''
 HIGH = '''use low::Pair;
 use low::part as below;
 
@@ -99,7 +134,7 @@ pub fn both(p: Pair) -> u16 {
 '''
 KEPT = '''// A private module may ask something of its callers.
 pub fn kept(a: u16) -> u16
-    requires { ⌜ a ≤ 7 ⌝ }
+    requires { a ≤ 7 }
 {
     a
 }
@@ -110,23 +145,24 @@ SOURCES = {
     'crates/low/src/part.rt': PART,
     'crates/high/src/lib.rt': HIGH,
     'crates/high/src/part.rt': KEPT,
-    'crates/run_print/src/lib.rt': 'pub fn line(s: &[u8]) {\n    io::write_all(1, s);\n}\n',
+    'crates/low_c/src/lib.rt': LOW_C,
+    'crates/run_print/src/lib.rt': 'pub fn line(out: &mut impl std::io::Write, s: &[u8]) {\n    out.write_all(s);\n}\n',
     'crates/tool/src/main.rt': 'fn main() {\n    run_print::line(b"x");\n}\n',
-    'crates/speed_low/src/lib.rt': 'pub fn twice(a: u16) -> u16 {\n    low::part::next(low::part::next(a))\n}\n',
+    'crates/speed_low/src/lib.rt': '#[unsafe(no_mangle)]\npub extern "C" fn twice(a: u16) -> u16 {\n    low::part::next(low::part::next(a))\n}\n',
 }
 
 # What must stand in the made crate.
 MADE = {
     'src/lib.rs': ['pub mod low;\npub mod high;\npub mod words;\n'],
     'src/words.rs': ['(Kind::OfferStatus, 0x2) => "REJECT",', '(Kind::Call, 0x4206) => "an earlier entry offers the same component",'],
-    'c/src/lib.rs': ['fn next(a: u16) -> u16 {\n    cfu_updater::low::part::next(a)\n}',
+    'c/src/lib.rs': ['fn next(a: u16) -> u16 {\n    cfu_updater::low::next(a)\n}',
                      'pub unsafe extern "C" fn lent(read: *const u8, read_len: usize, p: cfu_updater::low::Pair, written: *mut u8, written_len: usize) -> '
-                     'cfu_updater::low::Pair {\n    cfu_updater::low::part::lent(lent::read(read, read_len), p, lent::write(written, written_len))\n}'],
+                     'cfu_updater::low::Pair {\n    cfu_updater::low::lent(lent::read(read, read_len), p, lent::write(written, written_len))\n}'],
     'src/low/mod.rs': ['//! The low crate: \\[brackets\\] and \\<signs\\> in words, `a[0]` as code.\npub mod part; // part.rt: a module\n',
                        '/// A pair.\n#[repr(C)]\n#[derive(Clone, Copy, Debug, PartialEq, Eq)]\npub struct Pair {\n    /// The left one.\n',
                        '#[derive(Debug, PartialEq, Eq)]\npub struct Lent', '    /// Nothing.\n    Nothing,\n'],
-    'src/low/part.rs': ['/// For C.\n#[inline]\npub fn next(a: u16) -> u16 {\n    u16::wrapping_add(a, 1)\n}\n',
-                        '#[inline]\npub(in crate::low) fn before(a: u8) -> u8 {\n    u8::wrapping_sub(a, b', '    // Not documentation.\n',
+    'src/low/part.rs': ['/// The next one.\n#[inline]\npub fn next(a: u16) -> u16 {\n    a.wrapping_add(1)\n}\n',
+                        '#[inline]\npub(in crate::low) fn before(a: u8) -> u8 {\n    a.wrapping_sub(b', '    // Not documentation.\n',
                         '    /// The left one, whatever b is.\n    #[inline]\n    #[allow(unused_variables)] // only the contract names b\n    pub fn left_of(self, b'],
     'src/high/mod.rs': ['use crate::low::Pair;\nuse crate::low::part as below;\n', '= crate::low::part::next(p.left);\n    part::kept(left) + below::next('],
 }
@@ -134,22 +170,22 @@ MADE = {
 # And what must stand there beside it where what is measured is asked for.
 MEASURED = {
     'src/lib.rs': ['pub mod low;\npub mod high;\npub mod speed_low;\npub mod words;\n'],
-    'src/speed_low/mod.rs': ['    crate::low::part::next(crate::low::part::next(a))\n'],
+    'src/speed_low/mod.rs': ['pub fn twice(a: u16) -> u16 {\n    crate::low::part::next(crate::low::part::next(a))\n'],
 }
 
 # A text of KEPT, what it becomes, and what the script must say then.
 UNKNOWN = [
     ('{\n    a', '{\n    io::a', 'crates/high/src/part.rt:5: `io::`'),
     ('{\n    a', '{\n    crc::a', 'crates/high/src/part.rt:5: `crc::`'),
-    ('{\n    a', '{\n    std::mem::a', 'crates/high/src/part.rt:5: `std::mem`'),
-    ('{\n    a', '{\n    std::num::truncating_f64_to_u64(a)', 'crates/high/src/part.rt:5: `std::num::truncating_f64_to_u64`'),
+    ('{\n    a', '{\n    std::mem::a', 'crates/high/src/part.rt:5: `std::`'),
+    ('{\n    a', '{\n    let a = prove!(a < 1);', 'crates/high/src/part.rt:5: `prove!` that is no statement'),
     ('{\n    a', '{\n    a ≡ 1', "crates/high/src/part.rt:5: a character that is not known outside a contract: '≡'"),
     ('pub fn', 'use io::print;\npub fn', 'crates/high/src/part.rt:2: `use io`'),
     ('pub fn', '#[cold]\npub fn', 'crates/high/src/part.rt:2: an attribute'),
     ('pub fn', 'extern "C" {}\npub fn', 'crates/high/src/part.rt:2: a function of C'),
-    ('pub fn', '#[no_mangle]\npub extern "C" fn c(a: u8) -> u8 {\n    a\n}\n\npub fn', 'crates/high/src/part.rt:3: a function for C in a private module'),
+    ('pub fn', '#[unsafe(no_mangle)]\npub extern "C" fn c(a: u8) -> u8 {\n    a\n}\n\npub fn', 'crates/high/src/part.rt:2: a function for C outside of'),
     ('pub fn', 'ghost let x = 1;\npub fn', 'crates/high/src/part.rt:2: `ghost`'),
-    ('≤ 7 ⌝ }', '≤ 7 ⌝', 'crates/high/src/part.rt:3: a clause whose brace is not closed'),
+    ('≤ 7 }', '≤ 7', 'crates/high/src/part.rt:3: a clause whose brace is not closed'),
     ('a: u16', 'a: f32', 'crates/high/src/part.rt:2: a float'),
 ]
 
@@ -185,7 +221,7 @@ def main():
         if not fault:
             told, status = run(SOURCES, top)
             fault = f'no crate is made: {told}' if status != 0 else lacks(top, MADE)
-        if not fault and (os.path.exists(os.path.join(top, 'out', 'src', 'speed_low')) or not told.endswith('left out tool speed_low run_print\n')):
+        if not fault and (os.path.exists(os.path.join(top, 'out', 'src', 'speed_low')) or not told.endswith('left out run_print tool speed_low\n')):
             fault = f'what is only measured is not left out: {told}'
         if fault:
             print(f'forms: {fault}')
@@ -197,8 +233,11 @@ def main():
                 print(f'forms: the crate {folder} does not build')
                 return 1
         others = [('crates/high/src/lib.rt', 'mod part;', 'pub mod part;', 'crates/high/src/part.rt:3: a `requires` on a public function'),
-                  ('crates/low/src/part.rt', 'p: Pair, written', 'p: Found, q: Other, written', 'crates/low/src/part.rt:8: `Other` in a function for C'),
-                  ('crates/low/src/part.rt', 'next(a: u16) -> u16', 'next(a: u16)', 'crates/low/src/part.rt:18: a function for C whose signature')]
+                  ('crates/low_c/src/lib.rt', 'p: Pair, written', 'p: Other, written', 'crates/low_c/src/lib.rt:7: `Other` in a function for C'),
+                  ('crates/low_c/src/lib.rt', 'next(a: u16) -> u16', 'next(a: u16)', 'crates/low_c/src/lib.rt:12: a function for C whose signature'),
+                  ('crates/low_c/src/lib.rt', 'low::next(a)', 'low::first(a)', 'crates/low_c/src/lib.rt:12: a function for C that is no call'),
+                  ('crates/low_c/src/lib.rt', 'low::lent(read, p, written)', 'low::lent(p, read, written)', 'crates/low_c/src/lib.rt:7: a function for C that is no call'),
+                  ('crates/low_c/src/lib.rt', '#[unsafe(no_mangle)]\npub extern "C" fn next', 'pub fn next', 'crates/low_c/src/lib.rt:11: a function that is not for C')]
         for path, old, new, expected in [('crates/high/src/part.rt', *case) for case in UNKNOWN] + others:
             told, status = run({**SOURCES, path: SOURCES[path].replace(old, new)}, top)
             if status != 1 or not told.startswith(f'tools/rust_crate: {expected}') or os.path.exists(os.path.join(top, 'out')):

@@ -18,7 +18,7 @@ rm -rf "$out"
 mkdir -p "$out"
 
 # The kit's back end, as it makes the library for C.
-rt staticlib speed_crc >"$out/log" 2>&1 || { tail -n 20 "$out/log"; fail "crates/speed_crc as a library"; }
+tools/library speed_crc || fail "crates/speed_crc as a library"
 names=library
 
 # The crate of tools/rust_crate, with what is only measured in it.

@@ -1,5 +1,5 @@
 #!/usr/bin/env bash
-# `update::run` over bundles of 1,000 and of 10,000 records: its time grows with the records, not with their square. First: rt check run_time
+# `update::run` over bundles of 1,000 and of 10,000 records: its time grows with the records, not with their square. First: rt ci, or rt run in crates/run_time
 set -eu
 cd "$(dirname "$0")/../.."
 export LC_ALL=C
@@ -24,7 +24,7 @@ measure() {
     python3 tests/time/bundle.py "$1" >"$made/bundle"
     least=
     for turn in 1 2 3; do
-        { time target/bin/run_time "$repetitions" <"$made/bundle" >"$made/printed"; } 2>"$made/spent" || fail "$(cat "$made/spent")"
+        { time crates/run_time/out/run_time "$repetitions" <"$made/bundle" >"$made/printed"; } 2>"$made/spent" || fail "$(cat "$made/spent")"
         [ "$(cat "$made/printed")" = "$expected" ] || fail "$1 records: expected '$expected', printed '$(cat "$made/printed")'"
         spent=$((10#$(tr -d . <"$made/spent")))
         if [ "$turn" = 1 ] || [ "$spent" -lt "$least" ]; then

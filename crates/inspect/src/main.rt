@@ -4,46 +4,48 @@
 use bundle_layout::Entry;
 use bundle_layout::limits::OFFER_LIMIT;
 use bundle_report::{check_input, line_of};
-use libc::STDIN_FILENO;
 use run_print::form::form;
+use run_print::script::read_full;
 use run_print::{number, text};
+use std::io;
+use std::io::{BufWriter, Read, Write};
 
-fn print_entry(e: Entry) {
+fn print_entry(out: &mut impl Write, e: Entry) -> io::Result<()> {
     let line = line_of(e);
-    number(b"", line.id as u32);
-    number(b" ", line.major as u32);
-    number(b".", line.minor as u32);
-    number(b".", line.variant as u32);
-    number(b" records ", line.records);
-    text(b"\n");
+    number(out, b"", line.id as u32)?;
+    number(out, b" ", line.major as u32)?;
+    number(out, b".", line.minor as u32)?;
+    number(out, b".", line.variant as u32)?;
+    number(out, b" records ", line.records)?;
+    text(out, b"\n")
 }
 
-fn print_entries(table: [Entry; OFFER_LIMIT], count: u8) {
-    let n = count as usize;
-    let mut i = 0;
-    while i < OFFER_LIMIT {
-        if i < n {
-            let e = table[i];
-            print_entry(e);
-        }
-        i += 1;
+fn print_entries(out: &mut impl Write, table: [Entry; OFFER_LIMIT], count: u8) -> io::Result<()> {
+    for e in table.iter().take(count as usize) {
+        print_entry(out, *e)?;
     }
+    Ok(())
 }
 
-fn main() {
+// What the bundle contains, or what refuses it; more bytes than the buffer holds are too many.
+fn run(input: &mut impl Read, out: &mut impl Write) -> io::Result<()> {
     let mut buffer = [0u8; 65536];
-    let n = io::read_full(STDIN_FILENO, &mut buffer);
+    let n = read_full(input, &mut buffer)?;
     let mut probe = [0u8; 1];
-    let more = io::read_full(STDIN_FILENO, &mut probe);
+    let more = read_full(input, &mut probe)?;
     let c = check_input(&buffer[..n], 0 < more);
-    let verdict = c.verdict;
-    let row = verdict.number();
+    let row = c.verdict.number();
     if row == 0 {
-        let table = c.table;
-        number(b"offers ", c.count as u32);
-        text(b"\n");
-        print_entries(table, c.count);
+        number(out, b"offers ", c.count as u32)?;
+        text(out, b"\n")?;
+        print_entries(out, c.table, c.count)
     } else {
-        form(b"refused B%1 %1\n", &[row, c.place]);
+        form(out, b"refused B%1 %1\n", &[row, c.place])
     }
+}
+
+fn main(rt: HostRuntime) -> io::Result<()> {
+    let mut out = BufWriter::new(rt.alloc(), io::writer(&rt))?;
+    run(&mut rt.reader(), &mut out)?;
+    out.flush()
 }

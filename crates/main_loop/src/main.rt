@@ -10,10 +10,11 @@ use device::setup::set_up;
 use device_component::record::{Fixed, Listed};
 use firmware::serve_in_place;
 use image::region::{Region, StagingOffset};
-use libc::STDIN_FILENO;
-use run_print::script::read_first;
+use run_print::script::{read_first, read_full};
 use run_print::text;
 use run_script::tell;
+use std::io;
+use std::io::{BufReader, BufWriter, Read, Write};
 use wire::version::Version;
 
 // The loop ends after 2^64 - 1 turns at the latest. A turn takes one frame.
@@ -31,7 +32,7 @@ fn listed(id: u8, running: Version, floor: Version, base: u32) -> Listed {
 
 // The bench device of document 01: platform 0x0042, two components. The second has a floor above its running version (document 02, A5): the next that it takes is
 // 1.3 or later.
-fn bench(staging: &[u8]) -> Device {
+fn bench(out: &mut impl Write, staging: &[u8]) -> io::Result<Device> {
     let none = Version::new(0, 0, 0);
     let first = listed(1, Version::new(1, 2, 0), none, 0);
     let second = listed(2, Version::new(1, 1, 0), Version::new(1, 3, 0), 64);
@@ -42,10 +43,8 @@ fn bench(staging: &[u8]) -> Device {
         2,
         staging,
     );
-    let verdict = made.verdict;
-    let device = made.device;
-    tell::set_up(verdict);
-    device
+    tell::set_up(out, made.verdict)?;
+    Ok(made.device)
 }
 
 // A frame of the bus.
@@ -91,91 +90,99 @@ fn wide(n: u8) -> usize {
 }
 
 // The next frame. Its packet comes into the buffer.
-fn next_frame(packet: &mut [u8]) -> Frame {
+fn next_frame(input: &mut impl Read, out: &mut impl Write, packet: &mut [u8]) -> io::Result<Frame> {
     let mut head = [0u8; 2];
-    let got = io::read_full(STDIN_FILENO, &mut head);
+    let got = read_full(input, &mut head)?;
     if got == 0 {
-        return ended();
+        return Ok(ended());
     }
     let n = wide(head[1]);
-    if (got < 2) | !read_first(packet, n) {
-        text(b"cut frame\n");
-        return ended();
+    if got < 2 || !read_first(input, packet, n)? {
+        text(out, b"cut frame\n")?;
+        return Ok(ended());
     }
-    by_letter(head[0], n)
+    Ok(by_letter(head[0], n))
 }
 
 // The host asks which versions run.
-fn tell_versions(device: Device) {
+fn tell_versions(out: &mut impl Write, device: Device) -> io::Result<()> {
     let answer = device.version_reply();
-    let packet = answer.packet;
-    text(b"versions ");
-    run_print::bytes(&packet);
-    text(b"\n");
+    text(out, b"versions ")?;
+    run_print::bytes(out, &answer.packet)?;
+    text(out, b"\n")
 }
 
 // The device was reset: staged versions run.
-fn restarted(device: Device) -> Device {
+fn restarted(out: &mut impl Write, device: Device) -> io::Result<Device> {
     let answer = device.reset();
-    let next = answer.device;
-    text(b"reset\n");
-    next
+    text(out, b"reset\n")?;
+    Ok(answer.device)
 }
 
 // A frame whose packet is not served.
-fn unserved(device: Device, whole: bool, letter: u8) -> Device {
-    if !whole {
-        return device;
-    }
+fn unserved(out: &mut impl Write, device: Device, letter: u8) -> io::Result<Device> {
     match letter {
         b'V' => {
-            tell_versions(device);
-            device
+            tell_versions(out, device)?;
+            Ok(device)
         }
-        b'R' => restarted(device),
+        b'R' => restarted(out, device),
         _ => {
-            text(b"unknown channel\n");
-            device
+            text(out, b"unknown channel\n")?;
+            Ok(device)
         }
     }
 }
 
 // One frame. A packet for the device changes the lent record in place, and what is due goes out.
-fn turn(device: &mut Device, staging: &mut [u8], frame: Frame, packet: &[u8])
+fn turn(
+    out: &mut impl Write,
+    device: &mut Device,
+    staging: &mut [u8],
+    frame: Frame,
+    packet: &[u8],
+) -> io::Result<()>
     ensures { frame.served ≡ true
         → (device.new ≡ (serve_entry device.old frame.channel staging.old packet.now).device)
         × (staging.new ≡ serve_staging device.old frame.channel staging.old packet.now) }
 {
     if frame.served {
         let answer = serve_in_place(device, frame.channel, staging, packet);
-        tell::answer(answer);
-    } else {
-        *device = unserved(*device, frame.whole, frame.letter);
+        return tell::answer(out, answer);
     }
+    *device = unserved(out, *device, frame.letter)?;
+    Ok(())
 }
 
-// The loop: it owns the record and lends it to each turn, which leaves in it what the next turn begins with. It ends where the input ends.
-fn serve(start: Device, staging: &mut [u8], packet: &mut [u8]) {
+// The loop: it owns the record and lends it to each turn, which leaves in it what the next turn begins with. What a turn prints is out before the next frame
+// is awaited. It ends where the input ends.
+fn serve(
+    input: &mut impl Read,
+    out: &mut impl Write,
+    start: Device,
+    staging: &mut [u8],
+    packet: &mut [u8],
+) -> io::Result<()> {
     let mut device = start;
-    let mut more = true;
-    let mut turns: u64 = 0;
-    while more & (turns < TURNS) {
-        let frame = next_frame(packet);
-        turn(
-            &mut device,
-            staging,
-            frame,
-            run_print::first(packet, frame.len),
-        );
-        more = frame.whole;
-        turns += 1;
+    for _ in 0..TURNS {
+        out.flush()?;
+        let frame = next_frame(input, out, packet)?;
+        if !frame.whole {
+            break;
+        }
+        let report = run_print::first(packet, frame.len);
+        turn(out, &mut device, staging, frame, report)?;
     }
+    Ok(())
 }
 
 // Set-up, and then the loop.
-fn main() {
+fn main(rt: HostRuntime) -> io::Result<()> {
+    let mut input = BufReader::new(rt.alloc(), rt.reader())?;
+    let mut out = BufWriter::new(rt.alloc(), io::writer(&rt))?;
     let mut staging = [0u8; 128];
     let mut packet = [0u8; 255];
-    let device = bench(&staging);
-    serve(device, &mut staging, &mut packet);
+    let device = bench(&mut out, &staging)?;
+    serve(&mut input, &mut out, device, &mut staging, &mut packet)?;
+    out.flush()
 }

@@ -8,6 +8,8 @@ use device_bytes::{DEVICE_SIZE, device_bytes, fields_in, read_list};
 use run_print::script::{FRAMES, PAYLOAD_SIZE, next};
 use run_print::{first, rest};
 use run_script::{bench, tell};
+use std::io;
+use std::io::{BufReader, BufWriter, Read, Write};
 use wire::words::{byte_at, copy, word16_at, word32_at};
 
 // Where the parts of a call stand behind the number of bytes that are lent: what is asked, which for set-up is the platform, the count, the list.
@@ -17,7 +19,7 @@ const COUNT_AT: usize = ASKED_AT + 2;
 
 const LIST_AT: usize = COUNT_AT + 1;
 
-fn run_set_up(p: &[u8], staging: &[u8]) -> Device {
+fn run_set_up(out: &mut impl Write, p: &[u8], staging: &[u8]) -> io::Result<Device> {
     let list = read_list(rest(p, LIST_AT));
     let a = set_up(
         word16_at(p, ASKED_AT as u16),
@@ -25,78 +27,106 @@ fn run_set_up(p: &[u8], staging: &[u8]) -> Device {
         byte_at(p, COUNT_AT),
         staging,
     );
-    let v = a.verdict;
-    tell::set_up(v);
-    a.device
+    tell::set_up(out, a.verdict)?;
+    Ok(a.device)
 }
 
-fn run_packet(d: Device, kind: u8, p: &[u8], staging: &mut [u8]) -> Device {
+fn run_packet(
+    out: &mut impl Write,
+    d: Device,
+    kind: u8,
+    p: &[u8],
+    staging: &mut [u8],
+) -> io::Result<Device> {
     let channel = if kind == b'O' {
         Channel::Offer
     } else {
         Channel::Content
     };
     let a = d.serve(channel, staging, rest(p, ASKED_AT));
-    let r = a.refusal;
-    let replies = a.replies;
-    tell::replied(r, replies);
-    a.device
+    tell::replied(out, a.refusal, a.replies)?;
+    Ok(a.device)
 }
 
-fn run_reset(d: Device) -> Device {
+fn run_reset(out: &mut impl Write, d: Device) -> io::Result<Device> {
     let a = d.reset();
-    let r = a.refusal;
-    tell::reset(r);
-    a.device
+    tell::reset(out, a.refusal)?;
+    Ok(a.device)
 }
 
-fn run_version_reply(record: &[u8]) {
+fn run_version_reply(out: &mut impl Write, record: &[u8]) -> io::Result<()> {
     let d = fields_in(record);
     let a = d.version_reply();
-    let r = a.refusal;
-    let packet = a.packet;
-    tell::version_reply(r, &packet);
+    tell::version_reply(out, a.refusal, &a.packet)
 }
 
 // A call with the record, and the record that it leaves.
-fn run_call(d: Device, kind: u8, p: &[u8], staging: &mut [u8]) -> Device {
+fn run_call(
+    out: &mut impl Write,
+    d: Device,
+    kind: u8,
+    p: &[u8],
+    staging: &mut [u8],
+) -> io::Result<Device> {
     match kind {
-        b'S' => run_set_up(p, staging),
-        b'R' => run_reset(d),
-        _ => run_packet(d, kind, p, staging),
+        b'S' => run_set_up(out, p, staging),
+        b'R' => run_reset(out, d),
+        _ => run_packet(out, d, kind, p, staging),
     }
 }
 
-fn run_lent(record: &mut [u8], kind: u8, p: &[u8], staging: &mut [u8]) {
-    let next = run_call(fields_in(record), kind, p, staging);
+fn run_lent(
+    out: &mut impl Write,
+    record: &mut [u8],
+    kind: u8,
+    p: &[u8],
+    staging: &mut [u8],
+) -> io::Result<()> {
+    let next = run_call(out, fields_in(record), kind, p, staging)?;
     copy(record, &device_bytes(next));
+    Ok(())
 }
 
-fn run_frame(record: &mut [u8], kind: u8, p: &[u8], buffer: &mut [u8]) {
+fn run_frame(
+    out: &mut impl Write,
+    record: &mut [u8],
+    kind: u8,
+    p: &[u8],
+    buffer: &mut [u8],
+) -> io::Result<()> {
     match kind {
         b'S' | b'O' | b'C' | b'R' => {
             let lent = word32_at(p, 0) as usize;
-            tell::packet(kind, rest(p, ASKED_AT));
+            tell::packet(out, kind, rest(p, ASKED_AT))?;
             if lent <= buffer.len() {
-                run_lent(record, kind, p, &mut buffer[..lent]);
+                run_lent(out, record, kind, p, &mut buffer[..lent])?;
             }
+            Ok(())
         }
-        b'V' => run_version_reply(record),
-        _ => bench::run_frame(record, kind, p, buffer),
+        b'V' => run_version_reply(out, record),
+        _ => bench::run_frame(out, record, kind, p, buffer),
     }
 }
 
-fn main() {
+// The frames of the script, one after the other.
+fn run(input: &mut impl Read, out: &mut impl Write) -> io::Result<()> {
     let mut buffer = [0u8; 65600];
     let mut record = [0u8; DEVICE_SIZE];
-    let mut k: u32 = 0;
-    while k < FRAMES {
+    for _ in 0..FRAMES {
         let mut payload = [0u8; PAYLOAD_SIZE];
-        let f = next(&mut payload);
+        let f = next(input, out, &mut payload)?;
         if !f.whole {
-            return;
+            break;
         }
-        run_frame(&mut record, f.kind, first(&payload, f.len), &mut buffer);
-        k += 1;
+        let p = first(&payload, f.len);
+        run_frame(out, &mut record, f.kind, p, &mut buffer)?;
     }
+    Ok(())
+}
+
+fn main(rt: HostRuntime) -> io::Result<()> {
+    let mut input = BufReader::new(rt.alloc(), rt.reader())?;
+    let mut out = BufWriter::new(rt.alloc(), io::writer(&rt))?;
+    run(&mut input, &mut out)?;
+    out.flush()
 }

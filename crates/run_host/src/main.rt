@@ -7,51 +7,73 @@ use host_bytes::{HOST_SIZE, host_bytes, read_host};
 use host_record::record::Host;
 use run_print::first;
 use run_print::script::{FRAMES, Frame, PAYLOAD_SIZE, next};
+use std::io;
+use std::io::{BufReader, BufWriter, Read, Write};
 use wire::words::{byte_at, copy};
 
 mod told; // told.rt: what is printed of a step and of a record
 
-fn run_step(h: Host, bundle: &[u8], reply: &[u8]) -> Host {
+fn run_step(out: &mut impl Write, h: Host, bundle: &[u8], reply: &[u8]) -> io::Result<Host> {
     let a = step(h, bundle, reply);
-    told::step(a);
-    a.host
+    told::step(out, a)?;
+    Ok(a.host)
 }
 
 // A frame that leaves a record.
-fn run_kept(record: &mut [u8], kind: u8, p: &[u8], bundle: &[u8]) {
+fn run_kept(
+    out: &mut impl Write,
+    record: &mut [u8],
+    kind: u8,
+    p: &[u8],
+    bundle: &[u8],
+) -> io::Result<()> {
     let h = match kind {
         b'F' => Host::fresh(byte_at(p, 0)),
         b'K' => read_host(p),
-        _ => run_step(read_host(record), bundle, p),
+        _ => run_step(out, read_host(record), bundle, p)?,
     };
     copy(record, &host_bytes(h));
-    told::record(record);
+    told::record(out, record)
 }
 
 // A frame, with its payload at the start of the bytes that were read. The payload of `B` becomes the bundle; gives the bundle's length.
-fn run_frame(record: &mut [u8], f: Frame, read: &[u8], bundle: &mut [u8], len: usize) -> usize {
+fn run_frame(
+    out: &mut impl Write,
+    record: &mut [u8],
+    f: Frame,
+    read: &[u8],
+    bundle: &mut [u8],
+    len: usize,
+) -> io::Result<usize> {
     if f.kind == b'B' {
         copy(bundle, read);
-        return f.len;
+        return Ok(f.len);
     }
     if f.kind != b'#' {
-        run_kept(record, f.kind, first(read, f.len), first(bundle, len));
+        run_kept(out, record, f.kind, first(read, f.len), first(bundle, len))?;
     }
-    len
+    Ok(len)
 }
 
-fn main() {
+// The frames of the script, one after the other.
+fn run(input: &mut impl Read, out: &mut impl Write) -> io::Result<()> {
     let mut record = [0u8; HOST_SIZE];
     let mut bundle = [0u8; PAYLOAD_SIZE];
     let mut len = 0;
-    let mut k: u32 = 0;
-    while k < FRAMES {
+    for _ in 0..FRAMES {
         let mut payload = [0u8; PAYLOAD_SIZE];
-        let f = next(&mut payload);
+        let f = next(input, out, &mut payload)?;
         if !f.whole {
-            return;
+            break;
         }
-        len = run_frame(&mut record, f, &payload, &mut bundle, len);
-        k += 1;
+        len = run_frame(out, &mut record, f, &payload, &mut bundle, len)?;
     }
+    Ok(())
+}
+
+fn main(rt: HostRuntime) -> io::Result<()> {
+    let mut input = BufReader::new(rt.alloc(), rt.reader())?;
+    let mut out = BufWriter::new(rt.alloc(), io::writer(&rt))?;
+    run(&mut input, &mut out)?;
+    out.flush()
 }

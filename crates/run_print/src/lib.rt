@@ -6,56 +6,57 @@ pub mod line; // line.rt: words and numbers behind them
 pub mod form; // form.rt: texts with places for bytes
 pub mod script; // script.rt: the frames of a script
 
-use libc::STDOUT_FILENO;
+use std::io;
+use std::io::Write;
 use wire::version::Version;
 
-pub fn text(s: &[u8]) {
-    io::write_all(STDOUT_FILENO, s);
+pub fn text(out: &mut impl Write, s: &[u8]) -> io::Result<()> {
+    out.write_all(s)
 }
 
-pub fn decimal(n: u64) {
-    io::print_decimal(STDOUT_FILENO, n);
+pub fn decimal(out: &mut impl Write, n: u64) -> io::Result<()> {
+    write!(out, "{n}")
 }
 
 // A number behind its name.
-pub fn number(name: &[u8], n: u32) {
-    text(name);
-    decimal(n as u64);
+pub fn number(out: &mut impl Write, name: &[u8], n: u32) -> io::Result<()> {
+    text(out, name)?;
+    decimal(out, n as u64)
 }
 
-pub fn hex(n: u64, digits: usize) {
-    io::print_hex(STDOUT_FILENO, n, digits);
+// A number in so many digits, and in more where it has more.
+pub fn hex(out: &mut impl Write, n: u64, digits: usize) -> io::Result<()> {
+    write!(out, "{n:0digits$x}")
 }
 
-pub fn byte(b: u8) {
-    hex(b as u64, 2);
+pub fn byte(out: &mut impl Write, b: u8) -> io::Result<()> {
+    hex(out, b as u64, 2)
 }
 
 // The bytes, a space between two.
-pub fn bytes(s: &[u8]) {
-    let mut i = 0;
-    while i < s.len() {
+pub fn bytes(out: &mut impl Write, s: &[u8]) -> io::Result<()> {
+    for (i, b) in s.iter().enumerate() {
         if 0 < i {
-            text(b" ");
+            text(out, b" ")?;
         }
-        byte(s[i]);
-        i += 1;
+        byte(out, *b)?;
     }
+    Ok(())
 }
 
 // The bytes, and the end of the line.
-pub fn bytes_line(s: &[u8]) {
-    bytes(s);
-    text(b"\n");
+pub fn bytes_line(out: &mut impl Write, s: &[u8]) -> io::Result<()> {
+    bytes(out, s)?;
+    text(out, b"\n")
 }
 
 // Major, minor and variant, in decimal.
-pub fn version(v: Version) {
-    decimal(v.major() as u64);
-    text(b".");
-    decimal(v.minor() as u64);
-    text(b".");
-    decimal(v.variant() as u64);
+pub fn version(out: &mut impl Write, v: Version) -> io::Result<()> {
+    decimal(out, v.major() as u64)?;
+    text(out, b".")?;
+    decimal(out, v.minor() as u64)?;
+    text(out, b".")?;
+    decimal(out, v.variant() as u64)
 }
 
 // The first n bytes of a slice, and none where it has not so many.

@@ -6,8 +6,10 @@ use device_component::record::{Fixed, Listed};
 use host_record::record::End;
 use host_record::report::{Progress, Report};
 use image::region::{Region, StagingOffset};
-use libc::STDIN_FILENO;
+use run_print::script::read_full;
 use run_print::text;
+use std::io::{BufWriter, Write};
+use std::{env, io};
 use wire::codes::COMPONENT_LIMIT;
 use wire::version::Version;
 
@@ -26,10 +28,8 @@ fn with_digit(n: u32, digit: u8) -> u32 {
 // The decimal number in a text.
 fn number(s: &[u8]) -> u32 {
     let mut n: u32 = 0;
-    let mut i = 0;
-    while i < s.len() {
-        n = with_digit(n, s[i]);
-        i += 1;
+    for digit in s {
+        n = with_digit(n, *digit);
     }
     n
 }
@@ -52,20 +52,15 @@ fn listed() -> Listed {
 // One run, from a fresh device and a staging buffer of zeros.
 fn run_once(bundle: &[u8], token: u8) -> Report {
     let mut staging = [0u8; 64];
-    let one = listed();
-    let made = set_up(0x0042, [one; COMPONENT_LIMIT], 1, &staging);
-    let device = made.device;
-    let a = update::run(bundle, token, device, &mut staging);
-    a.report
+    let made = set_up(0x0042, [listed(); COMPONENT_LIMIT], 1, &staging);
+    update::run(bundle, token, made.device, &mut staging).report
 }
 
 // So many runs, and at least one; the last one's report.
 fn run_all(bundle: &[u8], times: u32) -> Report {
     let mut last = run_once(bundle, 0);
-    let mut k: u32 = 1;
-    while k < times {
+    for k in 1..times {
         last = run_once(bundle, (k % 256) as u8);
-        k += 1;
     }
     last
 }
@@ -83,25 +78,27 @@ fn is_done(p: Progress) -> bool {
     }
 }
 
-fn print(r: Report) {
-    let p = r.progress;
-    if is_done(p) {
-        text(b"done");
+fn print(out: &mut impl Write, r: Report) -> io::Result<()> {
+    if is_done(r.progress) {
+        text(out, b"done")?;
     } else {
-        text(b"not done");
+        text(out, b"not done")?;
     }
-    run_print::number(b", packets ", r.packets);
-    run_print::number(b", passes ", r.passes);
-    run_print::number(b", completed ", r.completed);
-    text(b"\n");
+    run_print::number(out, b", packets ", r.packets)?;
+    run_print::number(out, b", passes ", r.passes)?;
+    run_print::number(out, b", completed ", r.completed)?;
+    text(out, b"\n")
 }
 
-fn main() {
-    let mut word = [0u8; 16];
-    let digits = os::arg(1, &mut word);
-    let times = number(&word[..digits]);
+fn main(rt: HostRuntime) -> io::Result<()> {
+    let times = match env::args(&rt)?.nth(1) {
+        Some(word) => number(word.as_bytes()),
+        None => 0,
+    };
     let mut buffer = [0u8; 65536];
-    let n = io::read_full(STDIN_FILENO, &mut buffer);
+    let n = read_full(&mut rt.reader(), &mut buffer)?;
     let report = run_all(&buffer[..n], times);
-    print(report);
+    let mut out = BufWriter::new(rt.alloc(), io::writer(&rt))?;
+    print(&mut out, report)?;
+    out.flush()
 }

@@ -14,6 +14,8 @@ use host_record::report::Progress;
 use run_print::script::{FRAMES, PAYLOAD_SIZE, next};
 use run_print::{first, part, rest};
 use run_script::{case, tell};
+use std::io;
+use std::io::{BufReader, BufWriter, Read, Write};
 use wire::codes::SHORT_SIZE;
 use wire::words::{byte_at, copy, fill};
 
@@ -28,31 +30,39 @@ fn ask(h: Host, bundle: &[u8], way: Way, replies: &[u8]) -> StepAnswer {
 }
 
 // What is printed of an answer, and its first reply is put behind those on their way.
-fn told(p: &[u8], again: bool, a: Reply, way: Way, replies: &mut [u8]) -> Way {
-    let r = a.refusal;
+fn told(
+    out: &mut impl Write,
+    p: &[u8],
+    again: bool,
+    a: Reply,
+    way: Way,
+    replies: &mut [u8],
+) -> io::Result<Way> {
     let sent = a.replies;
-    tell::exchange(p, again, r, sent);
-    let reply = sent.reply;
+    tell::exchange(out, p, again, a.refusal, sent)?;
     if sent.due {
-        put_reply(way, replies, &reply)
+        Ok(put_reply(way, replies, &sent.reply))
     } else {
-        way
+        Ok(way)
     }
 }
 
 // A packet of the host arrives.
 fn arrives(
+    out: &mut impl Write,
     p: &[u8],
     again: bool,
     device: &mut [u8],
     staging: &mut [u8],
     way: Way,
     replies: &mut [u8],
-) -> Way {
-    if p.len() == SHORT_SIZE {
-        return told(p, again, offer_in_place(device, staging, p), way, replies);
-    }
-    told(p, again, content_in_place(device, staging, p), way, replies)
+) -> io::Result<Way> {
+    let a = if p.len() == SHORT_SIZE {
+        offer_in_place(device, staging, p)
+    } else {
+        content_in_place(device, staging, p)
+    };
+    told(out, p, again, a, way, replies)
 }
 
 // Packet j, counted from 0, arrives twice.
@@ -62,9 +72,7 @@ fn is_doubled(pattern: &[u8], j: u32) -> bool {
 }
 
 fn has_ended(h: Host) -> bool {
-    let r = h.report();
-    let p = r.progress;
-    match p {
+    match h.report().progress {
         Progress::Running => false,
         Progress::Ended(_) => true,
     }
@@ -81,99 +89,100 @@ struct Ends {
 
 // What was sent arrives, twice where the pattern says so.
 fn deliver(
+    out: &mut impl Write,
     e: Ends,
     p: &[u8],
     pattern: &[u8],
     device: &mut [u8],
     staging: &mut [u8],
     replies: &mut [u8],
-) -> Way {
-    let way = e.way;
+) -> io::Result<Way> {
     if p.len() == 0 {
-        return way;
+        return Ok(e.way);
     }
-    let once = arrives(p, false, device, staging, way, replies);
+    let once = arrives(out, p, false, device, staging, e.way, replies)?;
     if is_doubled(pattern, e.sent) {
-        return arrives(p, true, device, staging, once, replies);
+        return arrives(out, p, true, device, staging, once, replies);
     }
-    once
+    Ok(once)
 }
 
 // One turn: the host's step, and what it sends arrives; the run is over where the host has ended or its step is refused.
 fn turn(
+    out: &mut impl Write,
     e: Ends,
     bundle: &[u8],
     pattern: &[u8],
     device: &mut [u8],
     staging: &mut [u8],
     replies: &mut [u8],
-) -> Ends {
-    let before = e.way;
-    let a = ask(e.host, bundle, before, replies);
-    let refusal = a.refusal;
-    let sent = a.sent;
-    let packet = a.packet;
-    let host = a.host;
-    let n = sent.size();
+) -> io::Result<Ends> {
+    let a = ask(e.host, bundle, e.way, replies);
+    let n = a.sent.size();
     let asked = Ends {
-        host,
-        way: before.taken(),
+        host: a.host,
+        way: e.way.taken(),
         sent: e.sent,
         over: false,
     };
-    let way = deliver(asked, first(&packet, n), pattern, device, staging, replies);
-    Ends {
-        host,
+    let packet = first(&a.packet, n);
+    let way = deliver(out, asked, packet, pattern, device, staging, replies)?;
+    Ok(Ends {
+        host: a.host,
         way,
-        sent: std::num::wrapping_add_u32(e.sent, (0 < n) as u32),
-        over: refusal.is_refused() | has_ended(host),
-    }
+        sent: e.sent.wrapping_add((0 < n) as u32),
+        over: a.refusal.is_refused() | has_ended(a.host),
+    })
 }
 
 // The host and the device in turn.
 fn run_turns(
+    out: &mut impl Write,
     bundle: &[u8],
     token: u8,
     pattern: &[u8],
     device: &mut [u8],
     staging: &mut [u8],
-) -> Host {
+) -> io::Result<Host> {
     let mut replies = [0u8; way::SIZE];
-    let host = Host::fresh(token);
-    let way = Way::empty();
     let mut e = Ends {
-        host,
-        way,
+        host: Host::fresh(token),
+        way: Way::empty(),
         sent: 0,
         over: false,
     };
-    let mut k: u32 = 0;
-    while k < TURNS {
-        e = turn(e, bundle, pattern, device, staging, &mut replies);
+    for _ in 0..TURNS {
+        e = turn(out, e, bundle, pattern, device, staging, &mut replies)?;
         if e.over {
-            return e.host;
+            break;
         }
-        k += 1;
     }
-    e.host
+    Ok(e.host)
 }
 
 // The bundle and the pattern of a case; a frame T has the report too.
-fn run_lent(p: &[u8], twice: bool, device: &mut [u8], staging: &mut [u8]) {
+fn run_lent(
+    out: &mut impl Write,
+    p: &[u8],
+    twice: bool,
+    device: &mut [u8],
+    staging: &mut [u8],
+) -> io::Result<()> {
     let skip = pattern_size(twice);
     fill(staging, byte_at(p, case::FILL_AT));
-    tell::record(device);
+    tell::record(out, device)?;
     let host = run_turns(
+        out,
         rest(rest(p, skip), case::BUNDLE_AT),
         byte_at(p, case::TOKEN_AT),
         part(p, case::PATTERN_AT, skip),
         device,
         staging,
-    );
+    )?;
     if twice {
-        tell::report(host.report());
+        tell::report(out, host.report())?;
     }
-    tell::left(device, staging);
+    tell::left(out, device, staging)
 }
 
 // How many bytes of a case are its pattern.
@@ -181,28 +190,36 @@ fn pattern_size(twice: bool) -> usize {
     if twice { case::PATTERN_SIZE } else { 0 }
 }
 
-fn run_case(p: &[u8], twice: bool) {
+fn run_case(out: &mut impl Write, p: &[u8], twice: bool) -> io::Result<()> {
     let mut device = [0u8; DEVICE_SIZE];
     let mut staging = [0u8; case::STAGING_SIZE];
     let shifted = rest(p, pattern_size(twice));
     copy(&mut device, part(shifted, case::RECORD_AT, DEVICE_SIZE));
     let n = staging_len_in(&device) as usize;
     if n <= case::STAGING_SIZE {
-        run_lent(p, twice, &mut device, &mut staging[..n]);
+        run_lent(out, p, twice, &mut device, &mut staging[..n])?;
     }
+    Ok(())
 }
 
-fn main() {
-    let mut k: u32 = 0;
-    while k < FRAMES {
+// The frames of the script, one after the other.
+fn run(input: &mut impl Read, out: &mut impl Write) -> io::Result<()> {
+    for _ in 0..FRAMES {
         let mut payload = [0u8; PAYLOAD_SIZE];
-        let f = next(&mut payload);
+        let f = next(input, out, &mut payload)?;
         if !f.whole {
-            return;
+            break;
         }
         if f.kind != b'#' {
-            run_case(first(&payload, f.len), f.kind == b'T');
+            run_case(out, first(&payload, f.len), f.kind == b'T')?;
         }
-        k += 1;
     }
+    Ok(())
+}
+
+fn main(rt: HostRuntime) -> io::Result<()> {
+    let mut input = BufReader::new(rt.alloc(), rt.reader())?;
+    let mut out = BufWriter::new(rt.alloc(), io::writer(&rt))?;
+    run(&mut input, &mut out)?;
+    out.flush()
 }

@@ -9,7 +9,7 @@ const PLACES: u32 = 128;
 
 pub const SIZE: usize = PLACES as usize * SHORT_SIZE;
 
-#[derive(Drop)]
+#[derive(Clone, Copy)]
 pub struct Way {
     // The place of the first, and how many there are.
     pub from: u32,
@@ -52,9 +52,9 @@ impl Way {
 pub fn put_reply(way: Way, replies: &mut [u8], reply: &[u8]) -> Way {
     let more = Way {
         from: way.from,
-        count: std::num::wrapping_add_u32(way.count, 1),
+        count: way.count.wrapping_add(1),
     };
-    let i = std::num::wrapping_add_u32(way.from, way.count) % PLACES;
+    let i = way.from.wrapping_add(way.count) % PLACES;
     let at = i as usize * SHORT_SIZE;
     let end = at + SHORT_SIZE;
     if replies.len() < end {

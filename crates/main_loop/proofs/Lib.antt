@@ -1,3 +1,0 @@
-pub mod Frames
-pub mod Slices
-pub mod Walk

@@ -1,5 +1,5 @@
 -- What the check of a bundle leaves. Assumes nothing.
-use mathlib.Core.Path.{◌≡◌, refl, sym, ap, ap₂, ◌∙◌}
+use mathlib.Core.Path.{◌≡◌, refl, sym, ◌∙◌}
 use mathlib.Core.List.{List}
 use Prim.Native.Nat.{ℕ}
 use lib.ListN.{length}
@@ -13,7 +13,7 @@ use Rattle.bundle.specs.Contents.{check_of, told_checked}
 use Rattle.host_bytes.specs.Layout.{contents_size, no_place, contents_bytes}
 use Rattle.c_types.specs.Numbers.{letter_b, lettered_of}
 use Rattle.c_types.proofs.numbers.Laws.{of_row}
-use Rattle.c_host.specs.Check.{CheckLeft, bundle_number, check_by, check_call, told_check}
+use Rattle.c_host.specs.Check.{bundle_number, check_call, told_check}
 
 -- the number of a row
 of_bundle : (v : BundleVerdict) (entry : ℕ) → lettered_of letter_b (number_of v) ≡ bundle_number (row_of v entry)

@@ -6,7 +6,7 @@ ghost use Rattle.std.specs.Prelude.{◌≡◌, cond, leb};
 ghost use Rattle.host_record.specs.Fits.{packet_limit};
 ghost use Rattle.host_record.specs.Record.{ending_of, status_of, told_progress};
 ghost use Rattle.host_packet.specs.Answer.{row_n};
-ghost use Rattle.c_types.specs.Numbers.{SERVED};
+ghost use Rattle.c_types.specs.Numbers.{served_number};
 ghost use Rattle.c_types.specs.Lent.{leaves};
 ghost use Rattle.c_host.specs.Numbers.{step_number, ending_number};
 ghost use Rattle.c_host.specs.Check.{told_check, check_call};
@@ -59,7 +59,7 @@ pub fn cfu_host_fresh(host: &mut [u8], token: u8) -> u32
 
 // N1 for a record that counts more packets than any host may.
 fn report_number(packets: u32) -> u32
-    ensures { result ≡ cond (leb packet_limit packets) (step_number (row_n 1)) SERVED }
+    ensures { result ≡ cond (leb packet_limit packets) (step_number (row_n 1)) served_number }
 {
     if PACKET_LIMIT <= packets {
         lettered(ROW_N, StepRefusal::N1.number())

@@ -16,7 +16,6 @@ use Rattle.bundle_layout.specs.Rows as bundle
 use Rattle.bundle_layout.specs.declared.BundleVerdict.{BundleVerdict}
 use Rattle.bundle_layout.proofs.Numbers.{row_verdict}
 use Rattle.host_record.specs.declared.record.Host.{Host}
-use Rattle.host_record.specs.declared.record.HostStage.{HostStage}
 use Rattle.host_record.specs.declared.fits.Body.{Body}
 use Rattle.host_record.specs.Fits.{body_of, in_hand}
 use Rattle.host_packet.specs.Answer.{row_of, size_of, sent_by, told}

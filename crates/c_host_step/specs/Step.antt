@@ -4,7 +4,6 @@ use mathlib.Core.List.{List, flatten}
 use Rattle.wire.specs.Codes.{long_size}
 use Rattle.host_packet.specs.Answer.{Step, row_of, entry_of, size_of}
 use Rattle.host_packet.specs.declared.answer.Sent.{Sent}
-use Rattle.host_packet.specs.declared.answer.Sent.TheVariants as sent
 use Rattle.host_packet.specs.declared.answer.StepRefusal.{StepRefusal}
 use Rattle.host_packet.specs.Made.{InnerStep}
 use Rattle.host.specs.Step.{step_of}

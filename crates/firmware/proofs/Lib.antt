@@ -1,3 +1,1 @@
-pub mod Computed
 pub mod Lies
-pub mod Walk

@@ -12,7 +12,7 @@ use lib.Seq.{ext_get_or}
 use Rattle.wire.specs.Checks.{any}
 use Rattle.wire.specs.Codes.{component_limit}
 use Rattle.bundle_records.specs.Record.{Block}
-use Rattle.image.specs.Region.{within, region_bytes, blank}
+use Rattle.image.specs.Region.{within, region_bytes, blank, put}
 use Rattle.image.specs.declared.region.Region.{Region}
 use Rattle.image.proofs.region.Within.{region_byte, blank_length, put_length, within_length, within_own, within_out, within_apart}
 use Rattle.device_component.specs.Setup.{setup_verdict}

@@ -7,7 +7,7 @@ use mathlib.Core.List.{List, map}
 use native.Mathlib.Decide.{ℕ_discrete}
 use native.Mathlib.Omega.{arith}
 use borrow.Author.Tests.{eq-eqb}
-use lib.Dec.{T, T_not, not_T, ltb, leb, eqb, eqb_refl, eqb→eq, leb→le, le→leb, nltb→le, ltb→lt}
+use lib.Dec.{T, T_not, not_T, ltb, eqb, eqb_refl, eqb→eq, leb→le, le→leb, nltb→le, ltb→lt}
 use lib.ListN.{length, set, length-set}
 use lib.Seq.{get_or-set_same, get_or-set_other, map-set_same}
 use Rattle.wire.specs.Checks.{any}
@@ -31,7 +31,6 @@ use Rattle.bundle.proofs.Accepted.{Accepted}
 use Rattle.device_slots.specs.Slots.{slot_of, is_absent}
 use Rattle.device_offering.specs.Offer as offering
 use Rattle.device_offering.specs.Offer.{below}
-use Rattle.device.specs.Offer.{need_unmet}
 use Rattle.device.specs.Record.{find, component, to_idle, idle_with}
 use Rattle.device.specs.Refusals.{breaks_d1}
 use Rattle.device.specs.declared.record.Device.{Device}

@@ -18,7 +18,7 @@ use Rattle.host_packet.specs.Answer.{Step}
 use Rattle.host.specs.Step.{last_in, moved}
 use Rattle.host_record.specs.declared.record.Host.{Host}
 use Rattle.update.specs.Trace.{Exchange}
-use Rattle.update.specs.Run.{System, Schedule, is_middle, answer_to, left_by, arrives, heard, stepped, turned}
+use Rattle.update.specs.Run.{System, Schedule, is_middle, answer_to, left_by, arrives, heard, turned}
 use Rattle.update.specs.Demand.{Repeats}
 
 -- a packet and its reply

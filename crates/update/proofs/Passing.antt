@@ -23,7 +23,7 @@ use Rattle.host_decide.specs.Decide.{ends, pass_over, hears_reply, hears_block, 
 use Rattle.host_decide.proofs.Heard.{next_differs}
 use Rattle.host_packet.specs.Answer.{Step, served, row_n, refused_by}
 use Rattle.host.specs.Step.{step_of, step_by, step_on, breaks_n1, last_in, moved, packet_of}
-use Rattle.update.specs.Ends.{Passes, HostPasses}
+use Rattle.update.specs.Ends.{HostPasses}
 
 -- a step that no row refuses is its move
 served_moves : (b : List ℕ) (h : Host) (reply : List ℕ) → (step_of b h reply).row ≡ served

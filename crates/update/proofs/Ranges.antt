@@ -1,10 +1,9 @@
 -- A device or both ends that a parameter holds are values of their types. Assumes nothing.
-use mathlib.Core.Path.{◌≡◌, sym, ◌∙◌}
+use mathlib.Core.Path.{◌≡◌}
 use mathlib.Core.List.{List}
-use lib.ListN.{length, length-map}
+use lib.ListN.{length}
 use mir.Val.{Val}
 use denote.Laws.{Is}
-use Rattle.device_component.specs.contracts.record.Component as C
 use Rattle.device_component.proofs.record.Ranges.{components_range}
 use Rattle.device_session.proofs.effect.Ranges.{session_range}
 use Rattle.device.specs.Record.{FitsDevice}

@@ -19,7 +19,6 @@ use Rattle.device.specs.Record.{idle_with}
 use Rattle.device.specs.declared.record.Device.{Device}
 use Rattle.device.proofs.Calls.{Sound}
 use Rattle.device.proofs.Opened.{idle_passes}
-use Rattle.host_record.specs.Record.{has_bit}
 use Rattle.host_record.specs.declared.record.HostStage.TheVariants.{Ended}
 use Rattle.host_record.specs.declared.record.End.TheVariants.{Done}
 use Rattle.update.specs.Trace.{Exchange}

@@ -15,7 +15,6 @@ use Rattle.device.specs.declared.record.Device.{Device}
 use Rattle.host_record.specs.Record.{has_ended}
 use Rattle.host_packet.specs.Answer.{Step, row_n, refused_by}
 use Rattle.host.specs.Step.{step_of, step_by, step_on, breaks_n1, moved, packet_of, last_in}
-use Rattle.host_record.specs.declared.record.Host.{Host}
 use Rattle.host_decide.specs.Decide.{decide_of}
 use Rattle.host_decide.specs.declared.Action.TheVariants.{Nothing}
 use Rattle.host_decide.specs.declared.Move.{Move}

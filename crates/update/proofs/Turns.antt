@@ -29,7 +29,7 @@ use Rattle.device.proofs.Calls.{Sound, Answered, code_opens, code_accepted, answ
 use Rattle.device.proofs.Offering.{offer_verdict, after_offer, answers}
 use Rattle.device.proofs.Blocks.{held, awaits}
 use Rattle.device_session.specs.Effect.{blank_packet}
-use Rattle.host_record.specs.Record.{sent_at, has_ended}
+use Rattle.host_record.specs.Record.{sent_at}
 use Rattle.host_decide.specs.Decide.{sends, offer_from, noted, decide_in, decide_of}
 use Rattle.host.specs.Step.{moved, packet_of, block_packet}
 use Rattle.host_record.specs.declared.record.Host.{Host}

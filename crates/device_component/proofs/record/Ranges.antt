@@ -1,6 +1,6 @@
 -- Components that a parameter holds are values of their type. Assumes nothing.
 use Prim.Native.Nat.{ℕ, zero, suc}
-use mathlib.Core.List.{List, [], ◌∷◌, map}
+use mathlib.Core.List.{List, [], ◌∷◌}
 use mir.Val.{Val}
 use denote.Array.{each}
 use denote.Laws.{Is}
@@ -20,7 +20,7 @@ staged_range Nothing vs h = tt
 staged_range (Pending v) vs h = h.1.1.1.1.0.1.1.0.1
 
 -- a component
-component_range : (c : Component) (vs : List Val) → Is (C.the_field).row ((C.the_field).into c) vs → FitsComponent c
+component_range : (c : Component) (vs : List Val) → Is C.the_row c vs → FitsComponent c
 component_range c vs h =
     let f = h.1.1 in
     let g = f.0.1.1 in
@@ -31,7 +31,7 @@ component_range c vs h =
     }
 
 -- each component of a list
-pub components_range : (cs : List Component) (us : List Val) → shadow (each (C.the_field).row.Denot (C.the_field).row.own_val (map (C.the_field).into cs) us)
+pub components_range : (cs : List Component) (us : List Val) → shadow (each (C.the_row).Denot (C.the_row).own_val cs us)
     → (k : ℕ) → FitsComponent (component_at cs k)
 components_range [] us h k = blank_fits
 components_range (c ∷ cs) [] h k = absurd h

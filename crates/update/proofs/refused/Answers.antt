@@ -4,7 +4,6 @@ use mathlib.Core.Path.{ap, ◌∙◌}
 use mathlib.Core.List.{List}
 use Rattle.host_record.specs.Record.{Reported, report_of}
 use Rattle.update.specs.Answer.{row_of, Ran}
-use borrow.Author.Rules.{rules}
 use Rattle.update.proofs.refused.Goals as goal
 
 pub returns : goal.returns

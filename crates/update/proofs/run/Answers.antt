@@ -16,7 +16,7 @@ use Rattle.update.proofs.Ranges.{device_fits}
 use Rattle.update.proofs.Answers.{bundle_refuses, d1_refuses, d2_refuses, no_row}
 use Rattle.update.proofs.Answered.{refused_answered, served_answered}
 use borrow.Author.Rules.{rules}
-use Rattle.update.proofs.run.Goals.{After-check-checked, After-slice_known-1, Else-breaks_d1, Else-is_refused, Else-staging-device, Start}
+use Rattle.update.proofs.run.Goals.{After-check-checked, Else-breaks_d1, Else-is_refused, Else-staging-device, Start}
 use Rattle.update.proofs.run.Goals as goal
 
 -- the row is that of the verdict
@@ -40,18 +40,16 @@ small c = search rules
 -- demand 3's premise, where the bodies are good: the ranges are those of the parameters' types, and no row refuses
 premise : (c : Else-staging-device) → let a = c.args in
     GoodBodies a.bundle.now a.device → Premise a.bundle.now a.token a.device a.staging.now
-premise c good =
-    let k = (goal.at.Else-staging-device c).After-slice_known-1 in
-    record {
-      small = small (goal.at.Else-staging-device c).Start;
-      fits = device_fits k.args.device _ k.before.before.well-formed.1.1.0;
-      bytes = λ i. (c.type_inv.staging i).fits;
-      bundle = λ i. (c.type_inv.bundle i).fits;
-      d1 = fine (goal.at.Else-staging-device c).Else-breaks_d1;
-      d2 = c.if-staging-device.false;
-      accepted = served_is (goal.at.Else-staging-device c).Else-is_refused;
-      good = good;
-    }
+premise c good = record {
+  small = small (goal.at.Else-staging-device c).Start;
+  fits = device_fits c.args.device _ c.well_formed.1.1.0;
+  bytes = λ i. (c.type_inv.staging i).fits;
+  bundle = λ i. (c.type_inv.bundle i).fits;
+  d1 = fine (goal.at.Else-staging-device c).Else-breaks_d1;
+  d2 = c.if-staging-device.false;
+  accepted = served_is (goal.at.Else-staging-device c).Else-is_refused;
+  good = good;
+}
 
 pub returns-then-is_refused : goal.returns-then-is_refused
 returns-then-is_refused c =

@@ -10,7 +10,6 @@ use Rattle.host_packet.specs.declared.answer.Sent.{Sent}
 use Rattle.update.specs.Run.{channel_of}
 use Rattle.update.specs.Turn.{Delivered}
 use Rattle.update.proofs.turn.Laws.{first_length, nothing_delivered, answer_delivered}
-use borrow.Author.Rules.{rules}
 use Rattle.update.proofs.turn.deliver.Goals as goal
 
 pub slice_bounds-offer-end : goal.slice_bounds-offer-end

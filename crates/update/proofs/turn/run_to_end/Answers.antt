@@ -3,14 +3,13 @@ use mathlib.Core.Path.{◌≡◌, refl, sym, ap, subst⁻¹, ◌∙◌}
 use Prim.Native.Nat.{ℕ, ◌<◌}
 use native.Mathlib.Omega.{arith}
 use borrow.Author.Rules.{rules}
-use borrow.Author.Tests.{not-true, not-false}
 use lib.ListN.{length}
 use Rattle.bundle_layout.specs.Layout.{offer_limit}
 use Rattle.host_record.specs.Fits.{body_on, in_hand}
 use Rattle.host_record.specs.Record.{has_ended}
 use Rattle.host_record.specs.declared.record.Host.{Host}
-use Rattle.update.proofs.turn.Laws.{TurnedOn, turned_on, Reached, within_table, left_of, reached_start, turn_less, reached_turn, reached_end}
-use Rattle.update.proofs.turn.run_to_end.Goals.{After-in_hand, After-shared_slice_known-1, After-turn-e, Start}
+use Rattle.update.proofs.turn.Laws.{TurnedOn, turned_on, within_table, reached_start, turn_less, reached_turn, reached_end}
+use Rattle.update.proofs.turn.run_to_end.Goals.{After-in_hand, After-turn-e, Start}
 use Rattle.update.proofs.turn.run_to_end.Goals as goal
 
 -- the token is a byte
@@ -25,10 +24,8 @@ hand_is c = c.in_hand.ensures ∙ ap in_hand c.loop-table.invariant.1
 hand_within : (c : After-in_hand) → c.in_hand.result < offer_limit
 hand_within c =
     let l = c.loop-table in
-    let p = (goal.at.After-in_hand c).After-shared_slice_known-1 in
-    let a = p in
     subst⁻¹ (λ (n : ℕ). n < offer_limit) (hand_is c)
-    (within_table a.args.bundle.now (λ i. (c.type_inv.bundle i).fits) a.requires.1 l.e.host l.invariant.0.ready)
+    (within_table c.args.bundle.now (λ i. (c.type_inv.bundle i).fits) c.requires.1 l.e.host l.invariant.0.ready)
 
 -- the turn of the loop, with the body in hand
 turned : (c : After-turn-e) → let l = c.loop-table in
@@ -41,7 +38,6 @@ turned c =
 
 pub loop-table-init : goal.loop-table-init
 loop-table-init c =
-    let p = (goal.at.loop-table-init c).After-shared_slice_known-1 in
     let s = (goal.at.loop-table-init c).Start in
     let a = s.args in
     let f = c.fresh-host in (
@@ -53,7 +49,6 @@ loop-table-init c =
 
 pub loop-table-smaller : goal.loop-table-smaller
 loop-table-smaller c =
-    let p = (goal.at.loop-table-smaller c).After-shared_slice_known-1 in
     let s = (goal.at.loop-table-smaller c).Start in
     let a = s.args in
     let l = c.loop-table in
@@ -61,11 +56,10 @@ loop-table-smaller c =
     let h = c.has_ended in
     turn_less a.bundle.now a.token a.device a.staging.now (λ i. (c.type_inv.bundle i).fits) s.requires.1 (small s)
     l.e t.turn-e.result l.staging t.turn-e.new.staging l.invariant.0.ready l.invariant.0.cursor (turned t)
-    (ap has_ended (sym l.invariant.1) ∙ sym h.ensures ∙ not-true h.result c.loop-table-test.true)
+    (ap has_ended (sym l.invariant.1) ∙ sym h.ensures ∙ c.loop-table-test.true)
 
 pub loop-table-preserved : goal.loop-table-preserved
 loop-table-preserved c =
-    let p = (goal.at.loop-table-preserved c).After-shared_slice_known-1 in
     let s = (goal.at.loop-table-preserved c).Start in
     let a = s.args in
     let l = c.loop-table in
@@ -74,7 +68,7 @@ loop-table-preserved c =
     let w : length t.turn-e.new.staging ≡ length l.staging = search rules in (
       reached_turn a.bundle.now a.token a.device a.staging.now (λ i. (c.type_inv.bundle i).fits) s.requires.1 (small s)
           l.e t.turn-e.result l.staging t.turn-e.new.staging l.invariant.0
-          (ap has_ended (sym l.invariant.1) ∙ sym h.ensures ∙ not-true h.result c.loop-table-test.true) (turned t),
+          (ap has_ended (sym l.invariant.1) ∙ sym h.ensures ∙ c.loop-table-test.true) (turned t),
       refl,
       w ∙ l.invariant.2,
     )
@@ -84,7 +78,6 @@ shape_of-staging c = c.loop-table.invariant.2
 
 pub returns : goal.returns
 returns c =
-    let p = (goal.at.returns c).After-shared_slice_known-1 in
     let s = (goal.at.returns c).Start in
     let a = s.args in
     let l = c.loop-table in

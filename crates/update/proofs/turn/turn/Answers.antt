@@ -5,13 +5,12 @@ use lib.ListN.{length, replicate}
 use Rattle.host_packet.specs.Packet.{packet_size}
 use Rattle.update.proofs.Ranges.{reply_length}
 use Rattle.update.proofs.turn.Laws.{first_length, heard_most, stepped, step_turned}
-use borrow.Author.Rules.{rules}
 use Rattle.update.proofs.turn.turn.Goals.{After-heard-n, Start}
 use Rattle.update.proofs.turn.turn.Goals as goal
 
 -- a reply is 16 bytes long, and no more is received
 sixteen : (c : Start) → length c.args.e.replies.reply ≡ 16
-sixteen c = reply_length c.args.e _ c.well-formed.1.1.1.0
+sixteen c = reply_length c.args.e _ c.well_formed.1.1.1.0
 
 most : (c : After-heard-n) → c.heard-n.result ≤ length c.args.e.replies.reply
 most c =

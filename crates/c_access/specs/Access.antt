@@ -1,6 +1,6 @@
 -- The calls from C for one part of lent bytes: what each answers, and what it leaves in the list. Places count from 0. The row of a place that is not there, C4,
 -- comes after those of the bytes themselves.
-use Rattle.std.specs.Prelude.{ℕ, ◌+◌, ◌-◌, cond, List, ltb}
+use Rattle.std.specs.Prelude.{ℕ, ◌-◌, cond, List, ltb}
 use Rattle.wire.specs.Codes.{component_limit}
 use Rattle.bundle_layout.specs.Rows as bundle
 use Rattle.device_component.specs.declared.record.Component.{Component}

@@ -6,7 +6,6 @@ use native.Mathlib.Omega.{arith}
 use borrow.Author.Tests.{eq-eqb}
 use lib.ListN.{length, take, drop}
 use lib.Seq.{take-append_seam}
-use Rattle.bundle_layout.specs.Rows as rows
 use Rattle.bundle.specs.Contents.{check_of}
 use Rattle.host_bytes.specs.Layout.{contents_size}
 use Rattle.bundle_given.specs.Given.{count_of}

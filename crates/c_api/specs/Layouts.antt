@@ -10,7 +10,6 @@ use Rattle.bundle.specs.Contents.{Contents}
 use Rattle.device_component.specs.Record.{blank_component}
 use Rattle.device_component.specs.declared.record.Component.{Component}
 use Rattle.device_component.specs.declared.record.Fixed.{Fixed}
-use Rattle.device_component.specs.declared.record.Listed.{Listed}
 use Rattle.device_component.specs.declared.record.Staged.TheVariants.{Pending}
 use Rattle.device_session.specs.Effect.{blank_packet, no_replies}
 use Rattle.device_session.specs.declared.effect.Replies.{Replies}

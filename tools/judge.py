@@ -43,16 +43,17 @@ def facts(said, sources):
 
 
 def is_of(fact, program):
-    """Whether a fact is of the function that a wrong program changes: its name, in the module of its file."""
+    """Whether a fact is of the function that a wrong program changes: one of its name in the module of its file, or of a type that has an `impl` in that file."""
     place, item = fact[:2]
-    module = re.sub(r'^src/|/mod$', '', program.file[:-len('.rt')])
-    module = [] if module in ('lib', 'main') else module.split('/')
     if item != program.item:
         return False
     if place.startswith('src/'):
         return place == program.file
     path = place.split('/')[1:-2] if place.startswith('proofs/') else place.split('::')[1:-1]
-    return path[:len(module)] == module
+    if path and path[-1][0].isupper():
+        return bool(re.search(rf'^impl\b[^{{]*\b{re.escape(path[-1])}\b', program.text, re.M))
+    module = re.sub(r'^src/|/mod$', '', program.file[:-len('.rt')])
+    return path == ([] if module in ('lib', 'main') else module.split('/'))
 
 
 def shown(program, alone, said, sources):

@@ -55,18 +55,21 @@ def over_libraries(name, known):
 
 
 def rattle(*arguments, folder):
-    """One run of `rattle` in a folder: its status, and all that it said."""
-    done = subprocess.run([f'{kit()}/bin/rattle', *arguments], cwd=folder, stdin=subprocess.DEVNULL, stdout=subprocess.PIPE, stderr=subprocess.STDOUT,
-                          text=True, errors='replace')
+    """One run of `rattle` in a folder: its status, and all that it said. One that is killed, most likely for memory, runs once more."""
+    for _ in range(2):
+        done = subprocess.run([f'{kit()}/bin/rattle', *arguments], cwd=folder, stdin=subprocess.DEVNULL, stdout=subprocess.PIPE, stderr=subprocess.STDOUT,
+                              text=True, errors='replace')
+        if done.returncode >= 0:
+            break
     return done.returncode, done.stdout
 
 
-def rt(verb, crate):
-    """One run of `rt` in a crate's folder."""
-    done = subprocess.run(['rt', verb], cwd=f'{TOP}/crates/{crate}', stdin=subprocess.DEVNULL, stdout=subprocess.PIPE, stderr=subprocess.STDOUT, text=True,
+def rt(*arguments, folder='.'):
+    """One run of `rt` in a folder of the repository."""
+    done = subprocess.run(['rt', *arguments], cwd=f'{TOP}/{folder}', stdin=subprocess.DEVNULL, stdout=subprocess.PIPE, stderr=subprocess.STDOUT, text=True,
                           errors='replace')
     if done.returncode != 0:
-        raise Failed(f'rt {verb} of {crate}: status {done.returncode}\n{done.stdout[-3000:]}')
+        raise Failed(f'rt {" ".join(arguments)} in {folder}: status {done.returncode}\n{done.stdout[-3000:]}')
 
 
 def sum_of_files():
@@ -101,7 +104,7 @@ def library(name):
     """Builds a static library, and says where."""
     made, known = f'{TOP}/crates/{name}/out/lib{name}.a', crates()
     if not has_passed():
-        rt('lib', name)
+        rt('lib', folder=f'crates/{name}')
         return made
     folder = f'{TOP}/crates/{name}'
     os.makedirs(f'{folder}/out', exist_ok=True)

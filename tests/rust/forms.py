@@ -59,6 +59,7 @@ pub enum Found {
 PART = '''// A module whose name the high crate has too.
 use crate::Found;
 use crate::Pair;
+use std::num::{wrapping_add_u8, wrapping_sub_u8};
 
 // With bytes and a struct.
 pub fn lent(read: &[u8], p: Pair, written: &mut [u8]) -> Pair {
@@ -77,14 +78,14 @@ pub fn next(a: u16) -> u16
     ensures other { T {result} }
 {
     prove!(a < 65536);
-    a.wrapping_add(1)
+    std::num::wrapping_add_u16(a, 1)
 }
 
 pub(crate) fn before(a: u8) -> u8
     ghost g: { ℕ }
     requires* same { ⌜ a ≡ g ⌝ }
 {
-    a.wrapping_sub(b'\\x01')
+    wrapping_sub_u8(wrapping_add_u8(a, 0), b'\\x01')
 }
 
 impl Pair {
@@ -161,8 +162,8 @@ MADE = {
     'src/low/mod.rs': ['//! The low crate: \\[brackets\\] and \\<signs\\> in words, `a[0]` as code.\npub mod part; // part.rt: a module\n',
                        '/// A pair.\n#[repr(C)]\n#[derive(Clone, Copy, Debug, PartialEq, Eq)]\npub struct Pair {\n    /// The left one.\n',
                        '#[derive(Debug, PartialEq, Eq)]\npub struct Lent', '    /// Nothing.\n    Nothing,\n'],
-    'src/low/part.rs': ['/// The next one.\n#[inline]\npub fn next(a: u16) -> u16 {\n    a.wrapping_add(1)\n}\n',
-                        '#[inline]\npub(in crate::low) fn before(a: u8) -> u8 {\n    a.wrapping_sub(b', '    // Not documentation.\n',
+    'src/low/part.rs': ['/// The next one.\n#[inline]\npub fn next(a: u16) -> u16 {\n    u16::wrapping_add(a, 1)\n}\n',
+                        '#[inline]\npub(in crate::low) fn before(a: u8) -> u8 {\n    u8::wrapping_sub(u8::wrapping_add(a, 0), b', '    // Not documentation.\n',
                         '    /// The left one, whatever b is.\n    #[inline]\n    #[allow(unused_variables)] // only the contract names b\n    pub fn left_of(self, b'],
     'src/high/mod.rs': ['use crate::low::Pair;\nuse crate::low::part as below;\n', '= crate::low::part::next(p.left);\n    part::kept(left) + below::next('],
 }
@@ -177,7 +178,8 @@ MEASURED = {
 UNKNOWN = [
     ('{\n    a', '{\n    io::a', 'crates/high/src/part.rt:5: `io::`'),
     ('{\n    a', '{\n    crc::a', 'crates/high/src/part.rt:5: `crc::`'),
-    ('{\n    a', '{\n    std::mem::a', 'crates/high/src/part.rt:5: `std::`'),
+    ('{\n    a', '{\n    std::mem::a', 'crates/high/src/part.rt:5: `std::mem`'),
+    ('{\n    a', '{\n    std::num::truncating_f64_to_u64(a)', 'crates/high/src/part.rt:5: `std::num::truncating_f64_to_u64`'),
     ('{\n    a', '{\n    let a = prove!(a < 1);', 'crates/high/src/part.rt:5: `prove!` that is no statement'),
     ('{\n    a', '{\n    a ≡ 1', "crates/high/src/part.rt:5: a character that is not known outside a contract: '≡'"),
     ('pub fn', 'use io::print;\npub fn', 'crates/high/src/part.rt:2: `use io`'),

@@ -9,6 +9,7 @@ pub mod script; // script.rt: the frames of a script
 use std::io;
 use std::io::Write;
 use wire::version::Version;
+use wire::words::least;
 
 pub fn text(out: &mut impl Write, s: &[u8]) -> io::Result<()> {
     out.write_all(s)
@@ -24,9 +25,10 @@ pub fn number(out: &mut impl Write, name: &[u8], n: u32) -> io::Result<()> {
     decimal(out, n as u64)
 }
 
-// A number in so many digits, and in more where it has more.
+// A number in so many digits, 16 at the most, and in more where it has more.
 pub fn hex(out: &mut impl Write, n: u64, digits: usize) -> io::Result<()> {
-    write!(out, "{n:0digits$x}")
+    let width = least(digits, 16);
+    write!(out, "{n:0width$x}")
 }
 
 pub fn byte(out: &mut impl Write, b: u8) -> io::Result<()> {

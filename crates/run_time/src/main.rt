@@ -13,6 +13,9 @@ use std::{env, io};
 use wire::codes::COMPONENT_LIMIT;
 use wire::version::Version;
 
+// The longest argument that is read.
+const WORD_SIZE: usize = 16;
+
 // A decimal number with one more digit; what is no digit, or too much, is passed over.
 fn with_digit(n: u32, digit: u8) -> u32 {
     if n < 100000000 {
@@ -32,6 +35,15 @@ fn number(s: &[u8]) -> u32 {
         n = with_digit(n, *digit);
     }
     n
+}
+
+// The number in an argument; one that is longer than 16 bytes counts as missing.
+fn number_in(word: &[u8]) -> u32 {
+    if word.len() <= WORD_SIZE {
+        number(word)
+    } else {
+        0
+    }
 }
 
 // Component 1 runs 1.0.0 and has the whole staging buffer.
@@ -92,7 +104,7 @@ fn print(out: &mut impl Write, r: Report) -> io::Result<()> {
 
 fn main(rt: HostRuntime) -> io::Result<()> {
     let times = match env::args(&rt)?.nth(1) {
-        Some(word) => number(word.as_bytes()),
+        Some(word) => number_in(word.as_bytes()),
         None => 0,
     };
     let mut buffer = [0u8; 65536];

@@ -71,6 +71,7 @@ pub fn lent(read: &[u8], p: Pair, written: &mut [u8]) -> Pair {
 }
 
 // The next one.
+#[inline(always)]
 #[tactic(auto, using(crate::proofs::Next::next_wraps))]
 pub fn next(a: u16) -> u16
     ensures wraps { result ≡ (record { value = a } .value + 1) % 2 ^ 16 }

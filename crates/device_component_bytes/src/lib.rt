@@ -83,6 +83,7 @@ pub fn component_bytes(c: Component) -> [u8; COMPONENT_SIZE]
 }
 
 // What is fixed of a component.
+#[inline(always)]
 fn fixed_in(q: &[u8]) -> Fixed
     ensures { result ≡ fixed_in q.now }
 {
@@ -107,7 +108,8 @@ fn staged_in(staged: u8, v: Version) -> Staged
     }
 }
 
-// A component of the list that set-up takes.
+// A component of the list that set-up takes. Inlined, with what it calls: where the length of what is lent is known, no byte's place is tested.
+#[inline(always)]
 pub fn listed_in(q: &[u8]) -> Listed
     ensures { result ≡ listed_in q.now }
 {

@@ -3,6 +3,7 @@
 A wrong program counts only where a fact fails in the very function that it changes: a goal that `search` did not prove, or an answer of its proof file that no
 longer proves its goal. One that stands alone may fail anywhere in its crate. A name that a proof file no longer finds shows nothing: the goals of a function are
 named after its conditions and calls, so an edit can rename them. Such a proof file is first made to fit, by `fitted`, and checked again."""
+import difflib
 import os
 import re
 
@@ -77,9 +78,17 @@ def line(program, told, good):
 OWN = ('Answers.antt', 'Invariants.antt', 'Proof.antt')  # the files of a function's own proof
 TOKEN = r"(?<![\w'-]){}(?![\w'-])"
 LACKING = re.compile(r'has no (?:field )?`([^`]+)`')
-MEANT = re.compile(r'\(did you mean `([^`]+)`|\(nearest: \.([^,)\s]+)')
+NEAR = re.compile(r'\((?:did you mean|nearest:|names in it that begin alike:) ([^)]*)\)')
+NAME = re.compile(r"[`.]([\w'-]+)")
 ASKED = re.compile(r'^help: `\w+` has no `([^`]+)`; rattle asks for ([^;]*)')
 BLOCK = re.compile(r"^pub ([\w'-]+) :.*\n(?:(?!pub |use |--).*\n?)*", re.M)
+
+
+def nearest(name, choices):
+    """The one of these names that is most like a name, if any is."""
+    like = {each: difflib.SequenceMatcher(None, name, each).ratio() for each in choices}
+    best = max(like, key=like.get, default=None)
+    return best if best and like[best] > 0.6 else None
 
 
 def fitted(said, proofs):
@@ -90,7 +99,7 @@ def fitted(said, proofs):
         found = ASKED.match(each)
         if found:
             asked.setdefault(found.group(1), re.findall(r'`([^`]+)`', found.group(2)))
-    renames, drops = {}, {}
+    renames, drops, lost = {}, {}, {}
     for each in said.splitlines():
         found = ERROR.match(each)
         if not found or not MISFIT.search(found.group(4)) or os.path.basename(found.group(1)) not in OWN:
@@ -100,29 +109,29 @@ def fitted(said, proofs):
         if not old:
             drops.setdefault(place, set()).add(row)
             continue
-        meant = MEANT.search(told)
-        choices = asked.get(old.group(1), []) or [it for it in (meant.groups() if meant else ()) if it]
-        text = proofs[place]
-        taken = set(renames.get(place, {}).values())
-        new = next((it for it in choices if it not in taken and not re.search(TOKEN.format(re.escape(it)), text)), None)
         known = renames.setdefault(place, {})
         if old.group(1) in known:
             continue
+        near = NEAR.search(told)
+        choices = [*asked.get(old.group(1), []), *(NAME.findall(near.group(1)) if near else [])]
+        new = nearest(old.group(1), [it for it in choices if it not in known.values() and not re.search(TOKEN.format(re.escape(it)), proofs[place])])
         if new:
             known[old.group(1)] = new
         else:
             drops.setdefault(place, set()).add(row)
+            lost.setdefault(place, set()).add(old.group(1))  # where an import brings it
     made = {}
     for place in {*renames, *drops}:
         text = proofs[place]
         if drops.get(place):
             if os.path.basename(place) != 'Answers.antt':
                 continue
-            starts = [(text.count('\n', 0, m.start()) + 1, m) for m in BLOCK.finditer(text)]
-            for row in drops[place]:
-                at = [m for start, m in starts if start <= row]
-                if at:
-                    text = text.replace(at[-1].group(), '', 1)
+            for block in BLOCK.finditer(proofs[place]):
+                first = proofs[place].count('\n', 0, block.start()) + 1
+                if any(first <= row < first + block.group().count('\n') for row in drops[place]):
+                    text = text.replace(block.group(), '', 1)
+            for name in lost.get(place, ()):
+                text = re.sub(rf'(?<=[{{ ]){re.escape(name)}(?:, |(?=\}}))', '', text)
         for old, new in renames.get(place, {}).items():
             text = re.sub(TOKEN.format(re.escape(old)), lambda _: new, text)
         if text != proofs[place]:

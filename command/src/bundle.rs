@@ -4,8 +4,8 @@ use std::ffi::OsStr;
 use cfu_updater::bundle::check;
 use cfu_updater::bundle_layout::head::table_end;
 use cfu_updater::bundle_layout::limits::BUNDLE_LIMIT;
-use cfu_updater::bundle_layout::{Checked, Entry};
-use cfu_updater::c_types::numbers::{lettered, ROW_B, SERVED};
+use cfu_updater::bundle_layout::{BundleRefusal, Checked, Entry};
+use cfu_updater::c_types::numbers::{lettered, ROW_B};
 use cfu_updater::wire::codes::SHORT_SIZE;
 
 use crate::failure::Failure;
@@ -20,7 +20,7 @@ pub struct Row {
 /// A bundle and what the check answered.
 pub struct Bundle {
     pub bytes: Vec<u8>,
-    pub checked: Checked,
+    pub checked: Result<Checked, BundleRefusal>,
 }
 
 impl Bundle {
@@ -36,13 +36,13 @@ impl Bundle {
 
     /// The row that refuses it, if one does.
     pub fn refusal(&self) -> Option<Row> {
-        let number = lettered(ROW_B, self.checked.verdict.number());
-        (number != SERVED).then_some(Row { number, entry: self.checked.place.into() })
+        let refusal = self.checked.as_ref().err()?;
+        Some(Row { number: lettered(ROW_B, refusal.row.number()), entry: refusal.place.into() })
     }
 
     /// Its offers with their bodies; none of a bundle that is refused.
     pub fn entries(&self) -> &[Entry] {
-        &self.checked.table[..self.checked.count.into()]
+        self.checked.as_ref().map_or(&[], |checked| &checked.table[..checked.count.into()])
     }
 
     /// The 16 bytes of an offer of its table, counted from 0.

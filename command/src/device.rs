@@ -6,7 +6,6 @@ use cfu_updater::c_read::cfu_read_version_reply;
 use cfu_updater::c_types::numbers::SERVED;
 use cfu_updater::c_version::{COMPONENTS_SIZE, ID_AT, RUNNING_SIZE};
 use cfu_updater::device_bytes::{COMPONENTS_START, DEVICE_SIZE, LIST_SIZE};
-use cfu_updater::device_component::record::Staged;
 use cfu_updater::device_component_bytes::{component_in, COMPONENT_SIZE, LISTED_SIZE};
 use cfu_updater::wire::codes::{LONG_SIZE, SHORT_SIZE};
 use cfu_updater::wire::version::Version;
@@ -69,10 +68,7 @@ impl Device {
                 floor if floor.release() == 0 => String::new(),
                 floor => format!(", floor {}", shown::version(floor)),
             };
-            let pending = match own.staged {
-                Staged::Pending(version) => format!(", pending {}", shown::version(version)),
-                Staged::Nothing => String::new(),
-            };
+            let pending = own.staged.map_or_else(String::new, |version| format!(", pending {}", shown::version(version)));
             out.line(format!("  component {} runs {}{floor}{pending}", running[ID_AT], shown::version(Version::read_at(running, 0))));
         }
         Ok(())

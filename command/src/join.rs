@@ -2,7 +2,7 @@
 use std::ffi::{OsStr, OsString};
 
 use cfu_updater::bundle_layout::limits::{BUNDLE_LIMIT, ENTRY, HEAD, OFFER_LIMIT};
-use cfu_updater::bundle_layout::BundleVerdict;
+use cfu_updater::bundle_layout::{BundleRefusal, BundleRow};
 use cfu_updater::wire::codes::{PROTOCOL, SHORT_SIZE};
 
 use crate::args::{missing, Known, Line};
@@ -77,9 +77,10 @@ fn joined(parts: &[Part]) -> Vec<u8> {
 /// What is said of a bundle that the check refuses, whose offers' bytes 12 were exchanged or not.
 fn refusal(bundle: &Bundle, row: &Row, swap: bool) -> Vec<OsString> {
     let mut lines = vec![format!("refused {}", shown::row(row.number, row.entry)).into()];
-    let foreign_order = bundle.checked.verdict == BundleVerdict::B5
-        && bundle.checked.place > 0
-        && bundle.offer_bytes(bundle.checked.place - 1)[PROTOCOL_AT] == PROTOCOL.rotate_left(4);
+    let foreign_order = match bundle.checked {
+        Err(BundleRefusal { row: BundleRow::B5, place }) if place > 0 => bundle.offer_bytes(place - 1)[PROTOCOL_AT] == PROTOCOL.rotate_left(4),
+        _ => false,
+    };
     if foreign_order && swap {
         lines.push(format!("byte 12 had CFU's order already: without {SWAP_PROTOCOL}").into());
     } else if foreign_order {

@@ -5,7 +5,7 @@ use cfu_updater::bundle_records::walk::next_record;
 use cfu_updater::bundle_records::Next;
 use cfu_updater::crc16::crc16;
 use cfu_updater::device_component::setup::{REGION_LEAST, STAGING_LIMIT};
-use cfu_updater::image::judge::{examine, Image};
+use cfu_updater::image::judge::{examine, ImageFault};
 use cfu_updater::image::region::{Region, StagingOffset};
 use cfu_updater::wire::address::RegionAddress;
 use cfu_updater::wire::version::Version;
@@ -86,10 +86,10 @@ pub fn borne_by(image: &[u8]) -> Option<Borne> {
 /// The judgement on a region that holds the image of an offer.
 fn verdict_on(image: &[u8], entry: &Entry) -> Verdict {
     match examine(image, entry.offer.id) {
-        Image::Damaged => Verdict::Crc,
-        Image::Foreign => Verdict::Component,
-        Image::Bears(version) if version != entry.offer.version => Verdict::Version,
-        Image::Bears(_) => Verdict::Good,
+        Err(ImageFault::Damaged) => Verdict::Crc,
+        Err(ImageFault::Foreign) => Verdict::Component,
+        Ok(version) if version != entry.offer.version => Verdict::Version,
+        Ok(_) => Verdict::Good,
     }
 }
 

@@ -4,6 +4,7 @@ use std::ffi::{OsStr, OsString};
 use cfu_updater::bundle_layout::limits::{BUNDLE_LIMIT, OFFER_LIMIT};
 use cfu_updater::c_types::numbers::{lettered, ROW_W, SERVED};
 use cfu_updater::c_writer::cfu_bundle_write;
+use cfu_updater::wire::codes::SHORT_SIZE;
 use cfu_updater::wire::version::Version;
 use cfu_updater::wire_offer::offer::build_offer;
 use cfu_updater::words::{advice, Kind};
@@ -108,7 +109,7 @@ fn written(plan: &[Planned], prepared: &[Prepared]) -> Result<Vec<u8>, Failure> 
     let (mut list, mut images) = (Vec::new(), Vec::new());
     for (planned, image) in plan.iter().zip(prepared) {
         // An id that no offer packet can have leaves zeros, which the writer refuses by the same row as any other id that no component has.
-        list.extend_from_slice(&build_offer(planned.offer).packet);
+        list.extend_from_slice(&build_offer(planned.offer).unwrap_or([0; SHORT_SIZE]));
         list.extend_from_slice(&(images.len() as u32).to_le_bytes());
         list.extend_from_slice(&(image.bytes.len() as u32).to_le_bytes());
         images.extend_from_slice(&image.bytes);

@@ -103,7 +103,7 @@ def variants(name):
     if len(found) != 1:
         misfit(f"enum {name}: declared {len(found)} times")
         return []
-    return re.findall(r"^    ([A-Z]\d+),", found[0], re.M)
+    return re.findall(r"^    ([A-Z]\d+)(?: = \d+)?,", found[0], re.M)
 
 
 # The crates that say what a lent buffer holds.
@@ -146,8 +146,8 @@ def letter_of(function, letter, entry):
 def row_numbers():
     """The rows, each with its letter by specs/Numbers.antt and its number by its own name."""
     out = {}
-    for enum, function, letter, entry in (("Verdict", "packet_number", "p", ""), ("SetupVerdict", "setup_number", "s", ""), ("Refusal", "device_number", "d", ""),
-                                          ("BundleVerdict", "bundle_number", "b", " entry"), ("WriteVerdict", "write_number", "w", " entry"),
+    for enum, function, letter, entry in (("PacketRefusal", "packet_number", "p", ""), ("SetupRow", "setup_number", "s", ""), ("Refusal", "device_number", "d", ""),
+                                          ("BundleRow", "bundle_number", "b", " entry"), ("WriteRow", "write_number", "w", " entry"),
                                           ("StepRefusal", "step_number", "n", "")):
         base = letter_of(function, letter, entry)
         rows = variants(enum)

@@ -1,8 +1,8 @@
 //! The bundle: document 01, "The bundle", rows B1 to B8, and examples E12 and E14; and a walk over a body's records. Written from that document.
 use cfu_updater::bundle::check;
-use cfu_updater::bundle_layout::{BundleVerdict, Checked};
+use cfu_updater::bundle_layout::{BundleRefusal, BundleRow, Checked};
 use cfu_updater::bundle_records::walk::{next_record, tally};
-use cfu_updater::bundle_records::{Next, Tally};
+use cfu_updater::bundle_records::Next;
 use cfu_updater::wire::address::RegionAddress;
 use cfu_updater::wire::version::Version;
 
@@ -39,22 +39,15 @@ fn length_of(entry: usize) -> usize {
     entry_start(entry - 1) + entry_at::LENGTH
 }
 
-/// The check answers this row and entry, and no contents.
+/// The check answers this row and entry.
 #[track_caller]
-fn refused(b: &[u8], verdict: BundleVerdict, place: u8) {
-    let c = check(b);
-    assert_eq!((c.verdict, c.place, c.count), (verdict, place, 0));
-    for e in c.table {
-        assert_eq!((e.offset, e.length, e.records), (0, 0, 0));
-        assert_eq!((e.offer.id, e.offer.version.number(), e.offer.protocol), (0, 0, 0));
-    }
+fn refused(b: &[u8], row: BundleRow, place: u8) {
+    assert_eq!(check(b), Err(BundleRefusal { row, place }));
 }
 
 #[track_caller]
 fn accepted(b: &[u8]) -> Checked {
-    let c = check(b);
-    assert_eq!((c.verdict, c.place), (BundleVerdict::Fine, 0));
-    c
+    check(b).unwrap()
 }
 
 #[test]
@@ -96,7 +89,7 @@ fn one_offer_and_the_most() {
 #[test]
 fn b1_too_short_or_too_long() {
     for n in 0..BUNDLE_HEAD_SIZE {
-        refused(&e12()[..n], BundleVerdict::B1, 0);
+        refused(&e12()[..n], BundleRow::B1, 0);
     }
     // 65,536 bytes are allowed: 1,149 records of 52 and one of 6 after a table of one.
     let mut long: Vec<u8> = (0..1149).flat_map(|_| record_bytes(0, &[7; DATA_SIZE])).collect();
@@ -105,30 +98,30 @@ fn b1_too_short_or_too_long() {
     assert_eq!(b.len(), BUNDLE_LIMIT);
     assert_eq!(accepted(&b).table[0].records, 1150);
     long.push(0);
-    refused(&bundle_of(&[(ONE, long)]), BundleVerdict::B1, 0);
+    refused(&bundle_of(&[(ONE, long)]), BundleRow::B1, 0);
 }
 
 #[test]
 fn b2_head() {
-    refused(&with(1, &[0]), BundleVerdict::B2, 0);
-    refused(&with(1, &[2]), BundleVerdict::B2, 0);
+    refused(&with(1, &[0]), BundleRow::B2, 0);
+    refused(&with(1, &[2]), BundleRow::B2, 0);
     for at in 2..BUNDLE_HEAD_SIZE {
-        refused(&with(at, &[1]), BundleVerdict::B2, 0);
+        refused(&with(at, &[1]), BundleRow::B2, 0);
     }
     // Before B3.
-    refused(&with(0, &[0, 0]), BundleVerdict::B2, 0);
+    refused(&with(0, &[0, 0]), BundleRow::B2, 0);
 }
 
 #[test]
 fn b3_count_and_b4_table() {
     for count in [0, OFFER_LIMIT as u8 + 1, 255] {
-        refused(&with(0, &[count]), BundleVerdict::B3, 0);
+        refused(&with(0, &[count]), BundleRow::B3, 0);
     }
     for n in BUNDLE_HEAD_SIZE..entry_start(2) {
-        refused(&e12()[..n], BundleVerdict::B4, 0);
+        refused(&e12()[..n], BundleRow::B4, 0);
     }
     // A table that just fits is read: the third entry is a body's bytes, and no offer.
-    refused(&with(0, &[3]), BundleVerdict::B5, 3);
+    refused(&with(0, &[3]), BundleRow::B5, 3);
 }
 
 #[test]
@@ -145,40 +138,40 @@ fn b5_offers() {
     ];
     for (entry, start) in [(1, entry_start(0)), (2, entry_start(1))] {
         for (byte, value) in others.into_iter().chain(ids) {
-            refused(&with(start + byte, &[value]), BundleVerdict::B5, entry);
+            refused(&with(start + byte, &[value]), BundleRow::B5, entry);
         }
     }
     // The first such entry, and before B7 of an earlier one.
     let mut b = with(entry_start(0), &[1]);
     b[entry_start(1)] = 1;
-    refused(&b, BundleVerdict::B5, 1);
+    refused(&b, BundleRow::B5, 1);
     let mut b = with(offset_of(1), &[57]);
     b[entry_start(1)] = 1;
-    refused(&b, BundleVerdict::B5, 2);
+    refused(&b, BundleRow::B5, 2);
 }
 
 #[test]
 fn b6_repeated_id() {
-    refused(&bundle_of(&[(ONE, body(1)), (ONE, body(2))]), BundleVerdict::B6, 2);
-    refused(&bundle_of(&[(ONE, body(1)), (TWO, body(2)), (ONE, body(3))]), BundleVerdict::B6, 3);
+    refused(&bundle_of(&[(ONE, body(1)), (ONE, body(2))]), BundleRow::B6, 2);
+    refused(&bundle_of(&[(ONE, body(1)), (TWO, body(2)), (ONE, body(3))]), BundleRow::B6, 3);
     // Before B7.
-    refused(&bundle_of(&[(ONE, body(1)), (ONE, body(2))])[..203], BundleVerdict::B6, 2);
+    refused(&bundle_of(&[(ONE, body(1)), (ONE, body(2))])[..203], BundleRow::B6, 2);
 }
 
 #[test]
 fn b7_offsets_and_the_end() {
-    refused(&with(offset_of(1), &[55]), BundleVerdict::B7, 1);
-    refused(&with(offset_of(1), &[57]), BundleVerdict::B7, 1);
-    refused(&with(offset_of(2), &[129]), BundleVerdict::B7, 2);
+    refused(&with(offset_of(1), &[55]), BundleRow::B7, 1);
+    refused(&with(offset_of(1), &[57]), BundleRow::B7, 1);
+    refused(&with(offset_of(2), &[129]), BundleRow::B7, 2);
     // A first body that is longer than it is: the second does not start where it ends.
-    refused(&with(length_of(1), &[75]), BundleVerdict::B7, 2);
-    refused(&with(length_of(1), &u32::MAX.to_le_bytes()), BundleVerdict::B7, 2);
+    refused(&with(length_of(1), &[75]), BundleRow::B7, 2);
+    refused(&with(length_of(1), &u32::MAX.to_le_bytes()), BundleRow::B7, 2);
     // The last end is not the file's.
-    refused(&e12()[..203], BundleVerdict::B7, 2);
-    refused(&[e12(), vec![0]].concat(), BundleVerdict::B7, 2);
-    refused(&with(length_of(2), &u32::MAX.to_le_bytes()), BundleVerdict::B7, 2);
+    refused(&e12()[..203], BundleRow::B7, 2);
+    refused(&[e12(), vec![0]].concat(), BundleRow::B7, 2);
+    refused(&with(length_of(2), &u32::MAX.to_le_bytes()), BundleRow::B7, 2);
     // Before B8.
-    refused(&bundle_of(&[(ONE, vec![]), (TWO, body(2))])[..129], BundleVerdict::B7, 2);
+    refused(&bundle_of(&[(ONE, vec![]), (TWO, body(2))])[..129], BundleRow::B7, 2);
 }
 
 #[test]
@@ -193,9 +186,9 @@ fn b8_bodies() {
         [body(7), vec![0, 0, 0, 0, 0]].concat(),
     ];
     for body_1 in &broken {
-        refused(&bundle_of(&[(ONE, body_1.clone())]), BundleVerdict::B8, 1);
-        refused(&bundle_of(&[(ONE, body_1.clone()), (TWO, body(2))]), BundleVerdict::B8, 1);
-        refused(&bundle_of(&[(TWO, body(2)), (ONE, body_1.clone())]), BundleVerdict::B8, 2);
+        refused(&bundle_of(&[(ONE, body_1.clone())]), BundleRow::B8, 1);
+        refused(&bundle_of(&[(ONE, body_1.clone()), (TWO, body(2))]), BundleRow::B8, 1);
+        refused(&bundle_of(&[(TWO, body(2)), (ONE, body_1.clone())]), BundleRow::B8, 2);
     }
 }
 
@@ -218,7 +211,7 @@ fn a_body_is_walked_record_by_record() {
     assert_eq!(next_record(&b, 130, 204), first);
     assert_eq!(next_record(&b, 187, 204), second);
     assert_eq!(next_record(&b, 204, 204), Next::End);
-    assert_eq!(tally(&b, 130, 204), Tally::Records(2));
+    assert_eq!(tally(&b, 130, 204), Some(2));
     let far = record_bytes(0xFFFFFFFF, &[1, 2, 3]);
     let whole = Next::Record {
         address: RegionAddress::new(0xFFFFFFFF),
@@ -234,10 +227,10 @@ fn a_body_that_ends_inside_a_record_is_broken() {
     let b = body(7);
     for end in 0..=b.len() {
         let expected = match end {
-            0 => Tally::Records(0),
-            57 => Tally::Records(1),
-            74 => Tally::Records(2),
-            _ => Tally::Broken,
+            0 => Some(0),
+            57 => Some(1),
+            74 => Some(2),
+            _ => None,
         };
         assert_eq!(tally(&b, 0, end), expected, "{end} bytes");
     }

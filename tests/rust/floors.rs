@@ -3,8 +3,8 @@
 use cfu_updater::device::answer::Refusal;
 use cfu_updater::device::record::Device;
 use cfu_updater::device::setup::set_up;
-use cfu_updater::device_component::record::{Component, Fixed, Listed, Staged};
-use cfu_updater::device_component::setup::SetupVerdict;
+use cfu_updater::device_component::record::{Component, Fixed, Listed};
+use cfu_updater::device_component::setup::SetupRow;
 use cfu_updater::device_session::stage::Stage;
 use cfu_updater::image::region::{Region, StagingOffset};
 use cfu_updater::wire::version::Version;
@@ -45,16 +45,13 @@ fn list(running: Version, floor: Version, other: Version) -> [Listed; COMPONENT_
 /// The device of these, where component 2 has no floor.
 #[track_caller]
 fn device(running: Version, floor: Version) -> Device {
-    let s = set_up(PLATFORM, list(running, floor, v(0, 0, 0)), 2, &STAGING);
-    assert_eq!(s.verdict, SetupVerdict::Fine);
-    s.device
+    set_up(PLATFORM, list(running, floor, v(0, 0, 0)), 2, &STAGING).unwrap()
 }
 
 /// The status and the reason of the reply to an offer of this version for component 1, and the device afterwards.
 #[track_caller]
 fn offered(d: Device, version: Version, need: [u8; 4]) -> ((u8, u8), Device) {
-    let a = d.offer(&STAGING, &offer_packet(1, version.number(), need, PLATFORM));
-    assert_eq!(a.refusal, Refusal::Served);
+    let a = d.offer(&STAGING, &offer_packet(1, version.number(), need, PLATFORM)).unwrap();
     ((a.replies.reply[offer_reply_at::STATUS], a.replies.reply[offer_reply_at::REASON]), a.device)
 }
 
@@ -62,10 +59,9 @@ fn offered(d: Device, version: Version, need: [u8; 4]) -> ((u8, u8), Device) {
 #[track_caller]
 fn sent(d: Device, image: &[u8]) -> (u8, Device) {
     let mut staging = STAGING;
-    let first = d.content(&mut staging, &content_packet(FLAG_FIRST_BLOCK, 7, 0, &image[..DATA_SIZE]));
-    assert_eq!((first.refusal, first.replies.reply[content_reply_at::STATUS]), (Refusal::Served, SUCCESS));
-    let last = first.device.content(&mut staging, &content_packet(FLAG_LAST_BLOCK, 8, DATA_SIZE as u32, &image[DATA_SIZE..]));
-    assert_eq!(last.refusal, Refusal::Served);
+    let first = d.content(&mut staging, &content_packet(FLAG_FIRST_BLOCK, 7, 0, &image[..DATA_SIZE])).unwrap();
+    assert_eq!(first.replies.reply[content_reply_at::STATUS], SUCCESS);
+    let last = first.device.content(&mut staging, &content_packet(FLAG_LAST_BLOCK, 8, DATA_SIZE as u32, &image[DATA_SIZE..])).unwrap();
     (last.replies.reply[content_reply_at::STATUS], last.device)
 }
 
@@ -82,34 +78,34 @@ const VARIANT: (u8, u8) = (OFFER_REJECT, REJECT_WRONG_VARIANT);
 #[test]
 fn set_up_row_s5() {
     let running = v(1, 2, 0);
-    let verdict = |list, count| set_up(PLATFORM, list, count, &STAGING).verdict;
+    let verdict = |list, count| set_up(PLATFORM, list, count, &STAGING).map(|_| ());
     let none = v(0, 0, 0);
     // Any release is a floor, also one above the running version.
     for floor in [none, v(0, 1, 0), v(1, 2, 0), v(1, 3, 0), v(2, 0, 0), v(255, 65535, 0)] {
-        assert_eq!(verdict(list(running, floor, none), 2), SetupVerdict::Fine, "{floor:?}");
+        assert_eq!(verdict(list(running, floor, none), 2), Ok(()), "{floor:?}");
         for variant in 1..=255 {
             let odd = v(floor.major(), floor.minor(), variant);
-            assert_eq!(verdict(list(running, odd, none), 2), SetupVerdict::S5, "{odd:?}");
-            assert_eq!(verdict(list(running, none, odd), 2), SetupVerdict::S5, "{odd:?}");
+            assert_eq!(verdict(list(running, odd, none), 2), Err(SetupRow::S5), "{odd:?}");
+            assert_eq!(verdict(list(running, none, odd), 2), Err(SetupRow::S5), "{odd:?}");
             // Also where that is the running version's variant.
-            assert_eq!(verdict(list(v(1, 2, variant), odd, none), 2), SetupVerdict::S5, "{odd:?}");
+            assert_eq!(verdict(list(v(1, 2, variant), odd, none), 2), Err(SetupRow::S5), "{odd:?}");
         }
     }
     // Only the first `count` are the device's.
-    assert_eq!(verdict(list(running, none, v(1, 0, 1)), 1), SetupVerdict::Fine);
+    assert_eq!(verdict(list(running, none, v(1, 0, 1)), 1), Ok(()));
     // S1 to S4 over the whole list before S5, whichever component breaks them.
     let odd = list(running, v(1, 0, 1), v(1, 0, 1));
-    assert_eq!(verdict(odd, 0), SetupVerdict::S2);
+    assert_eq!(verdict(odd, 0), Err(SetupRow::S2));
     for slot in 0..2 {
         let mut all = odd;
         all[slot].fixed.region.len = REGION_LEAST as u32 - 1;
-        assert_eq!(verdict(all, 2), SetupVerdict::S4);
+        assert_eq!(verdict(all, 2), Err(SetupRow::S4));
         all[slot].fixed.id = 0;
-        assert_eq!(verdict(all, 2), SetupVerdict::S3);
+        assert_eq!(verdict(all, 2), Err(SetupRow::S3));
     }
-    assert_eq!(set_up(PLATFORM, odd, 2, &vec![0; STAGING_LIMIT + 1]).verdict, SetupVerdict::S1);
-    // What is refused leaves the blank device.
-    assert_eq!(set_up(PLATFORM, odd, 2, &STAGING).device, Device::blank());
+    assert_eq!(set_up(PLATFORM, odd, 2, &vec![0; STAGING_LIMIT + 1]), Err(SetupRow::S1));
+    // What is refused makes no device.
+    assert_eq!(set_up(PLATFORM, odd, 2, &STAGING), Err(SetupRow::S5));
 }
 
 #[test]
@@ -165,9 +161,9 @@ fn a_floor_comes_before_a_need_and_is_no_part_of_it() {
     assert_eq!(offered(d, v(1, 3, 0), unmet).0, OLD);
     assert_eq!(offered(d, v(1, 4, 0), unmet).0, (OFFER_SKIP, 0));
     // Component 2 runs 1.1.0, far below its own floor, and meets a need of 1.1 all the same.
-    let s = set_up(PLATFORM, list(v(1, 2, 0), v(1, 4, 0), v(200, 0, 0)), 2, &STAGING);
-    assert_eq!(offered(s.device, v(1, 4, 0), need_bytes(2, 0x01_0001)).0, ACCEPT);
-    assert_eq!(offered(s.device, v(1, 4, 0), unmet).0, (OFFER_SKIP, 0));
+    let s = set_up(PLATFORM, list(v(1, 2, 0), v(1, 4, 0), v(200, 0, 0)), 2, &STAGING).unwrap();
+    assert_eq!(offered(s, v(1, 4, 0), need_bytes(2, 0x01_0001)).0, ACCEPT);
+    assert_eq!(offered(s, v(1, 4, 0), unmet).0, (OFFER_SKIP, 0));
 }
 
 #[test]
@@ -183,7 +179,7 @@ fn an_image_below_the_floor_is_answered_with_0x07() {
         }
         for fine in [v(1, 4, 0), v(1, 5, 0), v(2, 0, 0), v(255, 65535, 0)] {
             let (status, next) = sent(open, &image(fine, 1));
-            assert_eq!((status, next.components[0].staged), (SUCCESS, Staged::Pending(fine)), "{fine:?}");
+            assert_eq!((status, next.components[0].staged), (SUCCESS, Some(fine)), "{fine:?}");
             assert_eq!(next.components[0].fixed, open.components[0].fixed);
         }
         // The CRC and the id come first.
@@ -201,16 +197,13 @@ fn an_image_below_the_floor_is_answered_with_0x07() {
 
 /// What the entries answer: all alike.
 #[track_caller]
-fn answers(d: Device, refusal: Refusal) {
+fn answers(d: Device, answer: Result<(), Refusal>) {
     let mut staging = STAGING;
     let offer = d.offer(&STAGING, &[0; SHORT_SIZE]);
     let content = d.content(&mut staging, &[0; LONG_SIZE]);
-    assert_eq!((offer.refusal, content.refusal), (refusal, refusal));
-    assert_eq!((d.version_reply().refusal, d.reset().refusal), (refusal, refusal));
+    assert_eq!((offer.map(|_| ()), content.map(|_| ())), (answer, answer));
+    assert_eq!((d.version_reply().map(|_| ()), d.reset().map(|_| ())), (answer, answer));
     assert_eq!(staging, STAGING);
-    if refusal == Refusal::D1 {
-        assert_eq!((offer.device, content.device, d.reset().device), (d, d, d));
-    }
 }
 
 #[test]
@@ -225,28 +218,28 @@ fn d1_refuses_a_staged_version_below_the_floor_and_a_floor_with_a_variant() {
         d.components[place] = c;
         d
     };
-    let pending = |major, minor| Staged::Pending(v(major, minor, 7));
+    let pending = |major, minor| Some(v(major, minor, 7));
     for place in [0, 1] {
         // At the floor and above it, also where the running version is below it.
-        answers(with(place, v(1, 4, 0), pending(1, 4)), Refusal::Served);
-        answers(with(place, v(1, 4, 0), pending(1, 5)), Refusal::Served);
-        answers(with(place, v(1, 4, 0), Staged::Nothing), Refusal::Served);
-        answers(with(place, v(1, 2, 0), pending(1, 2)), Refusal::Served);
-        answers(with(place, v(255, 65535, 0), pending(255, 65535)), Refusal::Served);
+        answers(with(place, v(1, 4, 0), pending(1, 4)), Ok(()));
+        answers(with(place, v(1, 4, 0), pending(1, 5)), Ok(()));
+        answers(with(place, v(1, 4, 0), None), Ok(()));
+        answers(with(place, v(1, 2, 0), pending(1, 2)), Ok(()));
+        answers(with(place, v(255, 65535, 0), pending(255, 65535)), Ok(()));
         // Below it, though not below the running version.
-        answers(with(place, v(1, 4, 0), pending(1, 3)), Refusal::D1);
-        answers(with(place, v(1, 4, 0), pending(1, 2)), Refusal::D1);
-        answers(with(place, v(1, 3, 0), pending(1, 2)), Refusal::D1);
-        answers(with(place, v(2, 0, 0), pending(1, 65535)), Refusal::D1);
-        answers(with(place, v(255, 65535, 0), pending(255, 65534)), Refusal::D1);
+        answers(with(place, v(1, 4, 0), pending(1, 3)), Err(Refusal::D1));
+        answers(with(place, v(1, 4, 0), pending(1, 2)), Err(Refusal::D1));
+        answers(with(place, v(1, 3, 0), pending(1, 2)), Err(Refusal::D1));
+        answers(with(place, v(2, 0, 0), pending(1, 65535)), Err(Refusal::D1));
+        answers(with(place, v(255, 65535, 0), pending(255, 65534)), Err(Refusal::D1));
         for variant in [1, 7, 0x80, 255] {
-            answers(with(place, v(0, 0, variant), Staged::Nothing), Refusal::D1);
-            answers(with(place, v(1, 2, variant), pending(1, 3)), Refusal::D1);
+            answers(with(place, v(0, 0, variant), None), Err(Refusal::D1));
+            answers(with(place, v(1, 2, variant), pending(1, 3)), Err(Refusal::D1));
         }
     }
     // Components past the count are not looked at.
-    answers(with(2, v(1, 4, 0), pending(1, 3)), Refusal::Served);
-    answers(with(COMPONENT_LIMIT - 1, v(0, 0, 1), Staged::Nothing), Refusal::Served);
+    answers(with(2, v(1, 4, 0), pending(1, 3)), Ok(()));
+    answers(with(COMPONENT_LIMIT - 1, v(0, 0, 1), None), Ok(()));
 }
 
 #[test]
@@ -254,14 +247,14 @@ fn a_reset_keeps_the_floor() {
     let floor = v(1, 4, 0);
     let d = device(v(1, 2, 0), floor);
     let idle = d.reset();
-    assert_eq!((idle.refusal, idle.device), (Refusal::Served, d));
-    assert_eq!(offered(idle.device, v(1, 3, 0), NO_NEED).0, OLD);
+    assert_eq!(idle, Ok(d));
+    assert_eq!(offered(d, v(1, 3, 0), NO_NEED).0, OLD);
     // What is staged at the floor runs; the floor is then its release and asks for nothing more.
     let (_, staged) = sent(offered(d, v(1, 4, 0), NO_NEED).1, &image(v(1, 4, 0), 1));
-    let after = staged.reset().device;
+    let after = staged.reset().unwrap();
     assert_eq!((after.components[0].running, after.components[0].fixed.floor), (v(1, 4, 0), floor));
     assert_eq!(offered(after, v(1, 4, 0), NO_NEED).0, OLD);
     assert_eq!(offered(after, v(1, 5, 0), NO_NEED).0, ACCEPT);
     // The version reply says what runs, whatever the floor.
-    assert_eq!(number(&d.version_reply().packet[version_reply_at::COMPONENTS..][..4]), u64::from(v(1, 2, 0).number()));
+    assert_eq!(number(&d.version_reply().unwrap()[version_reply_at::COMPONENTS..][..4]), u64::from(v(1, 2, 0).number()));
 }

@@ -55,6 +55,72 @@ pub enum Found {
     Nothing,
     At { place: usize },
 }
+
+// A level, from the lowest up.
+#[derive(Clone, Copy, Default, PartialEq, PartialOrd)]
+pub enum Level {
+    #[default]
+    Low,
+    High,
+}
+
+// A number with a name.
+pub trait Named {
+    // The number
+    // of each.
+    ghost name_of: { Self → ℕ };
+
+    // Its number.
+    fn name(&self) -> u8
+        ensures { result ≡ name_of self.now };
+}
+
+impl Named for Level {
+    ghost name_of = { λ l. number_of l };
+
+    fn name(&self) -> u8 {
+        if *self < Level::High { 0 } else { 1 }
+    }
+}
+
+// A number below a limit.
+#[derive(Clone, Copy)]
+pub struct Small<const N: usize> {
+    pub number: usize,
+    ghost small: { number < N },
+}
+
+impl<const N: usize> From<[u8; N]> for Small<N> {
+    ghost from_gives = { λ a r. r.number ≡ N };
+
+    fn from(a: [u8; N]) -> Small<N> {
+        Small { number: a.len() }
+    }
+}
+
+// The first byte that passes a test, by its place.
+pub fn place_of<F: Fn(u8) -> bool>(xs: &[u8], passes: F) -> Option<usize>
+    requires callable { F.IsAlwaysCallable passes }
+{
+    xs.iter().position(|x| passes(*x))
+}
+
+pub fn lesser(a: u8, b: u8) -> u8 {
+    std::cmp::min(a, b)
+}
+
+pub fn is_pair(xs: &mut [u8]) -> bool {
+    let pair: Option<&mut [u8; 2]> = xs.as_mut_array();
+    pair.is_some()
+}
+
+pub fn alike(a: &[u8], b: &[u8]) -> bool {
+    a == b
+}
+
+pub fn wide(n: usize) -> [u8; 8] {
+    usize::to_le_bytes(n)
+}
 '''
 PART = '''// A module whose name the high crate has too.
 use crate::Found;
@@ -162,7 +228,13 @@ MADE = {
                      'cfu_updater::low::Pair {\n    cfu_updater::low::lent(lent::read(read, read_len), p, lent::write(written, written_len))\n}'],
     'src/low/mod.rs': ['//! The low crate: \\[brackets\\] and \\<signs\\> in words, `a[0]` as code.\npub mod part; // part.rt: a module\n',
                        '/// A pair.\n#[repr(C)]\n#[derive(Clone, Copy, Debug, PartialEq, Eq)]\npub struct Pair {\n    /// The left one.\n',
-                       '#[derive(Debug, PartialEq, Eq)]\npub struct Lent', '    /// Nothing.\n    Nothing,\n'],
+                       '#[derive(Debug, PartialEq, Eq)]\npub struct Lent', '    /// Nothing.\n    Nothing,\n',
+                       '#[derive(Clone, Copy, Debug, PartialEq, Eq, Default, PartialOrd)]\npub enum Level {\n    #[default]\n    Low,\n',
+                       'pub trait Named {\n    // Its number.\n    fn name(&self) -> u8;\n}\n\nimpl Named for Level {\n    #[inline]\n    fn name(&self) -> u8 {\n',
+                       'pub struct Small<const N: usize> {\n    pub number: usize,\n}\n',
+                       'impl<const N: usize> From<[u8; N]> for Small<N> {\n    #[inline]\n    fn from(', '    core::cmp::min(a, b)\n',
+                       ' = xs.try_into().ok();\n', '    u64::to_le_bytes(n as u64)\n',
+                       '    a.len() == b.len() && a.iter().zip(b).all(|(x, y)| x == y)\n'],
     'src/low/part.rs': ['/// The next one.\n#[inline]\npub fn next(a: u16) -> u16 {\n    u16::wrapping_add(a, 1)\n}\n',
                         '#[inline]\npub(in crate::low) fn before(a: u8) -> u8 {\n    u8::wrapping_sub(u8::wrapping_add(a, 0), b', '    // Not documentation.\n',
                         '    /// The left one, whatever b is.\n    #[inline]\n    #[allow(unused_variables)] // only the contract names b\n    pub fn left_of(self, b'],
@@ -180,6 +252,8 @@ UNKNOWN = [
     ('{\n    a', '{\n    io::a', 'crates/high/src/part.rt:5: `io::`'),
     ('{\n    a', '{\n    crc::a', 'crates/high/src/part.rt:5: `crc::`'),
     ('{\n    a', '{\n    std::mem::a', 'crates/high/src/part.rt:5: `std::mem`'),
+    ('{\n    a', '{\n    usize::to_be_bytes(a)', 'crates/high/src/part.rt:5: the bytes of a usize'),
+    ('pub fn', 'use std::io::Write;\npub fn', 'crates/high/src/part.rt:2: `use std::io::Write`'),
     ('{\n    a', '{\n    std::num::truncating_f64_to_u64(a)', 'crates/high/src/part.rt:5: `std::num::truncating_f64_to_u64`'),
     ('{\n    a', '{\n    let a = prove!(a < 1);', 'crates/high/src/part.rt:5: `prove!` that is no statement'),
     ('{\n    a', '{\n    a ≡ 1', "crates/high/src/part.rt:5: a character that is not known outside a contract: '≡'"),

@@ -1,9 +1,9 @@
 //! The CRC, a region of the staging buffer, the image in it, a component's versions, and set-up: document 01, "The device", rows S1 to S4, and the
 //! addresses of E8 and E9; document 02, A1 and A2. Written from these documents. The components have no floor; floors.rs has those.
 use cfu_updater::device_component::record::{Component, Fixed, Listed};
-use cfu_updater::device_component::setup::{setup_verdict, SetupVerdict};
+use cfu_updater::device_component::setup::{setup_verdict, SetupRow};
 use cfu_updater::crc16::crc16;
-use cfu_updater::image::judge::{examine, Image};
+use cfu_updater::image::judge::{examine, ImageFault};
 use cfu_updater::image::region::{Region, StagingOffset};
 use cfu_updater::wire::address::RegionAddress;
 use cfu_updater::wire::version::Version;
@@ -87,13 +87,13 @@ fn an_image_is_judged_by_crc_then_id_then_its_version() {
     let v = Version::new(1, 3, 0);
     for size in [8, 64, 500] {
         let m = image(size, v, 1);
-        assert_eq!(examine(&m, 1), Image::Bears(v), "{size} bytes");
-        assert_eq!(examine(&m, 2), Image::Foreign, "{size} bytes");
+        assert_eq!(examine(&m, 1), Ok(v), "{size} bytes");
+        assert_eq!(examine(&m, 2), Err(ImageFault::Foreign), "{size} bytes");
         for i in 0..size {
             let mut damaged = m.clone();
             damaged[i] ^= 0x10;
-            assert_eq!(examine(&damaged, 1), Image::Damaged, "{size} bytes, byte {i}");
-            assert_eq!(examine(&damaged, 2), Image::Damaged, "{size} bytes, byte {i}");
+            assert_eq!(examine(&damaged, 1), Err(ImageFault::Damaged), "{size} bytes, byte {i}");
+            assert_eq!(examine(&damaged, 2), Err(ImageFault::Damaged), "{size} bytes, byte {i}");
         }
     }
 }
@@ -103,8 +103,8 @@ fn an_image_is_read_from_its_region() {
     let v = Version::new(1, 2, 7);
     let mut staging = [0; 128];
     staging[64..].copy_from_slice(&image(64, v, 2));
-    assert_eq!(region(64, 64).image(&staging, 2), Image::Bears(v));
-    assert_eq!(region(64, 63).image(&staging, 2), Image::Damaged);
+    assert_eq!(region(64, 64).image(&staging, 2), Ok(v));
+    assert_eq!(region(64, 63).image(&staging, 2), Err(ImageFault::Damaged));
 }
 
 /// The most components, as the byte that counts them, and the shortest region.
@@ -112,7 +112,7 @@ const MOST: u8 = COMPONENT_LIMIT as u8;
 const LEAST: u32 = REGION_LEAST as u32;
 
 /// Set-up of components with these ids and regions, over a buffer of n bytes.
-fn set_up(n: usize, count: u8, some: &[(u8, u32, u32)]) -> SetupVerdict {
+fn set_up(n: usize, count: u8, some: &[(u8, u32, u32)]) -> Result<(), SetupRow> {
     let made = |(id, base, len)| component(id, Version::new(1, 0, 0), region(base, len));
     let mut components = [made((0, 0, 0)); COMPONENT_LIMIT];
     for (component, told) in components.iter_mut().zip(some) {
@@ -124,33 +124,33 @@ fn set_up(n: usize, count: u8, some: &[(u8, u32, u32)]) -> SetupVerdict {
 #[test]
 fn set_up_rows_s1_to_s4() {
     let bench = [(1, 0, 64), (2, 64, 64)];
-    assert_eq!(set_up(128, 2, &bench), SetupVerdict::Fine);
-    assert_eq!(set_up(STAGING_LIMIT, 2, &bench), SetupVerdict::Fine);
+    assert_eq!(set_up(128, 2, &bench), Ok(()));
+    assert_eq!(set_up(STAGING_LIMIT, 2, &bench), Ok(()));
     // S1 comes first, over a count, ids and regions that are wrong too.
-    assert_eq!(set_up(STAGING_LIMIT + 1, 2, &bench), SetupVerdict::S1);
-    assert_eq!(set_up(STAGING_LIMIT + 1, 0, &[]), SetupVerdict::S1);
+    assert_eq!(set_up(STAGING_LIMIT + 1, 2, &bench), Err(SetupRow::S1));
+    assert_eq!(set_up(STAGING_LIMIT + 1, 0, &[]), Err(SetupRow::S1));
     for count in [0, MOST + 1, 255] {
-        assert_eq!(set_up(128, count, &bench), SetupVerdict::S2, "count {count}");
+        assert_eq!(set_up(128, count, &bench), Err(SetupRow::S2), "count {count}");
     }
     for id in [0, ID_LIMIT + 1, 0xFD, 0xFF] {
-        assert_eq!(set_up(128, 2, &[(1, 0, 64), (id, 64, 64)]), SetupVerdict::S3, "id {id}");
+        assert_eq!(set_up(128, 2, &[(1, 0, 64), (id, 64, 64)]), Err(SetupRow::S3), "id {id}");
     }
-    assert_eq!(set_up(128, 2, &[(1, 0, 64), (ID_LIMIT, 64, 64)]), SetupVerdict::Fine);
-    assert_eq!(set_up(128, 2, &[(1, 0, 64), (1, 64, 64)]), SetupVerdict::S3);
+    assert_eq!(set_up(128, 2, &[(1, 0, 64), (ID_LIMIT, 64, 64)]), Ok(()));
+    assert_eq!(set_up(128, 2, &[(1, 0, 64), (1, 64, 64)]), Err(SetupRow::S3));
     // S3 over the whole list before S4.
-    assert_eq!(set_up(128, 2, &[(1, 0, LEAST - 1), (0, 64, 64)]), SetupVerdict::S3);
+    assert_eq!(set_up(128, 2, &[(1, 0, LEAST - 1), (0, 64, 64)]), Err(SetupRow::S3));
     let regions = [(64, LEAST - 1), (64, 65), (63, 64), (0, 64), (32, LEAST), (0xFFFFFFFF, 64), (0xFFFFFFC0, 64), (64, 0xFFFFFFFF)];
     for (base, len) in regions {
-        assert_eq!(set_up(128, 2, &[(1, 0, 64), (2, base, len)]), SetupVerdict::S4, "region {base} {len}");
+        assert_eq!(set_up(128, 2, &[(1, 0, 64), (2, base, len)]), Err(SetupRow::S4), "region {base} {len}");
     }
     // Regions may touch, in either order, and as many of the shortest as there may be components are allowed.
-    assert_eq!(set_up(128, 2, &[(1, 64, 64), (2, 0, 64)]), SetupVerdict::Fine);
+    assert_eq!(set_up(128, 2, &[(1, 64, 64), (2, 0, 64)]), Ok(()));
     let most: Vec<_> = (1..=MOST).map(|id| (id, LEAST * u32::from(id), LEAST)).collect();
     let end = REGION_LEAST * (COMPONENT_LIMIT + 1);
-    assert_eq!(set_up(end, MOST, &most), SetupVerdict::Fine);
-    assert_eq!(set_up(end - 1, MOST, &most), SetupVerdict::S4);
+    assert_eq!(set_up(end, MOST, &most), Ok(()));
+    assert_eq!(set_up(end - 1, MOST, &most), Err(SetupRow::S4));
     // Only the first `count` components are the device's.
-    assert_eq!(set_up(128, 1, &[(1, 0, 64), (1, 0, 64)]), SetupVerdict::Fine);
+    assert_eq!(set_up(128, 1, &[(1, 0, 64), (1, 0, 64)]), Ok(()));
 }
 
 #[test]

@@ -8,7 +8,7 @@ use cfu_updater::wire_offer::reply::{build_offer_reply, read_offer_reply, OfferR
 use cfu_updater::wire_offer::signal::{build_extended, build_information, Signal};
 use cfu_updater::wire_version::{build_version_reply, read_version_reply, Running, VersionReply};
 use cfu_updater::wire::address::RegionAddress;
-use cfu_updater::wire::verdict::Verdict;
+use cfu_updater::wire::verdict::PacketRefusal;
 use cfu_updater::wire::version::Version;
 
 #[allow(dead_code)] // each test uses some of it
@@ -91,10 +91,8 @@ fn e1_version_reply_both_ways() {
     let mut packet = [0; LONG_SIZE];
     put(&mut packet, 0, &[2, 0, 0, 2, 0, 2, 0, 1, 0, 1, 0x42, 0, 0, 1, 0, 1, 0, 2, 0x42, 0]);
     let fields = version_reply(2, 2, &[running(1, 1, 2, 0x42), running(2, 1, 1, 0x42)]);
-    let built = build_version_reply(fields);
-    assert_eq!((built.verdict, built.packet), (Verdict::Served, packet));
-    let read = read_version_reply(&packet);
-    assert_eq!((read.verdict, read.reply), (Verdict::Served, fields));
+    assert_eq!(build_version_reply(fields), Ok(packet));
+    assert_eq!(read_version_reply(&packet), Ok(fields));
 }
 
 #[test]
@@ -103,15 +101,14 @@ fn version_reply_p2_either_way() {
     let most = COMPONENT_LIMIT as u8;
     for (count, protocol) in [(most + 1, 2), (255, 2), (2, 0), (2, 1), (2, 3), (most, 15)] {
         let built = build_version_reply(version_reply(count, protocol, &[running(1, 1, 2, 0x42)]));
-        assert_eq!((built.verdict, built.packet), (Verdict::P2, [0; LONG_SIZE]), "count {count} protocol {protocol}");
+        assert_eq!(built, Err(PacketRefusal::P2), "count {count} protocol {protocol}");
         packet[version_reply_at::COUNT] = count;
         packet[version_reply_at::PROTOCOL] = protocol;
         packet[version_reply_at::COMPONENTS + 5] = 1;
-        let read = read_version_reply(&packet);
-        assert_eq!((read.verdict, read.reply), (Verdict::P2, version_reply(0, 0, &[])), "count {count} protocol {protocol}");
+        assert_eq!(read_version_reply(&packet), Err(PacketRefusal::P2), "count {count} protocol {protocol}");
     }
     // A protocol too large for its four bits, whose low bits are 2.
-    assert_eq!(build_version_reply(version_reply(2, 18, &[])).verdict, Verdict::P2);
+    assert_eq!(build_version_reply(version_reply(2, 18, &[])), Err(PacketRefusal::P2));
 }
 
 #[test]
@@ -122,7 +119,7 @@ fn version_reply_read_and_built_again() {
         let read = read_version_reply(&packet);
         let count = packet[version_reply_at::COUNT] as usize;
         if count > COMPONENT_LIMIT || packet[version_reply_at::PROTOCOL] % 16 != 2 {
-            assert_eq!(read.verdict, Verdict::P2);
+            assert_eq!(read, Err(PacketRefusal::P2));
             continue;
         }
         let mut expected = [0; LONG_SIZE];
@@ -135,17 +132,16 @@ fn version_reply_read_and_built_again() {
                 expected[start + i] = if i == 4 { 0 } else { packet[start + i] };
             }
         }
-        assert!(read.reply.components[count..].iter().all(|c| *c == running(0, 0, 0, 0)));
-        let built = build_version_reply(read.reply);
-        assert_eq!((built.verdict, built.packet), (Verdict::Served, expected));
+        let reply = read.unwrap();
+        assert!(reply.components[count..].iter().all(|c| *c == running(0, 0, 0, 0)));
+        assert_eq!(build_version_reply(reply), Ok(expected));
     }
 }
 
 #[test]
 fn e2_offer_both_ways() {
-    let built = build_offer(e2());
-    assert_eq!((built.verdict, built.packet), (Verdict::Served, E2));
-    assert_eq!(read_offer_packet(&E2), OfferPacket::Offer(e2()));
+    assert_eq!(build_offer(e2()), Ok(E2));
+    assert_eq!(read_offer_packet(&E2), Ok(OfferPacket::Offer(e2())));
 }
 
 #[test]
@@ -163,7 +159,7 @@ fn each_field_of_an_offer_at_its_byte() {
         platform: 0x1F1E,
     };
     let mut packet = [0x10, 0x40, 0x12, 0x13, 0x14, 0x15, 0x16, 0x17, 0x18, 0x19, 0x1A, 0x1B, 0x0C, 0, 0x1E, 0x1F];
-    assert_eq!(build_offer(fields).packet, packet);
+    assert_eq!(build_offer(fields), Ok(packet));
     // Bit 6 is I, bit 7 is V.
     let other = OfferFields {
         force_immediate_reset: false,
@@ -171,8 +167,8 @@ fn each_field_of_an_offer_at_its_byte() {
         ..fields
     };
     packet[offer_at::FLAGS] = 0x80;
-    assert_eq!(build_offer(other).packet, packet);
-    assert_eq!(read_offer_packet(&packet), OfferPacket::Offer(other));
+    assert_eq!(build_offer(other), Ok(packet));
+    assert_eq!(read_offer_packet(&packet), Ok(OfferPacket::Offer(other)));
 }
 
 #[test]
@@ -186,11 +182,10 @@ fn offer_p2() {
         OfferFields { protocol: 18, ..e2() },
     ];
     for fields in cases {
-        let built = build_offer(fields);
-        assert_eq!((built.verdict, built.packet), (Verdict::P2, [0; SHORT_SIZE]), "{fields:?}");
+        assert_eq!(build_offer(fields), Err(PacketRefusal::P2), "{fields:?}");
     }
     let largest = OfferFields { id: 0xFD, least: 0xFFFFFF, protocol: 15, ..e2() };
-    assert_eq!(build_offer(largest).verdict, Verdict::Served);
+    assert!(build_offer(largest).is_ok());
 }
 
 #[test]
@@ -199,10 +194,10 @@ fn information_and_extended() {
     let mut packet = [0; SHORT_SIZE];
     put(&mut packet, 0, &[2, 0, 0xFF, 0xA5]);
     assert_eq!(build_information(s), packet);
-    assert_eq!(read_offer_packet(&packet), OfferPacket::Information(s));
+    assert_eq!(read_offer_packet(&packet), Ok(OfferPacket::Information(s)));
     packet[signal_at::KIND] = 0xFE;
     assert_eq!(build_extended(s), packet);
-    assert_eq!(read_offer_packet(&packet), OfferPacket::Extended(s));
+    assert_eq!(read_offer_packet(&packet), Ok(OfferPacket::Extended(s)));
 }
 
 #[test]
@@ -211,14 +206,13 @@ fn byte_2_decides_the_kind_and_reserved_bits_are_zeroed() {
         for kind in [packet[signal_at::KIND], 0xFD, 0xFE, 0xFF] {
             packet[signal_at::KIND] = kind;
             let mut expected = packet;
-            let built = match read_offer_packet(&packet) {
-                OfferPacket::Refused => panic!("P1 of 16 bytes"),
+            let built = match read_offer_packet(&packet).unwrap() {
                 OfferPacket::Offer(o) => {
                     assert!(kind <= 0xFD);
                     expected[offer_at::FLAGS] &= 0xC0;
                     expected[offer_at::PROTOCOL] &= 0x0F;
                     expected[offer_at::RESERVED] = 0;
-                    build_offer(o).packet
+                    build_offer(o).unwrap()
                 }
                 OfferPacket::Information(s) => {
                     assert_eq!(kind, 0xFF);
@@ -243,14 +237,13 @@ fn e2_offer_reply_both_ways() {
     packet[offer_reply_at::STATUS] = 1;
     let fields = OfferReply { token: 0xA5, reason: 0, status: 1 };
     assert_eq!(build_offer_reply(fields), packet);
-    let read = read_offer_reply(&packet);
-    assert_eq!((read.verdict, read.reply), (Verdict::Served, fields));
+    assert_eq!(read_offer_reply(&packet), Ok(fields));
     for packet in samples::<SHORT_SIZE>() {
         let mut expected = [0; SHORT_SIZE];
         for i in [offer_reply_at::TOKEN, offer_reply_at::REASON, offer_reply_at::STATUS] {
             expected[i] = packet[i];
         }
-        assert_eq!(build_offer_reply(read_offer_reply(&packet).reply), expected);
+        assert_eq!(build_offer_reply(read_offer_reply(&packet).unwrap()), expected);
     }
 }
 
@@ -261,10 +254,8 @@ fn e8_content_both_ways() {
     for i in 0..DATA_SIZE {
         packet[content_at::DATA + i] = i as u8 + 1;
     }
-    let built = build_content(e8());
-    assert_eq!((built.verdict, built.packet), (Verdict::Served, packet));
-    let read = read_content(&packet);
-    assert_eq!((read.verdict, read.content), (Verdict::Served, e8()));
+    assert_eq!(build_content(e8()), Ok(packet));
+    assert_eq!(read_content(&packet), Ok(e8()));
 }
 
 #[test]
@@ -272,16 +263,17 @@ fn content_p2() {
     for flags in 0..=255 {
         let built = build_content(ContentFields { flags, ..e8() });
         let served = [0, 0x40, 0x80, 0xC0].contains(&flags);
-        assert_eq!(built.verdict == Verdict::Served, served, "flags {flags}");
-        assert!(served || (built.verdict, built.packet) == (Verdict::P2, [0; LONG_SIZE]), "flags {flags}");
+        assert_eq!(built.is_ok(), served, "flags {flags}");
+        assert!(served || built == Err(PacketRefusal::P2), "flags {flags}");
     }
     for length in 0..=255 {
         let built = build_content(ContentFields { length, ..e8() });
         let served = (1..=52).contains(&length);
-        assert_eq!(built.verdict == Verdict::Served, served, "length {length}");
+        assert_eq!(built.is_ok(), served, "length {length}");
+        assert!(served || built == Err(PacketRefusal::P2), "length {length}");
         // Unused data is written as zero.
-        assert!(built.packet[content_at::DATA + (length as usize).min(DATA_SIZE)..].iter().all(|b| *b == 0), "length {length}");
-        assert!(served || (built.verdict, built.packet) == (Verdict::P2, [0; LONG_SIZE]), "length {length}");
+        let packet = built.unwrap_or([0; LONG_SIZE]);
+        assert!(packet[content_at::DATA + (length as usize).min(DATA_SIZE)..].iter().all(|b| *b == 0), "length {length}");
     }
 }
 
@@ -294,16 +286,16 @@ fn content_read_and_built_again() {
             let mut packet = packet;
             packet[content_at::FLAGS] = flags;
             packet[content_at::LENGTH] = length;
-            let read = read_content(&packet);
-            assert_eq!((read.verdict, read.content.flags, read.content.length), (Verdict::Served, flags, length));
+            let read = read_content(&packet).unwrap();
+            assert_eq!((read.flags, read.length), (flags, length));
             let mut expected = packet;
             expected[content_at::DATA + (length as usize).min(DATA_SIZE)..].fill(0);
-            assert_eq!(read.content.data, expected[content_at::DATA..]);
-            let built = build_content(read.content);
+            assert_eq!(read.data, expected[content_at::DATA..]);
+            let built = build_content(read);
             if flags % 0x40 == 0 && (1..=52).contains(&length) {
-                assert_eq!((built.verdict, built.packet), (Verdict::Served, expected));
+                assert_eq!(built, Ok(expected));
             } else {
-                assert_eq!((built.verdict, built.packet), (Verdict::P2, [0; LONG_SIZE]));
+                assert_eq!(built, Err(PacketRefusal::P2));
             }
         }
     }
@@ -315,42 +307,41 @@ fn e7_content_reply_both_ways() {
     put(&mut packet, 0, &[0x34, 0x12, 0, 0, 0x0A]);
     let fields = ContentReply { sequence: 0x1234, status: 0x0A };
     assert_eq!(build_content_reply(fields), packet);
-    let read = read_content_reply(&packet);
-    assert_eq!((read.verdict, read.reply), (Verdict::Served, fields));
+    assert_eq!(read_content_reply(&packet), Ok(fields));
     for packet in samples::<SHORT_SIZE>() {
         let mut expected = [0; SHORT_SIZE];
         for i in [content_reply_at::SEQUENCE, content_reply_at::SEQUENCE + 1, content_reply_at::STATUS] {
             expected[i] = packet[i];
         }
-        assert_eq!(build_content_reply(read_content_reply(&packet).reply), expected);
+        assert_eq!(build_content_reply(read_content_reply(&packet).unwrap()), expected);
     }
 }
 
-/// Every reader at every other length up to 100: the number, and all fields zero.
+/// Every reader at every other length up to 100: the refusal, and the fields that stand for it, all zero.
 #[test]
 fn p1_every_reader_at_every_other_length() {
     let bytes = [0xFF; 100];
     for n in 0..=100 {
         let p = &bytes[..n];
         if n != SHORT_SIZE {
-            assert_eq!(read_offer_packet(p), OfferPacket::Refused, "{n} bytes");
-            let offer = read_offer_reply(p);
-            assert_eq!((offer.verdict, offer.reply), (Verdict::P1, OfferReply { token: 0, reason: 0, status: 0 }), "{n} bytes");
-            let content = read_content_reply(p);
-            assert_eq!((content.verdict, content.reply), (Verdict::P1, ContentReply { sequence: 0, status: 0 }), "{n} bytes");
+            assert_eq!(read_offer_packet(p), Err(PacketRefusal::P1), "{n} bytes");
+            assert_eq!(read_offer_reply(p), Err(PacketRefusal::P1), "{n} bytes");
+            assert_eq!(read_content_reply(p), Err(PacketRefusal::P1), "{n} bytes");
         }
         if n != LONG_SIZE {
-            let version = read_version_reply(p);
-            assert_eq!((version.verdict, version.reply), (Verdict::P1, version_reply(0, 0, &[])), "{n} bytes");
-            let content = read_content(p);
-            let zero = ContentFields {
-                flags: 0,
-                length: 0,
-                sequence: 0,
-                address: RegionAddress::new(0),
-                data: [0; DATA_SIZE],
-            };
-            assert_eq!((content.verdict, content.content), (Verdict::P1, zero), "{n} bytes");
+            assert_eq!(read_version_reply(p), Err(PacketRefusal::P1), "{n} bytes");
+            assert_eq!(read_content(p), Err(PacketRefusal::P1), "{n} bytes");
         }
     }
+    assert_eq!(OfferReply::default(), OfferReply { token: 0, reason: 0, status: 0 });
+    assert_eq!(ContentReply::default(), ContentReply { sequence: 0, status: 0 });
+    assert_eq!(VersionReply::default(), version_reply(0, 0, &[]));
+    let zero = ContentFields {
+        flags: 0,
+        length: 0,
+        sequence: 0,
+        address: RegionAddress::new(0),
+        data: [0; DATA_SIZE],
+    };
+    assert_eq!(ContentFields::default(), zero);
 }

@@ -2,7 +2,7 @@
 //! from these documents. `cargo test` runs these cases with the usize of the machine; tests/rust/wide.sh runs them with a usize of 32 bits.
 use cfu_updater::bundle::check;
 use cfu_updater::device_component::record::{Fixed, Listed};
-use cfu_updater::device_component::setup::SetupVerdict;
+use cfu_updater::device_component::setup::SetupRow;
 use cfu_updater::host_decide::Action;
 use cfu_updater::device::setup::set_up;
 use cfu_updater::host::inner::inner_step;
@@ -10,14 +10,13 @@ use cfu_updater::host::step::step;
 use cfu_updater::host_bytes::{are_contents, contents_bytes, is_kept, keep, read_body, read_cursor};
 use cfu_updater::host_record::fits::{body_at, in_hand, is_last};
 use cfu_updater::host_record::record::{Awaited, End, Host, HostStage, Place};
-use cfu_updater::host_record::report::Progress;
 use cfu_updater::image::region::{Region, StagingOffset};
-use cfu_updater::bundle_layout::{BundleVerdict, Checked};
+use cfu_updater::bundle_layout::{BundleRefusal, BundleRow, Checked};
 use cfu_updater::host_packet::action::written;
 use cfu_updater::host_packet::answer::{Sent, StepRefusal, Written};
 use cfu_updater::bundle_records::walk::next_record;
 use cfu_updater::bundle_records::Next;
-use cfu_updater::update::{run, RunRefusal};
+use cfu_updater::update::run;
 use cfu_updater::wire::address::RegionAddress;
 use cfu_updater::wire::version::Version;
 use cfu_updater::wire::words::{word16_at, word32_at};
@@ -85,8 +84,7 @@ fn sending(entry: u32, block: u32) -> Host {
 
 /// E12's contents, with entry 0 at another place and with other records.
 fn moved(offset: u32, length: u32, records: u32) -> Checked {
-    let mut c = check(&one_first());
-    assert_eq!(c.verdict, BundleVerdict::Fine);
+    let mut c = check(&one_first()).unwrap();
     c.table[0].offset = offset;
     c.table[0].length = length;
     c.table[0].records = records;
@@ -94,20 +92,15 @@ fn moved(offset: u32, length: u32, records: u32) -> Checked {
 }
 
 /// What an action sends over the body of an entry, and the packet, which held other bytes before.
-fn laid(b: &[u8], c: Checked, entry: u32, cursor: usize, action: Action) -> (Written, [u8; LONG_SIZE]) {
+fn laid(b: &[u8], c: Checked, entry: u32, cursor: usize, action: Action) -> (Option<Written>, [u8; LONG_SIZE]) {
     let mut packet = [0x5A; LONG_SIZE];
     (written(&mut packet, b, body_at(c.table, entry), cursor, action, 5), packet)
 }
 
-/// The bundle lacks what is to be sent, which is N1: nothing is sent, the packet is zero, and the cursor stays.
+/// The bundle lacks what is to be sent, which is N1: nothing is sent, and the packet is zero.
 #[track_caller]
-fn lacks(written: (Written, [u8; LONG_SIZE]), cursor: usize) {
-    let nothing = Written {
-        served: false,
-        sent: Sent::Nothing,
-        cursor,
-    };
-    assert_eq!(written, (nothing, [0; LONG_SIZE]));
+fn lacks(written: (Option<Written>, [u8; LONG_SIZE])) {
+    assert_eq!(written, (None, [0; LONG_SIZE]));
 }
 
 /// E13: 13 packets in 2 passes where component 1 comes first, 9 in 1 where it comes second. Both images are staged.
@@ -116,11 +109,9 @@ fn e13_in_both_orders() {
     let orders = [(bundle([(ONE, &one), (TWO, &two)]), 13, 2), (bundle([(TWO, &two), (ONE, &one)]), 9, 1)];
     for (b, packets, passes) in orders {
         let mut staging = vec![0x11; 128];
-        let s = set_up(0x42, listed(region(0, 64), region(64, 64)), 2, &staging);
-        assert_eq!(s.verdict, SetupVerdict::Fine);
-        let a = run(&b, 5, s.device, &mut staging);
-        assert_eq!(a.refusal, RunRefusal::Served);
-        assert_eq!(a.report.progress, Progress::Ended(End::Done));
+        let s = set_up(0x42, listed(region(0, 64), region(64, 64)), 2, &staging).unwrap();
+        let a = run(&b, 5, s, &mut staging).unwrap();
+        assert_eq!(a.report.progress, Some(End::Done));
         assert_eq!((a.report.packets, a.report.passes), (packets, passes));
         assert_eq!((a.report.completed, a.report.mask), (2, 3));
         assert_eq!(staging, [&one[..], &two].concat());
@@ -137,7 +128,7 @@ fn regions_past_32_bits() {
         r.write(RegionAddress::new(0), &mut staging, &[0x22; 8]);
         assert_eq!(staging, [0x11; 128], "{base} {len}");
         for list in [listed(region(0, 64), r), listed(r, region(0, 64))] {
-            assert_eq!(set_up(0x42, list, 2, &staging).verdict, SetupVerdict::S4, "{base} {len}");
+            assert_eq!(set_up(0x42, list, 2, &staging), Err(SetupRow::S4), "{base} {len}");
         }
     }
 }
@@ -145,35 +136,30 @@ fn regions_past_32_bits() {
 /// B7 where a body's end passes 32 bits: at the next entry, also where that starts at what is left of the end in 32 bits and ends with the file; at
 /// the last entry, where none follows.
 fn bodies_past_32_bits() {
+    let b7 = Err(BundleRefusal { row: BundleRow::B7, place: 2 });
     for next in [0u32, 55, 56, 130] {
         let mut b = one_first();
         put(&mut b, entry_start(0) + entry_at::LENGTH, &0xFFFFFFFFu32.to_le_bytes());
         put(&mut b, entry_start(1) + entry_at::OFFSET, &next.to_le_bytes());
         put(&mut b, entry_start(1) + entry_at::LENGTH, &(204 - next).to_le_bytes());
-        let c = check(&b);
-        assert_eq!((c.verdict, c.place), (BundleVerdict::B7, 2), "{next}");
+        assert_eq!(check(&b), b7, "{next}");
     }
     let mut b = one_first();
     put(&mut b, entry_start(1) + entry_at::LENGTH, &0xFFFFFFFFu32.to_le_bytes());
-    let c = check(&b);
-    assert_eq!((c.verdict, c.place), (BundleVerdict::B7, 2));
+    assert_eq!(check(&b), b7);
 }
 
 /// N1 for block 0xFFFFFFFF, over the bundle and over contents with as many records; and it is not the last block of a body of none.
 fn blocks_past_32_bits() {
     let b = one_first();
     let h = sending(0, 0xFFFFFFFF);
-    // Nothing is sent, and the record is unchanged.
-    let n1 = (StepRefusal::N1, Sent::Nothing, [0; LONG_SIZE], h);
-    let a = step(h, &b, &[0; SHORT_SIZE]);
-    assert_eq!((a.refusal, a.sent, a.packet, a.host), n1);
+    assert_eq!(step(h, &b, &[0; SHORT_SIZE]), Err(StepRefusal::N1));
     for records in [0, 2, 0xFFFFFFFF] {
         let c = moved(56, 74, records);
         let mut packet = [0x5A; LONG_SIZE];
         let hand = body_at(c.table, in_hand(h.stage));
-        let a = inner_step(&mut packet, c.verdict, c.place, c.count, hand, 113, h, &b, &[0; SHORT_SIZE]);
-        assert_eq!((a.refusal, a.sent, packet, a.host), n1);
-        assert_eq!(a.cursor, 113);
+        let a = inner_step(&mut packet, Ok(c.count), hand, 113, h, &b, &[0; SHORT_SIZE]);
+        assert_eq!((a, packet), (Err(StepRefusal::N1), [0; LONG_SIZE]));
         let place = Place {
             entry: 0,
             block: 0xFFFFFFFF,
@@ -187,32 +173,33 @@ fn replies_before_block_0() {
     let b = one_first();
     let mut reply = [0; SHORT_SIZE];
     put(&mut reply, content_reply_at::SEQUENCE, &0xFFFFu16.to_le_bytes());
-    let a = step(sending(0, 0), &b, &reply);
-    assert_eq!((a.refusal, a.sent, a.host.stage), (StepRefusal::Served, Sent::Nothing, HostStage::Ended(End::Foreign)));
+    let a = step(sending(0, 0), &b, &reply).unwrap();
+    assert_eq!((a.sent, a.host.stage), (Sent::Nothing, HostStage::Ended(End::Foreign)));
     let h = sending(0, 1);
-    let a = step(h, &b, &[0; SHORT_SIZE]);
+    let a = step(h, &b, &[0; SHORT_SIZE]).unwrap();
     let place = Place { entry: 0, block: 1 };
     let passed = Host {
         stage: HostStage::Sending(Awaited { place, passed: true }),
         ..h
     };
-    assert_eq!((a.refusal, a.sent, a.host), (StepRefusal::Served, Sent::Nothing, passed));
-    assert_eq!(passed.report().progress, Progress::Running);
-    let a = step(passed, &b, &[0; SHORT_SIZE]);
-    assert_eq!((a.refusal, a.sent, a.host.stage), (StepRefusal::Served, Sent::Nothing, HostStage::Ended(End::Foreign)));
+    assert_eq!((a.sent, a.host), (Sent::Nothing, passed));
+    assert_eq!(passed.report().progress, None);
+    let a = step(passed, &b, &[0; SHORT_SIZE]).unwrap();
+    assert_eq!((a.sent, a.host.stage), (Sent::Nothing, HostStage::Ended(End::Foreign)));
 }
 
 /// N1 for an offer whose place in the table passes 32 bits.
 fn offers_past_32_bits() {
     let b = one_first();
-    let c = check(&b);
+    let c = check(&b).unwrap();
     for entry in [2, 0x0AAAAAAA, 0x0AAAAAAB, 0x15555555, 0xFFFFFFFE, 0xFFFFFFFF] {
         let a = laid(&b, c, entry, 9, Action::Offer(entry));
         if entry == 2 {
             // The table ends, but the bytes go on.
-            assert_eq!((a.0.served, a.0.sent, a.0.cursor), (true, Sent::Offer, 9));
+            let sent = Sent::Offer;
+            assert_eq!(a.0, Some(Written { sent, cursor: 9 }));
         } else {
-            lacks(a, 9);
+            lacks(a);
         }
     }
 }
@@ -222,9 +209,10 @@ fn ends_past_32_bits() {
     let b = one_first();
     let block = Action::Block(Place { entry: 0, block: 1 });
     let (a, _) = laid(&b, moved(56, 74, 2), 0, 113, block);
-    assert_eq!((a.served, a.sent, a.cursor), (true, Sent::Content, 130));
+    let sent = Sent::Content;
+    assert_eq!(a, Some(Written { sent, cursor: 130 }));
     for (offset, length) in [(0xFFFFFFFF, 131), (131, 0xFFFFFFFF), (0xFFFFFFFF, 0xFFFFFFFF)] {
-        lacks(laid(&b, moved(offset, length, 2), 0, 113, block), 113);
+        lacks(laid(&b, moved(offset, length, 2), 0, 113, block));
     }
     for end in [1 << 32, (1 << 32) + 130, u64::MAX] {
         assert_eq!(next_record(&b, 113, end), Next::Bad, "{end}");
@@ -236,7 +224,7 @@ fn ends_past_32_bits() {
 fn numbers_in_bytes() {
     let c = moved(0xFFFFFFFF, 0xFFFFFFFF, 0xFFFFFFFF);
     for cursor in [0, 130, 65536, 0xFFFFFFFF] {
-        let mut q = contents_bytes(c);
+        let mut q = contents_bytes(Ok(c));
         let stage = sending(0, 0xFFFFFFFE).stage;
         assert!(are_contents(&q) && !is_kept(&q, stage) && read_cursor(&q) == 0);
         keep(&mut q, stage, cursor);

@@ -1,9 +1,8 @@
 //! The bundle's writer: document 02, A3, rows W1 to W8, over document 01's bundle, image and rows B1, B5 and S1. Written from these documents.
 use cfu_updater::bundle::check;
 use cfu_updater::bundle_cut::{next_piece, Piece};
-use cfu_updater::bundle_layout::BundleVerdict;
-use cfu_updater::bundle_writer::rows::WriteVerdict;
-use cfu_updater::bundle_writer::write;
+use cfu_updater::bundle_writer::rows::WriteRow;
+use cfu_updater::bundle_writer::{write, WriteRefusal};
 use cfu_updater::crc16::crc16;
 
 #[allow(dead_code)] // each test uses some of it
@@ -130,12 +129,10 @@ fn read_entry(b: &[u8], place: usize) -> (&[u8], Vec<(usize, &[u8])>) {
 #[track_caller]
 fn served(list: &[u8], images: &[u8]) -> Vec<u8> {
     let mut out = vec![BEFORE; BUNDLE_LIMIT + 9];
-    let answer = write(&mut out, list, images);
-    assert_eq!((answer.verdict, answer.place), (WriteVerdict::Fine, 0));
-    let rest = out.split_off(answer.length as usize);
+    let length = write(&mut out, list, images).unwrap();
+    let rest = out.split_off(length as usize);
     assert!(rest == vec![BEFORE; rest.len()], "bytes behind the bundle");
-    let c = check(&out);
-    assert_eq!((c.verdict, c.place, c.count as usize), (BundleVerdict::Fine, 0, list.len() / BUNDLE_ENTRY_SIZE));
+    assert_eq!(check(&out).unwrap().count as usize, list.len() / BUNDLE_ENTRY_SIZE);
     for (place, e) in list.chunks(BUNDLE_ENTRY_SIZE).enumerate() {
         let (offer, records) = read_entry(&out, place);
         assert_eq!(offer, &e[..SHORT_SIZE]);
@@ -152,23 +149,22 @@ fn served(list: &[u8], images: &[u8]) -> Vec<u8> {
 
 /// A row refuses the list and names this entry, and the whole output is as it was.
 #[track_caller]
-fn refused_in(room: usize, list: &[u8], images: &[u8], verdict: WriteVerdict, place: u8) {
+fn refused_in(room: usize, list: &[u8], images: &[u8], row: WriteRow, place: u8) {
     let mut out = vec![BEFORE; room];
-    let answer = write(&mut out, list, images);
-    assert_eq!((answer.verdict, answer.place, answer.length), (verdict, place, 0));
+    assert_eq!(write(&mut out, list, images), Err(WriteRefusal { row, place }));
     assert!(out == vec![BEFORE; room], "the output is touched");
 }
 
 #[track_caller]
-fn refused(list: &[u8], images: &[u8], verdict: WriteVerdict, place: u8) {
-    refused_in(BUNDLE_LIMIT, list, images, verdict, place);
+fn refused(list: &[u8], images: &[u8], row: WriteRow, place: u8) {
+    refused_in(BUNDLE_LIMIT, list, images, row, place);
 }
 
 /// These offers with their images, one behind the other, are refused.
 #[track_caller]
-fn refused_parts(parts: &[(Offer, Vec<u8>)], verdict: WriteVerdict, place: u8) {
+fn refused_parts(parts: &[(Offer, Vec<u8>)], row: WriteRow, place: u8) {
     let (list, images) = given(parts);
-    refused(&list, &images, verdict, place);
+    refused(&list, &images, row, place);
 }
 
 /// An image, alone in a bundle, is cut into these records: (address, length).
@@ -190,7 +186,7 @@ fn alone(m: &[u8], length: usize) {
 
 #[track_caller]
 fn too_large(m: &[u8]) {
-    refused(&entry(&offer(1), 0, m.len()), m, WriteVerdict::W7, 0);
+    refused(&entry(&offer(1), 0, m.len()), m, WriteRow::W7, 0);
 }
 
 // ---------------------------------------------------------------- how an image is cut
@@ -356,11 +352,11 @@ fn w7_a_bundle_of_65536_bytes_and_of_one_more() {
     let (list, images) = two(59_712);
     assert_eq!(served(&list, &images).len(), BUNDLE_LIMIT);
     let (list, images) = two(59_713);
-    refused(&list, &images, WriteVerdict::W7, 0);
-    refused_in(BUNDLE_LIMIT + 1, &list, &images, WriteVerdict::W7, 0);
+    refused(&list, &images, WriteRow::W7, 0);
+    refused_in(BUNDLE_LIMIT + 1, &list, &images, WriteRow::W7, 0);
     // Seven images that fit alone.
     let most: Vec<_> = (1..=7).map(|id| (offer(id), image_of(id, 9000, &[]))).collect();
-    refused_parts(&most, WriteVerdict::W7, 0);
+    refused_parts(&most, WriteRow::W7, 0);
 }
 
 #[test]
@@ -371,17 +367,16 @@ fn w8_an_output_that_is_just_long_enough_too_short_and_longer() {
     assert_eq!(expected.len(), 214);
     for room in [214, 215, 300] {
         let mut out = vec![BEFORE; room];
-        let answer = write(&mut out, &list, &images);
-        assert_eq!((answer.verdict, answer.place, answer.length), (WriteVerdict::Fine, 0, 214));
+        assert_eq!(write(&mut out, &list, &images), Ok(214));
         assert_eq!(out[..214], expected);
         assert!(out[214..].iter().all(|byte| *byte == BEFORE), "room of {room}");
     }
     for room in [0, 1, 8, 56, 213] {
-        refused_in(room, &list, &images, WriteVerdict::W8, 0);
+        refused_in(room, &list, &images, WriteRow::W8, 0);
     }
     // What stood in the output does not matter.
     let mut out = vec![ERASED; 214];
-    assert_eq!(write(&mut out, &list, &images).length, 214);
+    assert_eq!(write(&mut out, &list, &images), Ok(214));
     assert_eq!(out, expected);
 }
 
@@ -418,7 +413,7 @@ fn images_may_share_bytes() {
     assert_eq!(b, bundle_of(&[(offer(1), outer_body), (offer(2), body(&inner, &[(0, 38), (38, 2)]))]));
     // One image cannot be two components'.
     let list = [entry(&offer(1), 0, 128), entry(&offer(2), 0, 128)].concat();
-    refused(&list, &outer, WriteVerdict::W6, 2);
+    refused(&list, &outer, WriteRow::W6, 2);
 }
 
 #[test]
@@ -443,27 +438,26 @@ fn every_free_byte_of_an_offer_is_kept() {
 
 #[test]
 fn rows_have_their_numbers() {
-    use WriteVerdict::*;
-    for (number, verdict) in [Fine, W1, W2, W3, W4, W5, W6, W7, W8].into_iter().enumerate() {
-        assert_eq!(verdict.number() as usize, number);
-        assert_eq!(verdict.is_refused(), number != 0);
+    use WriteRow::*;
+    for (at, row) in [W1, W2, W3, W4, W5, W6, W7, W8].into_iter().enumerate() {
+        assert_eq!(row.number() as usize, at + 1);
     }
 }
 
 #[test]
 fn w1_count() {
     let (list, images) = given(&several(OFFER_LIMIT + 1));
-    refused(&[], &images, WriteVerdict::W1, 0);
-    refused(&list, &images, WriteVerdict::W1, 0);
+    refused(&[], &images, WriteRow::W1, 0);
+    refused(&list, &images, WriteRow::W1, 0);
     for n in 1..=OFFER_LIMIT {
         let end = BUNDLE_ENTRY_SIZE * n;
         served(&list[..end], &images);
         // Bytes that are no whole entry.
-        refused(&list[..end - 1], &images, WriteVerdict::W1, 0);
-        refused(&list[..end + 1], &images, WriteVerdict::W1, 0);
+        refused(&list[..end - 1], &images, WriteRow::W1, 0);
+        refused(&list[..end + 1], &images, WriteRow::W1, 0);
     }
     // A count that is 1 again in one byte.
-    refused(&list[..BUNDLE_ENTRY_SIZE].repeat(257), &images, WriteVerdict::W1, 0);
+    refused(&list[..BUNDLE_ENTRY_SIZE].repeat(257), &images, WriteRow::W1, 0);
 }
 
 #[test]
@@ -484,14 +478,14 @@ fn w2_offers_that_b5_refuses() {
         for place in 1..=3 {
             let mut parts = several(3);
             parts[place - 1].0[byte] = value;
-            refused_parts(&parts, WriteVerdict::W2, place as u8);
+            refused_parts(&parts, WriteRow::W2, place as u8);
         }
     }
     // The first such entry.
     let mut parts = several(3);
     parts[1].0[offer_at::TOKEN] = 1;
     parts[2].0[offer_at::SEGMENT] = 1;
-    refused_parts(&parts, WriteVerdict::W2, 2);
+    refused_parts(&parts, WriteRow::W2, 2);
     // The lowest and the highest id.
     for id in [1, ID_LIMIT] {
         served(&entry(&offer(id), 0, 64), &image_of(id, 64, &[]));
@@ -502,7 +496,7 @@ fn w2_offers_that_b5_refuses() {
 fn w3_repeated_id() {
     let with_ids = |ids: &[u8]| ids.iter().map(|id| (offer(*id), image_of(*id, 64, &[]))).collect::<Vec<_>>();
     for (ids, place) in [(&[1, 1][..], 2), (&[1, 2, 1], 3), (&[1, 2, 2, 1], 3), (&[1, 2, 3, 4, 5, 6, 1], 7), (&[9, 9, 9], 2)] {
-        refused_parts(&with_ids(ids), WriteVerdict::W3, place);
+        refused_parts(&with_ids(ids), WriteRow::W3, place);
     }
     let (list, images) = given(&with_ids(&[7, 6, 5, 4, 3, 2, 1]));
     served(&list, &images);
@@ -513,13 +507,13 @@ fn w4_length_of_an_image() {
     let m = image(REGION_LEAST, &[]);
     served(&entry(&offer(1), 0, 8), &m);
     for n in [0, 1, 7] {
-        refused(&entry(&offer(1), 0, n), &m, WriteVerdict::W4, 1);
+        refused(&entry(&offer(1), 0, n), &m, WriteRow::W4, 1);
     }
     // One byte over S1's limit, lent and with a right CRC; with one byte less it is served.
     let over = image(STAGING_LIMIT + 1, &[(1000, 60_000)]);
-    refused(&entry(&offer(1), 0, STAGING_LIMIT + 1), &over, WriteVerdict::W4, 1);
+    refused(&entry(&offer(1), 0, STAGING_LIMIT + 1), &over, WriteRow::W4, 1);
     served(&entry(&offer(1), 0, STAGING_LIMIT), &image(STAGING_LIMIT, &[(1000, 60_000)]));
-    refused(&entry(&offer(1), 0, u32::MAX as usize), &over, WriteVerdict::W4, 1);
+    refused(&entry(&offer(1), 0, u32::MAX as usize), &over, WriteRow::W4, 1);
 }
 
 #[test]
@@ -529,20 +523,20 @@ fn w4_an_image_that_is_not_wholly_lent() {
     let list = entry(&offer(1), 10, 64);
     served(&list, &images);
     for n in [0, 10, 73] {
-        refused(&list, &images[..n], WriteVerdict::W4, 1);
+        refused(&list, &images[..n], WriteRow::W4, 1);
     }
     // Sums that do not wrap in 32 bits.
     for offset in [11, 73, 74, 75, u32::MAX as usize - 64, u32::MAX as usize - 63, u32::MAX as usize] {
-        refused(&entry(&offer(1), offset, 64), &images, WriteVerdict::W4, 1);
+        refused(&entry(&offer(1), offset, 64), &images, WriteRow::W4, 1);
     }
     // The entry is named.
     let mut parts = several(3);
     let (mut list, images) = given(&parts);
-    refused(&list, &images[..191], WriteVerdict::W4, 3);
+    refused(&list, &images[..191], WriteRow::W4, 3);
     put(&mut list, BUNDLE_ENTRY_SIZE + entry_at::LENGTH, &[7]);
-    refused(&list, &images[..191], WriteVerdict::W4, 2);
+    refused(&list, &images[..191], WriteRow::W4, 2);
     parts[1].1.truncate(7);
-    refused_parts(&parts, WriteVerdict::W4, 2);
+    refused_parts(&parts, WriteRow::W4, 2);
 }
 
 #[test]
@@ -550,19 +544,19 @@ fn w5_crc() {
     for at in 0..64 {
         let mut parts = several(3);
         parts[1].1[at] ^= 0x10;
-        refused_parts(&parts, WriteVerdict::W5, 2);
+        refused_parts(&parts, WriteRow::W5, 2);
     }
     // High byte first.
     let mut parts = several(3);
     assert_ne!(parts[2].1[62], parts[2].1[63]);
     parts[2].1.swap(62, 63);
-    refused_parts(&parts, WriteVerdict::W5, 3);
+    refused_parts(&parts, WriteRow::W5, 3);
     // Bytes of the image, and not those of another length.
     let m = image(64, &[]);
-    refused(&entry(&offer(1), 0, 63), &m, WriteVerdict::W5, 1);
-    refused(&entry(&offer(1), 2, 62), &m, WriteVerdict::W5, 1);
+    refused(&entry(&offer(1), 0, 63), &m, WriteRow::W5, 1);
+    refused(&entry(&offer(1), 2, 62), &m, WriteRow::W5, 1);
     // Without the variant, a zero, the CRC from 0 is still right, and the version is another.
-    refused(&entry(&offer(1), 1, 63), &m, WriteVerdict::W6, 1);
+    refused(&entry(&offer(1), 1, 63), &m, WriteRow::W6, 1);
 }
 
 #[test]
@@ -572,26 +566,26 @@ fn w6_version_and_id() {
         for more in [1, 0x80] {
             let mut parts = several(3);
             parts[1].0[offer_at::VERSION + at] ^= more;
-            refused_parts(&parts, WriteVerdict::W6, 2);
+            refused_parts(&parts, WriteRow::W6, 2);
             let mut parts = several(3);
             make_image(&mut parts[2].1, NEW ^ (more as u32) << (8 * at), 3);
-            refused_parts(&parts, WriteVerdict::W6, 3);
+            refused_parts(&parts, WriteRow::W6, 3);
         }
     }
     let mut parts = several(3);
     make_image(&mut parts[0].1, NEW, 2);
-    refused_parts(&parts, WriteVerdict::W6, 1);
+    refused_parts(&parts, WriteRow::W6, 1);
     let mut parts = several(3);
     parts[2].0[offer_at::ID] = 4;
-    refused_parts(&parts, WriteVerdict::W6, 3);
+    refused_parts(&parts, WriteRow::W6, 3);
     // Older and newer alike are another version; two images that are exchanged are named at the first.
     for version in [NEW - 1, NEW + 1] {
         let mut m = image(64, &[]);
         make_image(&mut m, version, 1);
-        refused(&entry(&offer(1), 0, 64), &m, WriteVerdict::W6, 1);
+        refused(&entry(&offer(1), 0, 64), &m, WriteRow::W6, 1);
     }
     let [(first, one), (second, two)] = several(2).try_into().unwrap();
-    refused_parts(&[(first, two), (second, one)], WriteVerdict::W6, 1);
+    refused_parts(&[(first, two), (second, one)], WriteRow::W6, 1);
 }
 
 #[test]
@@ -599,33 +593,33 @@ fn the_earlier_row_wins_over_the_whole_list() {
     // In each pair the later row would refuse an earlier entry.
     let mut parts = several(8);
     parts[0].0[offer_at::SEGMENT] = 1;
-    refused_parts(&parts, WriteVerdict::W1, 0);
+    refused_parts(&parts, WriteRow::W1, 0);
 
     let mut parts = several(3);
     parts[1] = parts[0].clone();
     parts[2].0[offer_at::TOKEN] = 1;
-    refused_parts(&parts, WriteVerdict::W2, 3);
+    refused_parts(&parts, WriteRow::W2, 3);
 
     let mut parts = several(3);
     parts[0].1.truncate(7);
     parts[2].0 = offer(2);
-    refused_parts(&parts, WriteVerdict::W3, 3);
+    refused_parts(&parts, WriteRow::W3, 3);
 
     let mut parts = several(3);
     parts[0].1[63] ^= 1;
     parts[2].1.truncate(7);
-    refused_parts(&parts, WriteVerdict::W4, 3);
+    refused_parts(&parts, WriteRow::W4, 3);
 
     let mut parts = several(3);
     make_image(&mut parts[0].1, NEW, 9);
     parts[2].1[63] ^= 1;
-    refused_parts(&parts, WriteVerdict::W5, 3);
+    refused_parts(&parts, WriteRow::W5, 3);
 
     let parts = [(offer(1), image(STAGING_LIMIT, &[])), (offer(2), image_of(3, 64, &[]))];
-    refused_parts(&parts, WriteVerdict::W6, 2);
+    refused_parts(&parts, WriteRow::W6, 2);
 
     let m = image(STAGING_LIMIT, &[]);
-    refused_in(0, &entry(&offer(1), 0, m.len()), &m, WriteVerdict::W7, 0);
+    refused_in(0, &entry(&offer(1), 0, m.len()), &m, WriteRow::W7, 0);
 }
 
 #[test]
@@ -637,24 +631,24 @@ fn every_row_comes_before_all_later_ones() {
     parts[1].1[63] ^= 1; // W5
     parts[2] = (offer(1), vec![PLAIN; 7]); // W3 and W4
     parts[2].0[offer_at::RESERVED] = 1; // W2
-    let refused = |parts: &[_], verdict, place| {
+    let refused = |parts: &[_], row, place| {
         let (list, images) = given(parts);
-        refused_in(8, &list, &images, verdict, place);
+        refused_in(8, &list, &images, row, place);
     };
-    refused(&[&parts[..], &parts, &parts].concat(), WriteVerdict::W1, 0);
-    refused(&parts, WriteVerdict::W2, 3);
+    refused(&[&parts[..], &parts, &parts].concat(), WriteRow::W1, 0);
+    refused(&parts, WriteRow::W2, 3);
     parts[2].0 = offer(1);
-    refused(&parts, WriteVerdict::W3, 3);
+    refused(&parts, WriteRow::W3, 3);
     parts[2].0 = offer(3);
-    refused(&parts, WriteVerdict::W4, 3);
+    refused(&parts, WriteRow::W4, 3);
     parts[2].1 = image_of(3, 64, &[]);
-    refused(&parts, WriteVerdict::W5, 2);
+    refused(&parts, WriteRow::W5, 2);
     parts[1].1[63] ^= 1;
-    refused(&parts, WriteVerdict::W6, 2);
+    refused(&parts, WriteRow::W6, 2);
     parts[1].1 = image_of(2, 64, &[]);
-    refused(&parts, WriteVerdict::W7, 0);
+    refused(&parts, WriteRow::W7, 0);
     parts[0].1 = image(64, &[]);
-    refused(&parts, WriteVerdict::W8, 0);
+    refused(&parts, WriteRow::W8, 0);
     let (list, images) = given(&parts);
     served(&list, &images);
 }

@@ -1,5 +1,5 @@
 -- What the check answers: its row and, for an accepted bundle, the contents table; and the promises on accepted bundles.
-use Rattle.std.specs.Prelude.{ℕ, ◌+◌, ◌-◌, ◌≤◌, ◌<◌, ◌≡◌, false, length, get_or, take, replicate}
+use Rattle.std.specs.Prelude.{Result, Ok, Err, ℕ, ◌+◌, ◌-◌, ◌≤◌, ◌<◌, ◌≡◌, false, length, get_or, take, replicate}
 use mathlib.Core.List.{List, [], ◌∷◌, ◌++◌, map, flatten}
 use Rattle.wire.specs.Bytes.{Packet, Bytes, bytes_of}
 use Rattle.wire.specs.Checks.{All}
@@ -8,9 +8,10 @@ use Rattle.wire_offer.specs.Offer.{fields_in}
 use Rattle.bundle_records.specs.Record.{Block, Sound}
 use Rattle.bundle_records.specs.Parse.{whole, records_of, blocks_of, written}
 use Rattle.bundle_layout.specs.declared.Entry.{Entry}
+use Rattle.bundle_layout.specs.declared.BundleRefusal.{BundleRefusal}
 use Rattle.bundle_layout.specs.declared.Checked.{Checked}
 use Rattle.bundle_layout.specs.Layout.{blank_entry, bundle_limit, offer_limit, count_in, table_end, entries_in, offer_in, id_in, offset_in, length_in, body_in}
-use Rattle.bundle_layout.specs.Rows.{Row, served, row_b, row_of, bad_offer, bundle_row}
+use Rattle.bundle_layout.specs.Rows.{Row, served, row_b, refusal_row, bad_offer, bundle_row}
 
 -- the records of an entry's body
 abbrev pub blocks_in : (b e : List ℕ) → List Block
@@ -45,8 +46,9 @@ contents_by (row_b k entry) b = record { row = row_b k entry; place = entry; cou
 unfoldable pub check_of : List ℕ → Contents
 check_of b = contents_by (bundle_row b) b
 
-abbrev pub told_checked : Checked → Contents
-told_checked c = record { row = row_of c.verdict c.place; place = c.place; count = c.count; table = c.table }
+abbrev pub told_checked : Result Checked BundleRefusal → Contents
+told_checked (Ok c) = record { row = served; place = 0; count = c.count; table = c.table }
+told_checked (Err r) = record { row = refusal_row r; place = r.place; count = 0; table = replicate offer_limit blank_entry }
 
 -- the bodies of a bundle
 abbrev pub bodies_of : List ℕ → List (List ℕ)

@@ -1,5 +1,5 @@
 // Row B8, and the contents table: one walk over each body.
-ghost use Rattle.std.specs.Prelude.{◌≡◌, false, map, ◌++◌, ◌+◌, ◌-◌, ◌≤◌, length, take, drop, replicate};
+ghost use Rattle.std.specs.Prelude.{IfOk, IfErr, ◌<◌, ◌≡◌, false, map, ◌++◌, ◌+◌, ◌-◌, ◌≤◌, length, take, drop, replicate};
 ghost use Rattle.wire.specs.Codes.{id_limit, short_size};
 ghost use Rattle.wire_offer.specs.Offer.{fields_in};
 ghost use Rattle.bundle_records.specs.Parse.{records_of, blocks_of};
@@ -12,30 +12,21 @@ use bundle_layout::Entry;
 use bundle_layout::blank::{no_entries, no_offer};
 use bundle_layout::limits::OFFER_LIMIT;
 use bundle_layout::parts::{length_in, offset_in};
-use bundle_records::Tally;
 use bundle_records::walk::tally;
 use wire::codes::SHORT_SIZE;
 use wire_offer::kind::{OfferPacket, read_offer_packet};
 use wire_offer::offer::OfferFields;
-
-// The answer of row B8 (an entry, or 0), and the contents table where it is 0.
-#[derive(Clone, Copy)]
-pub struct Filled {
-    pub place: u8,
-    pub table: [Entry; OFFER_LIMIT],
-}
 
 // The fields of an offer that row B5 allows, by the one reader of the offer channel.
 fn offer_in(p: &[u8]) -> OfferFields
     requires { (length p.now ≡ short_size) × (id_in p.now ≤ id_limit) }
     ensures { result ≡ fields_in p.now }
 {
-    let k = read_offer_packet(p);
-    match k {
-        OfferPacket::Refused => no_offer(),
-        OfferPacket::Offer(o) => o,
-        OfferPacket::Information(_) => no_offer(),
-        OfferPacket::Extended(_) => no_offer(),
+    match read_offer_packet(p) {
+        Err(_) => no_offer(),
+        Ok(OfferPacket::Offer(o)) => o,
+        Ok(OfferPacket::Information(_)) => no_offer(),
+        Ok(OfferPacket::Extended(_)) => no_offer(),
     }
 }
 
@@ -46,10 +37,9 @@ fn records_in(b: &[u8], offset: u32, size: u32) -> u32
 {
     let at = offset as usize;
     let end = at + size as usize;
-    let t = tally(b, at, end);
-    match t {
-        Tally::Broken => 0,
-        Tally::Records(n) => n as u32,
+    match tally(b, at, end) {
+        None => 0,
+        Some(n) => n as u32,
     }
 }
 
@@ -71,27 +61,22 @@ fn contents_in(b: &[u8], e: &[u8]) -> Entry
     }
 }
 
-// B8: the first entry whose body is empty or broken, or 0; then the contents table.
-pub(crate) fn contents_of(b: &[u8]) -> Filled
+// The contents table; or, by row B8, the first entry whose body is empty or broken, counted from 1.
+pub(crate) fn contents_of(b: &[u8]) -> Result<[Entry; OFFER_LIMIT], u8>
     requires b_bound { (count_in b.now ≤ offer_limit) × (table_end (count_in b.now) ≤ length b.now) × (length b.now ≤ bundle_limit) }
     requires b_value { (row_b5 b.now ≡ 0) × (row_b7 b.now ≡ 0) }
-    ensures place_value { result.place ≡ row_b8 b.now }
-    ensures table_value { row_b8 b.now ≡ 0 → result.table ≡ map (entry_in b.now) (entries_in b.now) ++ replicate (offer_limit - count_in b.now) blank_entry }
+    ensures place_value { IfErr result (λ place. (place ≡ row_b8 b.now) × (0 < place)) }
+    ensures table_value { IfOk result (λ t. (row_b8 b.now ≡ 0) × (t ≡ map (entry_in b.now) (entries_in b.now) ++ replicate (offer_limit - count_in b.now) blank_entry)) }
 {
     let count = b[0];
     let mut table = no_entries();
-    let mut i: u8 = 0;
-    while i < count {
+    for i in 0..count {
         let e = entry_at(b, i);
         let x = contents_in(b, e);
         if x.records == 0 {
-            return Filled {
-                place: i + 1,
-                table,
-            };
+            return Err(i + 1);
         }
         table[i as usize] = x;
-        i += 1;
     }
-    Filled { place: 0, table }
+    Ok(table)
 }

@@ -5,49 +5,39 @@ ghost use Rattle.std.specs.Prelude.{◌≡◌};
 ghost use Rattle.bundle.specs.Contents.{told_checked, check_of};
 
 use bundle_layout::blank::refused;
-use bundle_layout::{BundleVerdict, Checked, head};
+use bundle_layout::{BundleRefusal, BundleRow, Checked, head};
 
 mod table; // table.rt: an entry of the table, rows B5 and B6
 mod chain; // chain.rt: row B7, the bodies one after the other
 mod contents; // contents.rt: row B8, and the contents table
 
 // Rows B1 to B8, each over the whole bundle before the next.
-pub fn check(b: &[u8]) -> Checked
+pub fn check(b: &[u8]) -> Result<Checked, BundleRefusal>
     ensures { told_checked result ≡ check_of b.now }
 {
     if head::bad_length(b) {
-        return refused(BundleVerdict::B1, 0);
+        return refused(BundleRow::B1, 0);
     }
     if head::bad_head(b) {
-        return refused(BundleVerdict::B2, 0);
+        return refused(BundleRow::B2, 0);
     }
     if head::bad_count(b) {
-        return refused(BundleVerdict::B3, 0);
+        return refused(BundleRow::B3, 0);
     }
     if head::cut_table(b) {
-        return refused(BundleVerdict::B4, 0);
+        return refused(BundleRow::B4, 0);
     }
-    let offer = table::bad_offer_place(b);
-    if offer != 0 {
-        return refused(BundleVerdict::B5, offer);
+    if let Some(offer) = table::bad_offer_place(b) {
+        return refused(BundleRow::B5, offer);
     }
-    let repeated = table::repeated_place(b);
-    if repeated != 0 {
-        return refused(BundleVerdict::B6, repeated);
+    if let Some(repeated) = table::repeated_place(b) {
+        return refused(BundleRow::B6, repeated);
     }
-    let gap = chain::gap_place(b);
-    if gap != 0 {
-        return refused(BundleVerdict::B7, gap);
+    if let Some(gap) = chain::gap_place(b) {
+        return refused(BundleRow::B7, gap);
     }
-    let c = contents::contents_of(b);
-    if c.place != 0 {
-        return refused(BundleVerdict::B8, c.place);
-    }
-    let table = c.table;
-    Checked {
-        verdict: BundleVerdict::Fine,
-        place: 0,
-        count: b[0],
-        table,
+    match contents::contents_of(b) {
+        Err(place) => refused(BundleRow::B8, place),
+        Ok(table) => Ok(Checked { count: b[0], table }),
     }
 }

@@ -14,7 +14,7 @@ use Rattle.bundle_cut.specs.Cut.{erased_byte, run_least, leading, run_at, reach}
 
 -- how many bytes 0xFF some bytes begin with
 
-leading_inside : (l : List ℕ) → leading l ≤ length l
+pub leading_inside : (l : List ℕ) → leading l ≤ length l
 unfolding leading
 leading_inside [] = omega arith
 leading_inside (b ∷ bs) = go (eqb b erased_byte) (leading_inside bs) where

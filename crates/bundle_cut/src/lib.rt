@@ -1,9 +1,9 @@
 // How an image is cut into the records of a body (document 02, A3): a cursor that steps from piece to piece.
 #![tactic(auto)]
 
-ghost use Rattle.std.specs.Prelude.{◌≡◌, ◌+◌, ◌<◌, length, drop};
+ghost use Rattle.std.specs.Prelude.{position, not, ◌==◌, ◌≡◌, ◌+◌, ◌<◌, ◌≤◌, length, drop};
 ghost use Rattle.bundle_records.specs.Record.{data_limit};
-ghost use Rattle.bundle_cut.specs.Cut.{run_at, reach, piece_at};
+ghost use Rattle.bundle_cut.specs.Cut.{erased_byte, run_at, reach, piece_at};
 
 use bundle_records::DATA_LIMIT;
 use wire::words::least;
@@ -27,22 +27,24 @@ pub enum Piece {
     Data { to: usize },
 }
 
+// Where the first byte stands that is not 0xFF.
+fn first_other(d: &[u8]) -> Option<usize>
+    ensures { result ≡ position (λ b. not (b == erased_byte)) d.now }
+{
+    d.iter().position(|b| *b != ERASED)
+}
+
 // How many bytes 0xFF stand from place x on.
 fn run_at(d: &[u8], x: usize) -> usize
+    requires { x ≤ length d.now }
     ensures { result ≡ run_at d.now x }
 {
-    let mut y = x;
-    while y < d.len() {
-        if d[y] != ERASED {
-            return y - x;
-        }
-        y += 1;
-    }
-    y - x
+    let rest = &d[x..];
+    first_other(rest).unwrap_or(rest.len())
 }
 
 // Where the record at a place ends: 52 bytes on, at the end, or before a run that is left out. A run that is not left out is passed over in one step, with the
-// byte after it.
+// byte after it. The loop stays a `while`: it skips from run to run, where a `for` or `find` over the places would look at each run once for each of its bytes.
 fn record_end(d: &[u8], at: usize) -> usize
     requires { at < length d.now }
     ensures { result ≡ at + reach data_limit (drop at d.now) }

@@ -10,7 +10,7 @@ ghost use Rattle.bundle_given.specs.Entry.{bad_list, bad_lent, bears_offer, brea
 use bundle_layout::limits::{ENTRY, OFFER_LIMIT};
 use bundle_layout::parts::{bad_offer, id_in, length_in, offset_in};
 use device_component::setup::{REGION_LEAST, STAGING_LIMIT};
-use image::judge::{Image, examine};
+use image::judge::{ImageFault, examine};
 use wire::version::Version;
 use wire::words::{byte_at, least};
 
@@ -56,9 +56,9 @@ fn is_right(m: &[u8]) -> bool
 {
     let i = examine(m, 0);
     match i {
-        Image::Damaged => false,
-        Image::Foreign => true,
-        Image::Bears(_) => true,
+        Err(ImageFault::Damaged) => false,
+        Err(ImageFault::Foreign) => true,
+        Ok(_) => true,
     }
 }
 

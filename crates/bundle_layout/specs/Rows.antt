@@ -1,11 +1,12 @@
 -- Rows B1 to B8 (document 01, "Numbered refusals"), each over the whole bundle before the next. Rows B5 to B8 answer the entry that they name,
 -- counted from 1, or 0 where they refuse nothing; B1 to B4 name no entry.
-use Rattle.std.specs.Prelude.{ℕ, suc, ◌+◌, ◌-◌, Bool, true, false, not, cond, ◌||◌, List, [], ◌∷◌, ltb, eqb, length, get_or}
+use Rattle.std.specs.Prelude.{ℕ, Option, Some, None, suc, ◌+◌, ◌-◌, Bool, true, false, not, cond, ◌||◌, List, [], ◌∷◌, ltb, eqb, length, get_or}
 use Rattle.wire.specs.Checks.{first_of, any}
 use Rattle.wire.specs.Codes.{protocol_number, id_limit}
 use Rattle.bundle_records.specs.Parse.{Parsed, whole, broken, records_of}
-use Rattle.bundle_layout.specs.declared.BundleVerdict.{BundleVerdict}
-use Rattle.bundle_layout.specs.declared.BundleVerdict.TheVariants.{Fine, B1, B2, B3, B4, B5, B6, B7, B8}
+use Rattle.bundle_layout.specs.declared.BundleRefusal.{BundleRefusal}
+use Rattle.bundle_layout.specs.declared.BundleRow.{BundleRow}
+use Rattle.bundle_layout.specs.declared.BundleRow.TheVariants.{B1, B2, B3, B4, B5, B6, B7, B8}
 use Rattle.bundle_layout.specs.Layout.{bundle_limit, offer_limit, head_size, count_in, table_end, entries_in, id_in, offset_in, length_in, body_in}
 
 -- the rows of document 01 that the check gives out, with the entry
@@ -17,9 +18,8 @@ pub data Row : Type 0 where
 abbrev pub last_row : ℕ
 last_row = 8
 
--- the number of each verdict's row, and 0 where none refuses
-abbrev pub number_of : BundleVerdict → ℕ
-number_of Fine = 0
+-- the number of each row
+abbrev pub number_of : BundleRow → ℕ
 number_of B1 = 1
 number_of B2 = 2
 number_of B3 = 3
@@ -29,23 +29,24 @@ number_of B6 = 6
 number_of B7 = 7
 number_of B8 = last_row
 
--- a row refuses
-abbrev pub is_refused : BundleVerdict → Bool
-is_refused v = not (eqb (number_of v) 0)
-
 -- the row of a number, with its entry
 abbrev pub row_at : (number entry : ℕ) → Row
 row_at number entry = cond (eqb number 0) served (row_b number entry)
 
-abbrev pub row_of : BundleVerdict → ℕ → Row
-row_of v entry = row_at (number_of v) entry
+-- the row that refuses, if any, with its entry; and the row of a refusal
+abbrev pub row_of : Option BundleRow → ℕ → Row
+row_of None entry = served
+row_of (Some row) entry = row_b (number_of row) entry
 
--- the verdict of a number; from the last row's on it is B8
-abbrev pub verdict_list : List BundleVerdict
-verdict_list = Fine ∷ B1 ∷ B2 ∷ B3 ∷ B4 ∷ B5 ∷ B6 ∷ B7 ∷ []
+abbrev pub refusal_row : BundleRefusal → Row
+refusal_row r = row_b (number_of r.row) r.place
 
-abbrev pub verdict_of : ℕ → BundleVerdict
-verdict_of number = get_or verdict_list number B8
+-- the row of a number: none for 0, and from the last row's on B8
+abbrev pub verdict_list : List (Option BundleRow)
+verdict_list = None ∷ Some B1 ∷ Some B2 ∷ Some B3 ∷ Some B4 ∷ Some B5 ∷ Some B6 ∷ Some B7 ∷ []
+
+abbrev pub verdict_of : ℕ → Option BundleRow
+verdict_of number = get_or verdict_list number (Some B8)
 
 -- the first entry of which p holds, the first being number k
 unfoldable pub first_entry : (List ℕ → Bool) → ℕ → List (List ℕ) → ℕ
@@ -110,6 +111,10 @@ row_b8 b = first_entry (bad_body b) 1 (entries_in b)
 -- a row that names an entry applies where there is one
 abbrev pub named : ℕ → Bool
 named place = not (eqb place 0)
+
+-- the entry that a row names, and none where it names 0
+abbrev pub placed : ℕ → Option ℕ
+placed place = cond (named place) (Some place) None
 
 -- the rows, in checking order
 unfoldable pub bundle_row : List ℕ → Row

@@ -4,7 +4,7 @@ ghost use Rattle.wire_offer.specs.Offer.{blank_offer};
 ghost use Rattle.bundle_layout.specs.Layout.{offer_limit, blank_entry};
 
 use crate::limits::OFFER_LIMIT;
-use crate::{BundleVerdict, Checked, Entry};
+use crate::{BundleRefusal, BundleRow, Checked, Entry};
 use wire::version::Version;
 use wire_offer::offer::OfferFields;
 
@@ -44,15 +44,9 @@ pub fn no_entries() -> [Entry; OFFER_LIMIT]
     [none; OFFER_LIMIT]
 }
 
-// A refusal: its row and entry, with no contents.
-pub fn refused(verdict: BundleVerdict, place: u8) -> Checked
-    ensures { result ≡ record { verdict = verdict; place = place; count = 0; table = replicate offer_limit blank_entry } }
+// A refusal: its row and entry.
+pub fn refused(row: BundleRow, place: u8) -> Result<Checked, BundleRefusal>
+    ensures { result ≡ Err (record { row = row; place = place }) }
 {
-    let none = no_entries();
-    Checked {
-        verdict,
-        place,
-        count: 0,
-        table: none,
-    }
+    Err(BundleRefusal { row, place })
 }

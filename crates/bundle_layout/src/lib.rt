@@ -2,7 +2,7 @@
 #![tactic(auto)]
 
 ghost use Rattle.std.specs.Prelude.{◌≡◌};
-ghost use Rattle.bundle_layout.specs.Rows.{number_of, is_refused, verdict_of};
+ghost use Rattle.bundle_layout.specs.Rows.{number_of, verdict_of};
 
 use crate::limits::OFFER_LIMIT;
 use wire_offer::offer::OfferFields;
@@ -10,13 +10,13 @@ use wire_offer::offer::OfferFields;
 pub mod limits; // limits.rt: the largest bundle, the most offers, the lengths of its parts
 pub mod head; // head.rt: rows B1 to B4
 pub mod parts; // parts.rt: the parts of an entry, row B5 of an entry
+pub mod table; // table.rt: the entries of a table, and the first that repeats an id
 pub mod blank; // blank.rt: no entry, and a refusal
 
-// The verdict of the check on a bundle (document 01, "Numbered refusals").
+// The row that refuses a bundle (document 01, "Numbered refusals").
 #[derive(Clone, Copy)]
-pub enum BundleVerdict {
-    Fine,
-    B1,
+pub enum BundleRow {
+    B1 = 1,
     B2,
     B3,
     B4,
@@ -40,54 +40,42 @@ pub struct Entry {
     pub records: u32,
 }
 
-// What the check answers: the verdict with the entry that it names (from 1, or 0), and the contents, which are zero where a row refuses.
+// What the check answers of a bundle that a row refuses: the row, with the entry that it names (from 1, or 0).
+#[derive(Clone, Copy)]
+pub struct BundleRefusal {
+    pub row: BundleRow,
+    pub place: u8,
+}
+
+// What the check answers of an accepted bundle: its contents.
 #[derive(Clone, Copy)]
 pub struct Checked {
-    pub verdict: BundleVerdict,
-    pub place: u8,
     pub count: u8,
     pub table: [Entry; OFFER_LIMIT],
 }
 
-impl BundleVerdict {
-    // The number of the row that refuses, 0 for none.
+impl BundleRow {
+    // The row's number.
     pub fn number(self) -> u8
         ensures { result ≡ number_of self }
     {
-        match self {
-            BundleVerdict::Fine => 0,
-            BundleVerdict::B1 => 1,
-            BundleVerdict::B2 => 2,
-            BundleVerdict::B3 => 3,
-            BundleVerdict::B4 => 4,
-            BundleVerdict::B5 => 5,
-            BundleVerdict::B6 => 6,
-            BundleVerdict::B7 => 7,
-            BundleVerdict::B8 => LAST_ROW,
-        }
-    }
-
-    // A row refuses.
-    pub fn is_refused(self) -> bool
-        ensures { result ≡ is_refused self }
-    {
-        self.number() != 0
+        self as u8
     }
 }
 
-// The verdict of a number; from the last row's on it is B8.
-pub fn verdict_of(number: u8) -> BundleVerdict
+// The row of a number: none for 0, and from the last row's on B8. A `From<u8>` would hide that, and a `TryFrom` would refuse what this function must answer.
+pub fn verdict_of(number: u8) -> Option<BundleRow>
     ensures { result ≡ verdict_of number }
 {
     match number {
-        0 => BundleVerdict::Fine,
-        1 => BundleVerdict::B1,
-        2 => BundleVerdict::B2,
-        3 => BundleVerdict::B3,
-        4 => BundleVerdict::B4,
-        5 => BundleVerdict::B5,
-        6 => BundleVerdict::B6,
-        7 => BundleVerdict::B7,
-        _ => BundleVerdict::B8,
+        0 => None,
+        1 => Some(BundleRow::B1),
+        2 => Some(BundleRow::B2),
+        3 => Some(BundleRow::B3),
+        4 => Some(BundleRow::B4),
+        5 => Some(BundleRow::B5),
+        6 => Some(BundleRow::B6),
+        7 => Some(BundleRow::B7),
+        _ => Some(BundleRow::B8),
     }
 }

@@ -1,11 +1,9 @@
 -- The records of a body, in order, and a body written out of records.
-use Rattle.std.specs.Prelude.{ℕ, zero, suc, ◌+◌, ◌≡◌, List, [], ◌∷◌, ◌++◌, length}
+use Rattle.std.specs.Prelude.{Option, Some, None, ℕ, zero, suc, ◌+◌, ◌≡◌, List, [], ◌∷◌, ◌++◌, length}
 use Rattle.wire.specs.Bytes.{Bytes}
 use Rattle.wire.specs.Checks.{All}
 use Rattle.bundle_records.specs.declared.Head.{Head}
 use Rattle.bundle_records.specs.declared.Head.TheVariants.{Empty, Cut, Whole}
-use Rattle.bundle_records.specs.declared.Tally.{Tally}
-use Rattle.bundle_records.specs.declared.Tally.TheVariants.{Broken, Records}
 use Rattle.bundle_records.specs.Record.{Block, Sound, block_bytes, head_in, block_in, rest_of}
 
 -- a body is a list of records, or broken: a cut record, or a length of 0 or over 52
@@ -33,10 +31,10 @@ parse (suc fuel) body = after (parse fuel) body (head_in body)
 abbrev pub records_of : List ℕ → Parsed
 records_of body = parse (length body) body
 
--- how many records, after n
-abbrev pub tally_from : ℕ → Parsed → Tally
-tally_from n (whole rs) = Records (n + length rs)
-tally_from n broken = Broken
+-- how many records, after n; none where the body is broken
+abbrev pub tally_from : ℕ → Parsed → Option ℕ
+tally_from n (whole rs) = Some (n + length rs)
+tally_from n broken = None
 
 -- the records that there are, and none where the body is broken
 abbrev pub blocks_of : Parsed → List Block

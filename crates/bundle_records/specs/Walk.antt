@@ -1,11 +1,9 @@
 -- What stands at a place of a body, for a walker that steps from place to place.
-use Rattle.std.specs.Prelude.{ℕ, ◌+◌, ◌-◌, cond, ◌&&◌, List, leb, length, take, drop}
+use Rattle.std.specs.Prelude.{Option, None, ℕ, ◌+◌, ◌-◌, cond, ◌&&◌, List, leb, length, take, drop}
 use Rattle.bundle_records.specs.declared.Head.{Head}
 use Rattle.bundle_records.specs.declared.Head.TheVariants.{Empty, Cut, Whole}
 use Rattle.bundle_records.specs.declared.Next.{Next}
 use Rattle.bundle_records.specs.declared.Next.TheVariants.{End, Bad, Record}
-use Rattle.bundle_records.specs.declared.Tally.{Tally}
-use Rattle.bundle_records.specs.declared.Tally.TheVariants.{Broken}
 use Rattle.bundle_records.specs.Record.{head_in}
 use Rattle.bundle_records.specs.Parse.{records_of, tally_from}
 
@@ -23,6 +21,6 @@ placed at (Whole address size) = Record address (at + 5) size (at + 5 + size)
 unfoldable pub next_of : List ℕ → (at end : ℕ) → Next
 next_of bytes at end = cond (leb at end && leb end (length bytes)) (placed at (head_in (between bytes at end))) Bad
 
--- how many records stand from place `at` to place `end`
-unfoldable pub tally_of : List ℕ → (at end : ℕ) → Tally
-tally_of bytes at end = cond (leb at end && leb end (length bytes)) (tally_from 0 (records_of (between bytes at end))) Broken
+-- how many records stand from place `at` to place `end`; none where the body is broken
+unfoldable pub tally_of : List ℕ → (at end : ℕ) → Option ℕ
+tally_of bytes at end = cond (leb at end && leb end (length bytes)) (tally_from 0 (records_of (between bytes at end))) None

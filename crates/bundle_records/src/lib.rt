@@ -32,10 +32,3 @@ pub enum Next {
         next: usize,
     },
 }
-
-// How many records a body has.
-#[derive(Clone, Copy)]
-pub enum Tally {
-    Broken,
-    Records(usize),
-}

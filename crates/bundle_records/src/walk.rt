@@ -3,7 +3,7 @@ ghost use Rattle.std.specs.Prelude.{◌≡◌};
 ghost use Rattle.bundle_records.specs.Record.{is_sound, head_in};
 ghost use Rattle.bundle_records.specs.Walk.{next_of, tally_of};
 
-use crate::{DATA_LIMIT, Head, Next, Tally};
+use crate::{DATA_LIMIT, Head, Next};
 use wire::address::RegionAddress;
 use wire::words;
 
@@ -45,8 +45,7 @@ pub fn next_record(bytes: &[u8], at: usize, end: u64) -> Next
         return Next::Bad;
     }
     let to = end as usize;
-    let h = first(&bytes[at..to]);
-    match h {
+    match first(&bytes[at..to]) {
         Head::Empty => Next::End,
         Head::Cut => Next::Bad,
         Head::Whole { address, size } => {
@@ -61,23 +60,18 @@ pub fn next_record(bytes: &[u8], at: usize, end: u64) -> Next
     }
 }
 
-// The records from place `at` to place `end`, in one walk.
-pub fn tally(bytes: &[u8], at: usize, end: usize) -> Tally
+// How many records stand from place `at` to place `end`, in one walk; none where the body is broken. It stays a loop: whether the body is broken
+// shows at its end, so an iterator of the records would have to carry that beside its items.
+pub fn tally(bytes: &[u8], at: usize, end: usize) -> Option<usize>
     ensures { result ≡ tally_of bytes.now at end }
 {
     let mut n: usize = 0;
     let mut i = at;
     loop {
-        let r = next_record(bytes, i, end as u64);
-        match r {
-            Next::End => return Tally::Records(n),
-            Next::Bad => return Tally::Broken,
-            Next::Record {
-                address: _,
-                start: _,
-                size: _,
-                next,
-            } => {
+        match next_record(bytes, i, end as u64) {
+            Next::End => return Some(n),
+            Next::Bad => return None,
+            Next::Record { next, .. } => {
                 n += 1;
                 i = next;
             }

@@ -7,7 +7,7 @@ ghost use Rattle.bundle_report.specs.Report.{line_of, input_of};
 
 use bundle::check;
 use bundle_layout::blank::refused;
-use bundle_layout::{BundleVerdict, Checked, Entry};
+use bundle_layout::{BundleRefusal, BundleRow, Checked, Entry};
 
 // The numbers of an entry's line.
 #[derive(Clone, Copy)]
@@ -20,11 +20,11 @@ pub struct Line {
 }
 
 // The check of an input: what was read of it, and whether there is more than the buffer holds.
-pub fn check_input(buffer: &[u8], more: bool) -> Checked
+pub fn check_input(buffer: &[u8], more: bool) -> Result<Checked, BundleRefusal>
     ensures { told_checked result ≡ input_of more buffer.now }
 {
     if more {
-        return refused(BundleVerdict::B1, 0);
+        return refused(BundleRow::B1, 0);
     }
     check(buffer)
 }

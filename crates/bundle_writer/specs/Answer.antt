@@ -1,6 +1,6 @@
 -- What the writer answers, and what it leaves of the output: untouched by a refusal, and otherwise the bundle, with every byte past it as it was.
-use Rattle.std.specs.Prelude.{ℕ, List, ◌++◌, length, drop}
-use Rattle.bundle_writer.specs.declared.WriteAnswer.{WriteAnswer}
+use Rattle.std.specs.Prelude.{Result, Ok, Err, ℕ, List, ◌++◌, length, drop}
+use Rattle.bundle_writer.specs.declared.WriteRefusal.{WriteRefusal}
 use Rattle.bundle_writer.specs.Bundle.{made_bundle}
 use Rattle.bundle_writer.specs.Rows.{Row, served, row_w, row_of, write_row}
 
@@ -29,5 +29,6 @@ unfoldable pub make_of : (list images out : List ℕ) → Made
 make_of list images out = made_by (write_row list images (length out)) list images out
 
 -- an answer of the code in these terms, with the output as it was left
-abbrev pub told : WriteAnswer → (out : List ℕ) → Made
-told w out = record { row = row_of w.verdict w.place; place = w.place; length = w.length; out = out }
+abbrev pub told : Result ℕ WriteRefusal → (out : List ℕ) → Made
+told (Ok length) out = record { row = served; place = 0; length = length; out = out }
+told (Err r) out = record { row = row_of r; place = r.place; length = 0; out = out }

@@ -1,11 +1,12 @@
 -- Rows W1 to W8 (document 02, A3), in that order. As document 01 has it of the B rows, each is tried over the whole list before the next, and W2 to W6 answer
 -- the entry that they name, counted from 1, or 0 where they refuse nothing; W1, W7 and W8 name no entry.
-use Rattle.std.specs.Prelude.{ℕ, Bool, not, cond, List, [], ◌∷◌, ltb, eqb, length}
+use Rattle.std.specs.Prelude.{ℕ, List, [], ◌∷◌, ltb, length}
 use Rattle.wire.specs.Checks.{first_of}
 use Rattle.bundle_layout.specs.Layout.{bundle_limit}
 use Rattle.bundle_layout.specs.Rows.{first_entry, repeated, named}
-use Rattle.bundle_writer.specs.declared.rows.WriteVerdict.{WriteVerdict}
-use Rattle.bundle_writer.specs.declared.rows.WriteVerdict.TheVariants.{Fine, W1, W2, W3, W4, W5, W6, W7, W8}
+use Rattle.bundle_writer.specs.declared.WriteRefusal.{WriteRefusal}
+use Rattle.bundle_writer.specs.declared.rows.WriteRow.{WriteRow}
+use Rattle.bundle_writer.specs.declared.rows.WriteRow.TheVariants.{W1, W2, W3, W4, W5, W6, W7, W8}
 use Rattle.bundle_given.specs.declared.EntryRule.{EntryRule}
 use Rattle.bundle_given.specs.declared.EntryRule.TheVariants.{Offer, Lent, Crc, Bears}
 use Rattle.bundle_given.specs.Given.{entries_of}
@@ -17,9 +18,8 @@ pub data Row : Type 0 where
   served : Row
   row_w : (number entry : ℕ) → Row
 
--- the number of each verdict's row, and 0 where none refuses
-abbrev pub number_of : WriteVerdict → ℕ
-number_of Fine = 0
+-- the number of each row
+abbrev pub number_of : WriteRow → ℕ
 number_of W1 = 1
 number_of W2 = 2
 number_of W3 = 3
@@ -29,16 +29,9 @@ number_of W6 = 6
 number_of W7 = 7
 number_of W8 = 8
 
--- a row refuses
-abbrev pub is_refused : WriteVerdict → Bool
-is_refused v = not (eqb (number_of v) 0)
-
--- the row of a number, with its entry
-abbrev pub row_at : (number entry : ℕ) → Row
-row_at number entry = cond (eqb number 0) served (row_w number entry)
-
-abbrev pub row_of : WriteVerdict → ℕ → Row
-row_of v entry = row_at (number_of v) entry
+-- the row of a refusal
+abbrev pub row_of : WriteRefusal → Row
+row_of r = row_w (number_of r.row) r.place
 
 -- the first entry that breaks a rule, or 0
 unfoldable pub first_breaking : EntryRule → (list images : List ℕ) → ℕ

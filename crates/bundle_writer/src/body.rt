@@ -19,7 +19,7 @@ fn crc_place(m: &[u8]) -> usize
     m.len() - least(CRC_SIZE, m.len())
 }
 
-// How long the body of an image is.
+// How long the body of an image is. This and put_body stay loops with a match: each piece says where the next begins, and the last piece what is answered.
 pub(crate) fn body_length(m: &[u8]) -> usize
     requires { length m.now ≤ staging_limit }
     ensures { result ≡ length (image_body m.now) }

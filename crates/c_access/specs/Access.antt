@@ -1,12 +1,11 @@
 -- The calls from C for one part of lent bytes: what each answers, and what it leaves in the list. Places count from 0. The row of a place that is not there, C4,
 -- comes after those of the bytes themselves.
-use Rattle.std.specs.Prelude.{ℕ, ◌-◌, cond, List, ltb}
+use Rattle.std.specs.Prelude.{ℕ, ◌-◌, cond, List, ltb, Option, Some, None}
 use Rattle.wire.specs.Codes.{component_limit}
+use Rattle.wire.specs.declared.version.Version.{Version}
 use Rattle.bundle_layout.specs.Rows as bundle
 use Rattle.device_component.specs.declared.record.Component.{Component}
 use Rattle.device_component.specs.declared.record.Listed.{Listed}
-use Rattle.device_component.specs.declared.record.Staged.{Staged}
-use Rattle.device_component.specs.declared.record.Staged.TheVariants.{Nothing, Pending}
 use Rattle.device.specs.Refusals.{row_d, breaks_d1}
 use Rattle.device_bytes.specs.Layout.{device_size, list_size, component_of, read_device, with_listed_bytes}
 use Rattle.host_record.specs.declared.fits.Body.{Body}
@@ -38,13 +37,13 @@ list_call list place c =
 abbrev pub no_version : CVersion
 no_version = record { major = 0; minor = 0; variant = 0 }
 
-abbrev pub pending_of : Staged → ℕ
-pending_of Nothing = 0
-pending_of (Pending v) = 1
+abbrev pub pending_of : Option Version → ℕ
+pending_of None = 0
+pending_of (Some v) = 1
 
-abbrev pub staged_of : Staged → CVersion
-staged_of Nothing = no_version
-staged_of (Pending v) = parts_of v
+abbrev pub staged_of : Option Version → CVersion
+staged_of None = no_version
+staged_of (Some v) = parts_of v
 
 abbrev pub component_told : Component → CComponent
 component_told c = record {

@@ -3,21 +3,21 @@
 
 ghost use Rattle.std.specs.Prelude.{◌≡◌, ◌-◌, ◌^◌, ◌<◌, ◌≤◌};
 ghost use Rattle.c_types.specs.Lent.{leaves};
-ghost use Rattle.c_access.specs.Access.{listed_of, pending_of, staged_of, component_told, no_component, no_entry, body_told, list_call, component_call, entry_call};
+ghost use Rattle.c_access.specs.Access.{listed_of, pending_of, staged_of, component_told, no_version, no_component, no_entry, body_told, list_call, component_call, entry_call};
 
 use c_device::device_number;
 use c_types::numbers::{ROW_B, SERVED, WRONG_LIST, WRONG_PLACE, WRONG_RECORD};
 use c_types::types::{CComponent, CEntry, CListed, CVersion};
-use c_types::version::{parts, version_in};
 use device::answer::Refusal;
 use device_bytes::component::component_of;
 use device_bytes::list::store_listed;
 use device_bytes::{DEVICE_SIZE, LIST_SIZE, read_device};
-use device_component::record::{Component, Fixed, Listed, Staged};
+use device_component::record::{Component, Fixed, Listed};
 use host_bytes::{are_contents, count_in, entry_in, read_body, row_in};
 use host_record::fits::Body;
 use image::region::{Region, StagingOffset};
 use wire::codes::COMPONENT_LIMIT;
+use wire::version::Version;
 
 // A component of the list by its numbers.
 fn listed(c: CListed) -> Listed
@@ -33,9 +33,9 @@ fn listed(c: CListed) -> Listed
         fixed: Fixed {
             id: c.id,
             region,
-            floor: version_in(floor),
+            floor: Version::from(floor),
         },
-        running: version_in(running),
+        running: Version::from(running),
     }
 }
 
@@ -53,15 +53,22 @@ pub fn cfu_list_put(list: &mut [u8], place: u32, component: CListed) -> u32
     SERVED
 }
 
+// Where no version is staged.
+fn no_version() -> CVersion
+    ensures { result ≡ no_version }
+{
+    CVersion {
+        major: 0,
+        minor: 0,
+        variant: 0,
+    }
+}
+
 // A refused call tells of no component.
 fn no_component(number: u32) -> CComponent
     ensures { result ≡ no_component number }
 {
-    let none = CVersion {
-        major: 0,
-        minor: 0,
-        variant: 0,
-    };
+    let none = no_version();
     CComponent {
         number,
         id: 0,
@@ -74,26 +81,16 @@ fn no_component(number: u32) -> CComponent
     }
 }
 
-fn pending(staged: Staged) -> u8
+fn pending(staged: Option<Version>) -> u8
     ensures { result ≡ pending_of staged }
 {
-    match staged {
-        Staged::Nothing => 0,
-        Staged::Pending(_) => 1,
-    }
+    u8::from(staged.is_some())
 }
 
-fn staged_parts(staged: Staged) -> CVersion
+fn staged_parts(staged: Option<Version>) -> CVersion
     ensures { result ≡ staged_of staged }
 {
-    match staged {
-        Staged::Nothing => CVersion {
-            major: 0,
-            minor: 0,
-            variant: 0,
-        },
-        Staged::Pending(v) => parts(v),
-    }
+    staged.map_or(no_version(), |v| CVersion::from(v))
 }
 
 fn told(c: Component) -> CComponent
@@ -107,10 +104,10 @@ fn told(c: Component) -> CComponent
     CComponent {
         number: SERVED,
         id: fixed.id,
-        running: parts(running),
+        running: CVersion::from(running),
         base: region.base.number(),
         length: region.len,
-        floor: parts(floor),
+        floor: CVersion::from(floor),
         pending: pending(staged),
         staged: staged_parts(staged),
     }

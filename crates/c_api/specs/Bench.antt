@@ -1,6 +1,6 @@
 -- The bench device of document 01, and a small bundle, as C sees them: what each call but those that build and read packets answers and leaves. The layouts in
 -- literal bytes are Layouts', the packets Packets'.
-use Rattle.std.specs.Prelude.{ℕ, ◌*◌, ◌-◌, ◌≡◌, true, false, set, take, replicate}
+use Rattle.std.specs.Prelude.{ℕ, ◌*◌, ◌-◌, ◌≡◌, true, false, set, take, replicate, Some}
 use mathlib.Core.List.{List, [], ◌∷◌, ◌++◌, flatten}
 use Rattle.wire.specs.Codes.{component_limit, short_size, long_size}
 use Rattle.wire_offer.specs.Offer.{blank_offer}
@@ -10,7 +10,6 @@ use Rattle.bundle_layout.specs.declared.Entry.{Entry}
 use Rattle.bundle.specs.Contents.{Contents}
 use Rattle.device_session.specs.Effect.{blank_packet, idle, in_stage, owing}
 use Rattle.device_session.specs.declared.effect.Session.{Session}
-use Rattle.device_session.specs.declared.owed.Owed.TheVariants.{Token}
 use Rattle.device_session.specs.declared.stage.Stage.TheVariants.{Idle, Receiving}
 use Rattle.device.specs.Record.{with_session}
 use Rattle.device.specs.Bench as bench
@@ -102,10 +101,10 @@ abbrev pub offered : Session
 offered = in_stage idle bench.for_one blank_packet
 
 abbrev pub offered_owing : Session
-offered_owing = owing offered (Token 0x5A)
+offered_owing = owing offered (Some 0x5A)
 
 abbrev pub receiving_owing : Session
-receiving_owing = owing (in_stage idle (Receiving (record { slot = 0; token = 0xA5; next = 0x1235 })) block) (Token 0x5A)
+receiving_owing = owing (in_stage idle (Receiving (record { slot = 0; token = 0xA5; next = 0x1235 })) block) (Some 0x5A)
 
 -- idle, with other bytes where an idle session and a component with nothing staged have none; and what E2's offer leaves of it: the session is written anew
 abbrev pub strewn_components : List ℕ

@@ -1,6 +1,6 @@
 -- The layouts of include/cfu.h in literal bytes. Every byte of every number and of the previous packet differs from every other, and the flags of two records
 -- differ in each pair of places, so that no other layout that reads back can take their place.
-use Rattle.std.specs.Prelude.{ℕ, ◌*◌, ◌-◌, ◌≡◌, true, false, List, [], ◌∷◌, ◌++◌, map, length, replicate}
+use Rattle.std.specs.Prelude.{ℕ, ◌*◌, ◌-◌, ◌≡◌, true, false, List, [], ◌∷◌, ◌++◌, map, length, replicate, Some, None}
 use Rattle.wire.specs.Codes.{component_limit}
 use Rattle.wire_offer.specs.Offer.{blank_offer}
 use Rattle.bundle_layout.specs.Layout.{offer_limit, blank_entry}
@@ -10,11 +10,9 @@ use Rattle.bundle.specs.Contents.{Contents}
 use Rattle.device_component.specs.Record.{blank_component}
 use Rattle.device_component.specs.declared.record.Component.{Component}
 use Rattle.device_component.specs.declared.record.Fixed.{Fixed}
-use Rattle.device_component.specs.declared.record.Staged.TheVariants.{Pending}
 use Rattle.device_session.specs.Effect.{blank_packet, no_replies}
 use Rattle.device_session.specs.declared.effect.Replies.{Replies}
 use Rattle.device_session.specs.declared.effect.Session.{Session}
-use Rattle.device_session.specs.declared.owed.Owed.TheVariants.{Nothing, Token}
 use Rattle.device_session.specs.declared.stage.Stage.TheVariants.{Offered, Receiving}
 use Rattle.device.specs.Refusals.{sent_with}
 use Rattle.device.specs.declared.record.Device.{Device}
@@ -37,7 +35,7 @@ fixed = record { id = 0x16; region = record { base = record { 0 = 0x09080706 }; 
 
 -- a component that is pending
 abbrev pub pending : Component
-pending = record { fixed = fixed; running = record { 0 = 0x05040302 }; staged = Pending (record { 0 = 0x15141312 }) }
+pending = record { fixed = fixed; running = record { 0 = 0x05040302 }; staged = Some (record { 0 = 0x15141312 }) }
 
 -- the 60 bytes of a packet that a session holds
 abbrev pub packet : List ℕ
@@ -49,10 +47,10 @@ packet =
 
 -- two sessions: offered, owing nothing and holding no packet; receiving, owing a READY and holding one
 abbrev pub offered : Session
-offered = record { stage = Offered (record { slot = 3; token = 4 }); owed = Nothing; previous = blank_packet }
+offered = record { stage = Offered (record { slot = 3; token = 4 }); owed = None; previous = blank_packet }
 
 abbrev pub receiving : Session
-receiving = record { stage = Receiving (record { slot = 3; token = 4; next = 0x0605 }); owed = Token 8; previous = packet }
+receiving = record { stage = Receiving (record { slot = 3; token = 4; next = 0x0605 }); owed = Some 8; previous = packet }
 
 -- a device that lists one such component and receives
 abbrev pub device : Device
@@ -126,10 +124,10 @@ abbrev pub reply : List ℕ
 reply = 1 ∷ 2 ∷ 3 ∷ 4 ∷ 5 ∷ 6 ∷ 7 ∷ 8 ∷ 9 ∷ 10 ∷ 11 ∷ 12 ∷ 13 ∷ 14 ∷ 15 ∷ 16 ∷ []
 
 abbrev pub due_alone : Replies
-due_alone = record { due = true; reply = reply; ready = Nothing }
+due_alone = record { due = true; reply = reply; ready = None }
 
 abbrev pub due_then_ready : Replies
-due_then_ready = record { due = true; reply = reply; ready = Token 0x5A }
+due_then_ready = record { due = true; reply = reply; ready = Some 0x5A }
 
 pub record LayoutsHold : Type 0 where
   -- a component of the device's record, and one of set-up's list

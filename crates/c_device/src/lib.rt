@@ -8,17 +8,18 @@ ghost use Rattle.c_types.specs.Lent.{leaves};
 ghost use Rattle.c_device.specs.Numbers.{device_number};
 ghost use Rattle.c_device.specs.Device.{set_up_call, versions_call, reset_call};
 
-use c_types::lent::{leave, lent_number, store};
-use c_types::numbers::{ROW_D, ROW_S, SERVED, WRONG_LIST, WRONG_RECORD, lettered};
+use c_types::lent::{leave, lent_number};
+use c_types::numbers::{ROW_D, ROW_S, SERVED, WRONG_LIST, WRONG_RECORD};
 use device::answer::Refusal;
 use device::setup::set_up;
 use device_bytes::{DEVICE_SIZE, LIST_SIZE, device_bytes, read_device, read_list};
+use wire::codes::LONG_SIZE;
 
 // The number of a row of the device.
 pub fn device_number(refusal: Refusal) -> u32
     ensures { result ≡ device_number (row_of refusal) }
 {
-    lettered(ROW_D, refusal.number())
+    ROW_D as u32 + refusal.number() as u32
 }
 
 // Set-up over a list of components as bytes.
@@ -39,11 +40,13 @@ pub fn cfu_device_set_up(
     if number != SERVED {
         return number;
     }
-    let listed = read_list(list);
-    let a = set_up(platform, listed, count, staging);
-    let verdict = a.verdict;
-    let b = device_bytes(a.device);
-    store(device, lettered(ROW_S, verdict.number()), &b)
+    match set_up(platform, read_list(list), count, staging) {
+        Ok(made) => {
+            device.copy_from_slice(&device_bytes(made));
+            SERVED
+        }
+        Err(row) => ROW_S as u32 + row.number() as u32,
+    }
 }
 
 pub fn cfu_device_version_reply(device: &[u8], packet: &mut [u8]) -> u32
@@ -52,11 +55,10 @@ pub fn cfu_device_version_reply(device: &[u8], packet: &mut [u8]) -> u32
     if device.len() != DEVICE_SIZE {
         return WRONG_RECORD;
     }
-    let d = read_device(device);
-    let a = d.version_reply();
-    let refusal = a.refusal;
-    let p = a.packet;
-    leave(packet, device_number(refusal), &p)
+    match read_device(device).version_reply() {
+        Ok(reply) => leave(packet, SERVED, &reply),
+        Err(refusal) => leave(packet, device_number(refusal), &[0u8; LONG_SIZE]),
+    }
 }
 
 pub fn cfu_device_reset(device: &mut [u8]) -> u32
@@ -65,9 +67,11 @@ pub fn cfu_device_reset(device: &mut [u8]) -> u32
     if device.len() != DEVICE_SIZE {
         return WRONG_RECORD;
     }
-    let d = read_device(device);
-    let a = d.reset();
-    let refusal = a.refusal;
-    let after = device_bytes(a.device);
-    store(device, device_number(refusal), &after)
+    match read_device(device).reset() {
+        Ok(next) => {
+            device.copy_from_slice(&device_bytes(next));
+            SERVED
+        }
+        Err(refusal) => device_number(refusal),
+    }
 }

@@ -1,5 +1,5 @@
 -- The replies of an answer, one after the other, and what a call leaves. Assumes nothing.
-use mathlib.Core.Path.{◌≡◌, refl, sym, ap, ◌∙◌}
+use mathlib.Core.Path.{◌≡◌, refl, sym, ap, ap₂, ◌∙◌}
 use mathlib.Core.Bool.{true}
 use mathlib.Core.List.{List, [], ◌∷◌, ◌++◌, flatten, append-nil}
 use Prim.Native.Nat.{ℕ, ◌-◌}
@@ -15,12 +15,14 @@ use Rattle.device.specs.Offer.{offer_entry}
 use Rattle.device.specs.Content.{content_entry, content_staging}
 use Rattle.device.specs.declared.record.Device.{Device}
 use Rattle.device_bytes.specs.Layout.{device_size, read_device}
-use Rattle.device_in_place.specs.declared.Reply.{Reply}
+use Rattle.device.specs.declared.answer.Refusal.{Refusal}
+use Rattle.device_session.specs.declared.effect.Replies.{Replies}
+use Rattle.std.specs.Prelude.{Result, Ok, Err}
 use Rattle.device_in_place.specs.InPlace.{outcome_of, offer_leaves, content_leaves}
 use Rattle.c_types.specs.declared.types.CReplies.{CReplies}
 use Rattle.c_types.specs.Numbers.{served_number, wrong_record, wrong_output, sized, lent_number, filled_to}
 use Rattle.c_types.proofs.lent.Laws.{lent_refused, lent_served}
-use Rattle.c_device_packet.specs.Packet.{replies_size, Replied, answered_by, replies_left, told_replies, refused_replies, replied_by, offer_call, content_call, content_call_staging}
+use Rattle.c_device_packet.specs.Packet.{replies_size, Replied, answered_by, answer_left, told_replies, refused_replies, replied_by, offer_call, content_call, content_call_staging}
 
 -- no reply: zeros
 pub none_sent : replicate 16 0 ++ replicate 16 0 ≡ filled_to replies_size (flatten [])
@@ -52,9 +54,13 @@ joined_as out first second last last2 k k2 e e2 whole h h2 f f2 =
     sym (take_all 32 (take 16 mid ++ (last2 ++ drop k2 (drop 16 mid))) (omega arith)) ∙ b.1 ∙ ap (λ (t : List ℕ). t ++ second) a.1
 
 -- an answer tells its outcome
-pub answers : (r : CReplies) (a : Reply) (d : Device) (left replies : List ℕ) {x : Outcome} → outcome_of a d ≡ x → r ≡ answered_by a → replies ≡ replies_left a.replies
+answers_by : (a : Result Replies Refusal) (d : Device) (left : List ℕ) → told_replies (answered_by a) left (answer_left a) ≡ replied_by left (outcome_of a d)
+answers_by (Ok replies) d left = refl
+answers_by (Err refusal) d left = refl
+
+pub answers : (r : CReplies) (a : Result Replies Refusal) (d : Device) (left replies : List ℕ) {x : Outcome} → outcome_of a d ≡ x → r ≡ answered_by a → replies ≡ answer_left a
     → told_replies r left replies ≡ replied_by left x
-answers r a d left replies e f g = (rw (f, g)) ∙ ap (replied_by left) e
+answers r a d left replies e f g = ap₂ (λ (x : CReplies) (y : List ℕ). told_replies x left y) f g ∙ answers_by a d left ∙ ap (replied_by left) e
 
 -- a call over a record and a buffer for replies
 module _ (device replies : List ℕ) (n : ℕ) (e : n ≡ lent_number (eqb (length device) device_size) (eqb (length replies) replies_size) wrong_output) where
@@ -80,15 +86,15 @@ module _ (device replies : List ℕ) (n : ℕ) (e : n ≡ lent_number (eqb (leng
   pub replies_fit : n ≡ served_number → length replies ≡ replies_size
   replies_fit h = eqb-true (length replies) replies_size (fit h).1
 
-  pub offer_served : (m : ℕ) (report : List ℕ) (r : CReplies) (a : Reply) (left out : List ℕ) → n ≡ served_number
+  pub offer_served : (m : ℕ) (report : List ℕ) (r : CReplies) (a : Result Replies Refusal) (left out : List ℕ) → n ≡ served_number
       → outcome_of a (offer_entry (read_device device) m report).device ≡ offer_entry (read_device device) m report → left ≡ offer_leaves device (offer_entry (read_device device) m report)
-      → r ≡ answered_by a → out ≡ replies_left a.replies → told_replies r left out ≡ offer_call device m report replies
+      → r ≡ answered_by a → out ≡ answer_left a → told_replies r left out ≡ offer_call device m report replies
   unfolding offer_call
   offer_served m report r a left out h f g i j = rw ((fit h).0, (fit h).1, g) (answers r a _ _ out f i j)
 
-  pub content_served : (staging report : List ℕ) (r : CReplies) (a : Reply) (left out : List ℕ) → n ≡ served_number
+  pub content_served : (staging report : List ℕ) (r : CReplies) (a : Result Replies Refusal) (left out : List ℕ) → n ≡ served_number
       → outcome_of a (content_entry (read_device device) staging report).device ≡ content_entry (read_device device) staging report
-      → left ≡ content_leaves device (content_entry (read_device device) staging report) → r ≡ answered_by a → out ≡ replies_left a.replies
+      → left ≡ content_leaves device (content_entry (read_device device) staging report) → r ≡ answered_by a → out ≡ answer_left a
       → told_replies r left out ≡ content_call device staging report replies
   unfolding content_call
   content_served staging report r a left out h f g i j = rw ((fit h).0, (fit h).1, g) (answers r a _ _ out f i j)

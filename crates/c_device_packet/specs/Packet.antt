@@ -1,16 +1,17 @@
 -- The device's calls from C for packets: what each answers and leaves in each lent buffer. A refused call leaves the record as it is.
-use Rattle.std.specs.Prelude.{ℕ, ◌*◌, length}
+use Rattle.std.specs.Prelude.{ℕ, ◌*◌, length, Result, Ok, Err}
 use mathlib.Core.List.{List, flatten}
 use Rattle.wire.specs.Codes.{short_size}
+use Rattle.device_session.specs.Effect.{no_replies}
 use Rattle.device_session.specs.declared.effect.Replies.{Replies}
 use Rattle.device.specs.Refusals.{row_of, sent_with, Outcome}
 use Rattle.device.specs.Offer.{offer_entry}
 use Rattle.device.specs.Content.{content_entry, content_staging}
 use Rattle.device_bytes.specs.Layout.{device_size, read_device}
-use Rattle.device_in_place.specs.declared.Reply.{Reply}
+use Rattle.device.specs.declared.answer.Refusal.{Refusal}
 use Rattle.device_in_place.specs.InPlace.{offer_leaves, content_leaves}
 use Rattle.c_types.specs.declared.types.CReplies.{CReplies}
-use Rattle.c_types.specs.Numbers.{wrong_record, wrong_output, sized, filled_to}
+use Rattle.c_types.specs.Numbers.{served_number, wrong_record, wrong_output, sized, filled_to}
 use Rattle.c_device.specs.Numbers.{device_number}
 
 -- the size of a buffer for replies: two at the most
@@ -31,11 +32,16 @@ abbrev pub refused_replies : (number : ℕ) → (device replies : List ℕ) → 
 refused_replies number device replies = record { number = number; count = 0; device = device; replies = replies }
 
 -- what an answer tells, and the replies that it leaves: one after the other, zeros behind them
-abbrev pub answered_by : Reply → CReplies
-answered_by a = record { number = device_number (row_of a.refusal); count = length (sent_with a.replies) }
+abbrev pub answered_by : Result Replies Refusal → CReplies
+answered_by (Ok replies) = record { number = served_number; count = length (sent_with replies) }
+answered_by (Err refusal) = record { number = device_number (row_of refusal); count = 0 }
 
 abbrev pub replies_left : Replies → List ℕ
 replies_left replies = filled_to replies_size (flatten (sent_with replies))
+
+abbrev pub answer_left : Result Replies Refusal → List ℕ
+answer_left (Ok replies) = replies_left replies
+answer_left (Err refusal) = replies_left no_replies
 
 abbrev pub replied_by : (left : List ℕ) → Outcome → Replied
 replied_by left o = record {

@@ -3,19 +3,17 @@
 
 ghost use Rattle.std.specs.Prelude.{◌≡◌, ◌++◌, length};
 ghost use Rattle.device.specs.Refusals.{sent_with};
-ghost use Rattle.c_device_packet.specs.Packet.{replies_size, answered_by, replies_left, told_replies, offer_call, content_call, content_call_staging};
+ghost use Rattle.c_device_packet.specs.Packet.{replies_size, answered_by, answer_left, replies_left, told_replies, offer_call, content_call, content_call_staging};
 
 use c_device::device_number;
 use c_types::lent::lent_number;
 use c_types::numbers::{SERVED, WRONG_OUTPUT};
 use c_types::types::CReplies;
-use device::answer::ready_reply;
+use device::answer::{Refusal, ready_reply};
 use device_bytes::DEVICE_SIZE;
-use device_in_place::Reply;
 use device_in_place::content::content_in_place;
 use device_in_place::offer::offer_in_place;
 use device_session::effect::Replies;
-use device_session::owed::Owed;
 use wire::codes::SHORT_SIZE;
 use wire::words;
 
@@ -40,14 +38,14 @@ fn replies_of(replies: Replies) -> [u8; REPLIES_SIZE]
     let reply = replies.reply;
     let ready = replies.ready;
     match ready {
-        Owed::Nothing => {
+        None => {
             if replies.due {
                 joined(reply, none)
             } else {
                 joined(none, none)
             }
         }
-        Owed::Token(token) => {
+        Some(token) => {
             let b = ready_reply(token);
             if replies.due {
                 joined(reply, b)
@@ -64,22 +62,31 @@ fn count_of(replies: Replies) -> u32
 {
     let ready = replies.ready;
     match ready {
-        Owed::Nothing => { if replies.due { 1 } else { 0 } }
-        Owed::Token(_) => { if replies.due { 2 } else { 1 } }
+        None => { if replies.due { 1 } else { 0 } }
+        Some(_) => { if replies.due { 2 } else { 1 } }
     }
 }
 
 // What an answer leaves; the record is left already.
-fn answered(a: Reply, replies: &mut [u8]) -> CReplies
+fn answered(a: Result<Replies, Refusal>, replies: &mut [u8]) -> CReplies
     requires { length replies.old ≡ replies_size }
-    ensures { (result ≡ answered_by a) × (replies.new ≡ replies_left a.replies) }
+    ensures { (result ≡ answered_by a) × (replies.new ≡ answer_left a) }
 {
-    let refusal = a.refusal;
-    let out = replies_of(a.replies);
-    words::copy(replies, &out);
-    CReplies {
-        number: device_number(refusal),
-        count: count_of(a.replies),
+    match a {
+        Ok(sent) => {
+            replies.copy_from_slice(&replies_of(sent));
+            CReplies {
+                number: SERVED,
+                count: count_of(sent),
+            }
+        }
+        Err(refusal) => {
+            replies.fill(0);
+            CReplies {
+                number: device_number(refusal),
+                count: 0,
+            }
+        }
     }
 }
 
@@ -100,8 +107,7 @@ pub fn cfu_device_offer(
     if number != SERVED {
         return CReplies { number, count: 0 };
     }
-    let a = offer_in_place(device, staging, report);
-    answered(a, replies)
+    answered(offer_in_place(device, staging, report), replies)
 }
 
 pub fn cfu_device_content(
@@ -121,6 +127,5 @@ pub fn cfu_device_content(
     if number != SERVED {
         return CReplies { number, count: 0 };
     }
-    let a = content_in_place(device, staging, report);
-    answered(a, replies)
+    answered(content_in_place(device, staging, report), replies)
 }

@@ -21,7 +21,6 @@ use c_types::types::{CCheck, CReport};
 use host_bytes::{CONTENTS_SIZE, HOST_SIZE, contents_bytes, host_bytes, read_host};
 use host_packet::answer::StepRefusal;
 use host_record::record::{End, Host, PACKET_LIMIT};
-use host_record::report::Progress;
 use wire::words;
 
 // The check of a bundle; its contents are left for cfu_host_step_checked.
@@ -35,14 +34,20 @@ pub fn cfu_bundle_check(bundle: &[u8], contents: &mut [u8]) -> CCheck
             count: 0,
         };
     }
-    let c = check(bundle);
-    let b = contents_bytes(c);
+    let told = check(bundle);
+    let b = contents_bytes(told);
     words::copy(contents, &b);
-    let verdict = c.verdict;
-    CCheck {
-        number: lettered(ROW_B, verdict.number()),
-        entry: c.place as u32,
-        count: c.count as u32,
+    match told {
+        Ok(c) => CCheck {
+            number: SERVED,
+            entry: 0,
+            count: c.count as u32,
+        },
+        Err(r) => CCheck {
+            number: lettered(ROW_B, r.row.number()),
+            entry: r.place as u32,
+            count: 0,
+        },
     }
 }
 
@@ -80,21 +85,21 @@ fn end_number(end: End) -> u32
     }
 }
 
-fn ending_number(progress: Progress) -> u32
+fn ending_number(progress: Option<End>) -> u32
     ensures { result ≡ ending_number (told_progress progress) }
 {
     match progress {
-        Progress::Running => RUNNING,
-        Progress::Ended(end) => end_number(end),
+        None => RUNNING,
+        Some(end) => end_number(end),
     }
 }
 
-fn ending_status(progress: Progress) -> u32
+fn ending_status(progress: Option<End>) -> u32
     ensures { result ≡ status_of (told_progress progress) }
 {
     match progress {
-        Progress::Running => 0,
-        Progress::Ended(end) => end.status() as u32,
+        None => 0,
+        Some(end) => end.status() as u32,
     }
 }
 

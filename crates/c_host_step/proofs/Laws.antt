@@ -2,34 +2,36 @@
 use mathlib.Core.Path.{◌≡◌, refl, sym, ap, ◌∙◌}
 use mathlib.Core.Bool.{Bool, true, false, cond, ◌&&◌}
 use mathlib.Core.List.{List, [], ◌∷◌, flatten, append-nil}
+use Rattle.std.specs.Prelude.{Option, Some, None, Result, Ok, Err}
 use Prim.Native.Nat.{ℕ, ◌≤◌}
 use native.Mathlib.Omega.{arith}
 use borrow.Author.Tests.{eq-eqb, ne_eqb, eqb-true, leb-true}
 use lib.Dec.{eqb}
-use lib.ListN.{length, get_or, take}
+use lib.ListN.{length, get_or, take, replicate}
 use lib.Seq.{length-take-le}
 use Rattle.wire.specs.Bytes.{copy_of}
 use Rattle.wire.proofs.Tests.{both}
 use Rattle.wire.proofs.words.Copies.{copy_same}
 use Rattle.wire.specs.Codes.{short_size, long_size}
 use Rattle.bundle_layout.specs.Rows as bundle
-use Rattle.bundle_layout.specs.declared.BundleVerdict.{BundleVerdict}
+use Rattle.bundle_layout.specs.declared.BundleRefusal.{BundleRefusal}
+use Rattle.bundle_layout.specs.declared.BundleRow.{BundleRow}
 use Rattle.bundle_layout.proofs.Numbers.{row_verdict}
 use Rattle.host_record.specs.declared.record.Host.{Host}
 use Rattle.host_record.specs.declared.fits.Body.{Body}
 use Rattle.host_record.specs.Fits.{body_of, in_hand}
-use Rattle.host_packet.specs.Answer.{row_of, size_of, sent_by, told}
+use Rattle.host_packet.specs.Answer.{served, row_of, size_of, sent_by, told}
 use Rattle.host_packet.specs.Made.{InnerStep, told_inner}
 use Rattle.host_packet.specs.declared.answer.Sent.{Sent}
 use Rattle.host_packet.specs.declared.answer.Sent.TheVariants as sent
 use Rattle.host_packet.specs.declared.answer.StepAnswer.{StepAnswer}
 use Rattle.host_packet.specs.declared.answer.Stepped.{Stepped}
 use Rattle.host_packet.specs.declared.answer.StepRefusal.{StepRefusal}
-use Rattle.host_packet.specs.declared.answer.StepRefusal.TheVariants.{Served, Bundle, N1}
+use Rattle.host_packet.specs.declared.answer.StepRefusal.TheVariants.{Bundle, N1}
 use Rattle.host_packet.specs.Packet.{packet_size}
 use Rattle.host.specs.Step.{step_of}
-use Rattle.host.specs.Inner.{inner_of, lent, cursor_at}
-use Rattle.host_bytes.specs.Layout.{host_size, row_offset, entry_offset, count_at, contents_size, host_bytes, read_host, row_in, contents_in, body_read, cursor_in, are_contents, is_row, is_kept, cursor_for, kept_in, kept_by, contents_after}
+use Rattle.host.specs.Inner.{inner_of, row_given, count_given, lent, cursor_at}
+use Rattle.host_bytes.specs.Layout.{host_size, row_offset, entry_offset, count_at, contents_size, host_bytes, read_host, row_in, contents_in, checked_by, checked_in, body_read, cursor_in, are_contents, is_row, is_kept, cursor_for, kept_in, kept_by, contents_after}
 use Rattle.host_bytes.proofs.Contents.{body_read_lem}
 use Rattle.c_types.specs.declared.types.CStep.{CStep}
 use Rattle.c_types.specs.Numbers.{served_number, wrong_record, wrong_output, sized, lent_number}
@@ -62,53 +64,55 @@ length_sent sent.Nothing p h = sent_none
 length_sent sent.Offer p h = sent_short p h
 length_sent sent.Content p h = sent_long p h
 
--- what is kept of a record, by the number
-kept_step : (r : StepRefusal) (before after : List ℕ) (n : ℕ) → n ≡ step_number (row_of r) → cond (eqb n 0) after before ≡ kept_by (row_of r) before after
-kept_step Served before after n e = rw e
-kept_step (Bundle v place) before after n e = rw (ne_eqb n 0 (λ z. omega (arith, e, z)))
-kept_step N1 before after n e = rw e
+-- what a served step leaves: the answer, the record and the packet
+served_left : (host packet : List ℕ) (sent : Sent) (next : Host) → length packet ≡ long_size
+    → told_step (answered_by (Ok sent)) (host_bytes next) packet ≡ step_by host (record { row = served; sent = sent_by sent packet; packet = packet; host = next })
+served_left host packet sent next whole = rw (length_sent sent packet whole)
 
--- the record that a step leaves: stored where it is served
-pub stored_step : {l : Left} (r : StepRefusal) (lent b : List ℕ) (h : Host) (n : ℕ) → l ≡ leaves n (cond (eqb n 0) (copy_of lent b) lent) → length lent ≡ length b
-    → n ≡ step_number (row_of r) → b ≡ host_bytes h → l ≡ leaves (step_number (row_of r)) (kept_by (row_of r) lent (host_bytes h))
-stored_step r lent b h n e k f g =
-    stored lent b n e k ∙ ap (λ (t : List ℕ). leaves n (cond (eqb n 0) t lent)) g ∙ ap (leaves n) (kept_step r lent (host_bytes h) n f)
-    ∙ ap (λ (m : ℕ). leaves m (kept_by (row_of r) lent (host_bytes h))) f
+-- what a refused step leaves
+refused_left : (host packet : List ℕ) (h : Host) (r : StepRefusal)
+    → told_step (answered_by (Err r)) host packet ≡ step_by host (record { row = row_of r; sent = []; packet = packet; host = h })
+unfolding flatten
+refused_left host packet h (Bundle x) = refl
+refused_left host packet h N1 = refl
 
--- what a step leaves: the answer, the record and the packet
-pub step_left : (refusal : StepRefusal) (sent : Sent) (next : Host) (a : CStep) (host left packet : List ℕ) → length packet ≡ 60 → a ≡ answered_by refusal sent
-    → left ≡ kept_by (row_of refusal) host (host_bytes next)
-    → told_step a left packet ≡ step_by host (record { row = row_of refusal; sent = sent_by sent packet; packet = packet; host = next })
-step_left refusal sent next a host left packet whole e f = rw (e, f, length_sent sent packet whole)
+-- bytes stay where a row refuses
+kept_refused : (r : StepRefusal) (before after : List ℕ) → before ≡ kept_by (row_of r) before after
+kept_refused (Bundle x) before after = refl
+kept_refused N1 before after = refl
 
 -- the inner step over contents that a check may have left, by the verdict of their row
 module _ (host q b reply : List ℕ) (fits : are_contents q ≡ true) where
   full : length q ≡ contents_size
   full = eqb-true (length q) contents_size (both (eqb (length q) contents_size) _ fits).0
 
+  -- over the row and the count that are kept
+  given : (o : Option BundleRow) (row : bundle.Row) (entry count : ℕ) (hand : Body) (cursor : ℕ) (h : Host) → bundle.row_of o entry ≡ row
+      → let c = checked_by o entry count in inner_of b (row_given c) (count_given c) hand cursor h reply ≡ inner_of b row count hand cursor h reply
+  unfolding inner_of
+  given None row entry count hand cursor h e = ap (λ (x : bundle.Row). inner_of b x count hand cursor h reply) e
+  given (Some r) row entry count hand cursor h e = ap (λ (x : bundle.Row). inner_of b x count hand cursor h reply) e
+
   row_told : bundle.row_of (bundle.verdict_of (get_or q row_offset 0)) (get_or q entry_offset 0) ≡ row_in q
   row_told =
       row_verdict (get_or q row_offset 0) (get_or q entry_offset 0) (leb-true (get_or q row_offset 0) 8 (both (is_row (get_or q row_offset 0)) _ (both (eqb (length q) contents_size) _ fits).1).0)
 
   -- what the inner step told, with what it was given
-  pub inner_told : (h : Host) (hand : Body) (cursor row place count : ℕ) (v : BundleVerdict) (packet : List ℕ) (told : InnerStep) → length packet ≡ packet_size → h ≡ read_host host
-      → hand ≡ body_read q (in_hand h.stage) → cursor ≡ cond (is_kept q h.stage) (cursor_in q) (cursor_at b hand h.stage) → v ≡ bundle.verdict_of row → row ≡ get_or q row_offset 0
-      → place ≡ get_or q entry_offset 0 → count ≡ get_or q count_at 0 → told ≡ lent packet h cursor (inner_of b (bundle.row_of v place) count hand cursor h reply) → told ≡ inner_over host q b reply
+  pub inner_told : (h : Host) (hand : Body) (cursor : ℕ) (c : Result ℕ BundleRefusal) (packet out : List ℕ) (r : Result Stepped StepRefusal) → length packet ≡ packet_size → h ≡ read_host host
+      → hand ≡ body_read q (in_hand h.stage) → cursor ≡ cond (is_kept q h.stage) (cursor_in q) (cursor_at b hand h.stage) → c ≡ checked_in q
+      → told_inner h cursor r out ≡ lent packet h cursor (inner_of b (row_given c) (count_given c) hand cursor h reply)
+      → told_inner (read_host host) (cursor_for b q (read_host host).stage) r out ≡ inner_over host q b reply
   unfolding contents_in
-  inner_told h hand cursor row place count v packet told whole e f g i j k l m =
+  inner_told h hand cursor c packet out r whole e f g i m =
       let x : cursor ≡ cursor_for b q h.stage = g ∙ ap (λ (y : Body). cond (is_kept q h.stage) (cursor_in q) (cursor_at b y h.stage)) f in
       let u : hand ≡ body_of (contents_in q) (in_hand h.stage) = f ∙ body_read_lem q (in_hand h.stage) full in
-      let r : bundle.row_of v place ≡ row_in q = (rw (i, j, k)) ∙ row_told in
-      let w : lent packet h cursor (inner_of b (bundle.row_of v place) count hand cursor h reply) ≡ inner_of b (bundle.row_of v place) count hand cursor h reply =
+      let w : lent packet h cursor (inner_of b (row_given c) (count_given c) hand cursor h reply) ≡ inner_of b (row_given c) (count_given c) hand cursor h reply =
       rw (eq-eqb (length packet) packet_size whole) in
-      let z : inner_of b (bundle.row_of v place) count hand cursor h reply ≡ inner_over host q b reply = rw (r, l, u, x, e) in m ∙ w ∙ z
-
--- what is kept of bytes, by the number that is told
-pub kept_served : (r : StepRefusal) (a : CStep) (sent : Sent) (before after : List ℕ) → a ≡ answered_by r sent → a.number ≡ served_number → after ≡ kept_by (row_of r) before after
-kept_served r a sent before after e h = (rw (eq-eqb a.number 0 h)) ∙ kept_step r before after a.number (ap (λ (x : CStep). x.number) e)
-
-pub kept_refused : (r : StepRefusal) (a : CStep) (sent : Sent) (before after : List ℕ) → a ≡ answered_by r sent → (a.number ≡ served_number → ⊥) → before ≡ kept_by (row_of r) before after
-kept_refused r a sent before after e h = (rw (ne_eqb a.number 0 h)) ∙ kept_step r before after a.number (ap (λ (x : CStep). x.number) e)
+      let y : inner_of b (row_given c) (count_given c) hand cursor h reply ≡ inner_of b (row_in q) (get_or q count_at 0) hand cursor h reply =
+      ap (λ (k : Result ℕ BundleRefusal). inner_of b (row_given k) (count_given k) hand cursor h reply) i
+      ∙ given (bundle.verdict_of (get_or q row_offset 0)) (row_in q) (get_or q entry_offset 0) (get_or q count_at 0) hand cursor h row_told in
+      let z : inner_of b (row_in q) (get_or q count_at 0) hand cursor h reply ≡ inner_over host q b reply = rw (u, x, e) in
+      sym (ap (λ (y : ℕ). told_inner h y r out) x ∙ ap (λ (g : Host). told_inner g (cursor_for b q g.stage) r out) e) ∙ m ∙ w ∙ y ∙ z
 
 -- the step over a record and a buffer for the packet
 module _ (host packet bundle reply : List ℕ) (n : ℕ) (e : n ≡ lent_number (eqb (length host) host_size) (eqb (length packet) long_size) wrong_output) where
@@ -126,12 +130,21 @@ module _ (host packet bundle reply : List ℕ) (n : ℕ) (e : n ≡ lent_number 
   pub host_fits : n ≡ served_number → length host ≡ host_size
   host_fits h = eqb-true (length host) host_size (fit h).0
 
-  pub step_served : (h : Host) (s : StepAnswer) (a : CStep) (left out : List ℕ) → n ≡ served_number → h ≡ read_host host → told s ≡ step_of bundle h reply → length s.packet ≡ long_size
-      → out ≡ copy_of packet s.packet → a ≡ answered_by s.refusal s.sent → left ≡ kept_by (row_of s.refusal) host (host_bytes s.host) → told_step a left out ≡ step_call host bundle reply packet
+  -- it is served
+  pub step_served : (h : Host) (a : StepAnswer) (y : CStep) (left out : List ℕ) → n ≡ served_number → h ≡ read_host host → told h (Ok a) ≡ step_of bundle h reply → length a.packet ≡ long_size
+      → out ≡ copy_of packet a.packet → y ≡ answered_by (Ok a.sent) → left ≡ host_bytes a.host → told_step y left out ≡ step_call host bundle reply packet
   unfolding step_call
-  step_served h s a left out t f g whole i j k =
-      let d : out ≡ s.packet = i ∙ copy_same packet s.packet (eqb-true (length packet) long_size (fit t).1 ∙ sym whole) in
-      rw ((fit t).0, (fit t).1, ← f, ← g) (ap (told_step a left) d ∙ step_left s.refusal s.sent s.host a host left s.packet whole j k)
+  step_served h a y left out t f g whole i j k =
+      let d : out ≡ a.packet = i ∙ copy_same packet a.packet (eqb-true (length packet) long_size (fit t).1 ∙ sym whole) in
+      rw ((fit t).0, (fit t).1, ← f, ← g) (rw (d, j, k) (served_left host a.packet a.sent a.host whole))
+
+  -- or a row of the step refuses it
+  pub step_row : (h : Host) (r : StepRefusal) (y : CStep) (out : List ℕ) → n ≡ served_number → h ≡ read_host host → told h (Err r) ≡ step_of bundle h reply
+      → out ≡ replicate (length packet) 0 → y ≡ answered_by (Err r) → told_step y host out ≡ step_call host bundle reply packet
+  unfolding step_call
+  step_row h r y out t f g i j =
+      let d : out ≡ replicate packet_size 0 = i ∙ ap (λ (m : ℕ). replicate m 0) (eqb-true (length packet) long_size (fit t).1) in
+      rw ((fit t).0, (fit t).1, ← f, ← g) (rw (d, j) (refused_left host (replicate packet_size 0) h r))
 
 -- two tests that one answer stands for
 both_hold : {A : Type 0} (a b : Bool) (x y : A) → cond (a && b) x y ≡ cond a (cond b x y) y
@@ -168,15 +181,25 @@ module _ (host contents packet bundle reply : List ℕ) (test : Bool) (n : ℕ) 
   pub checked_fit : n ≡ served_number → (length host ≡ host_size) × (are_contents contents ≡ true) × (length packet ≡ long_size)
   checked_fit h = let t = all_fit h in (eqb-true (length host) host_size t.0, t.1, eqb-true (length packet) long_size t.2)
 
-  pub checked_served : (s : Stepped) (a : CStep) (left after out : List ℕ) → n ≡ served_number → told_inner s out ≡ inner_over host contents bundle reply → length out ≡ long_size
-      → a ≡ answered_by s.refusal s.sent → left ≡ kept_by (row_of s.refusal) host (host_bytes s.host)
-      → after ≡ kept_by (row_of s.refusal) contents (kept_in contents s.host.stage s.cursor)
+  -- the step is served
+  pub checked_served : (s : Stepped) (a : CStep) (left after out : List ℕ) → n ≡ served_number → told_inner (read_host host) 0 (Ok s) out ≡ inner_over host contents bundle reply
+      → length out ≡ long_size → a ≡ answered_by (Ok s.sent) → left ≡ host_bytes s.host → after ≡ kept_in contents s.host.stage s.cursor
       → (told_step a left out ≡ step_checked_call host contents bundle reply packet) × (after ≡ step_checked_contents host contents bundle reply packet)
   unfolding step_checked_call step_checked_contents
-  checked_served s a left after out h f whole g i j =
-      let t = all_fit h in
+  checked_served s a left after out m f whole g i j =
+      let t = all_fit m in
       let k : eqb (length contents) contents_size ≡ true = (both (eqb (length contents) contents_size) _ t.1).0 in
-      let m : kept_by (row_of s.refusal) contents (kept_in contents s.host.stage s.cursor) ≡ contents_after contents (told_inner s out) = rw k in (
-        rw (t.0, t.1, t.2) (step_left s.refusal s.sent s.host a host left out whole g i ∙ ap (λ (x : InnerStep). step_by host x.step) f),
-        rw (t.0, t.1, t.2) (j ∙ m ∙ ap (contents_after contents) f),
+      let l : kept_in contents s.host.stage s.cursor ≡ contents_after contents (told_inner (read_host host) 0 (Ok s) out) = rw k in (
+        rw (t.0, t.1, t.2) (rw (g, i) (served_left host out s.sent s.host whole) ∙ ap (λ (x : InnerStep). step_by host x.step) f),
+        rw (t.0, t.1, t.2) (j ∙ l ∙ ap (contents_after contents) f),
+      )
+
+  -- or a row of the step refuses it
+  pub checked_row : (h : Host) (cursor : ℕ) (r : StepRefusal) (a : CStep) (out : List ℕ) → n ≡ served_number → told_inner h cursor (Err r) out ≡ inner_over host contents bundle reply
+      → a ≡ answered_by (Err r) → (told_step a host out ≡ step_checked_call host contents bundle reply packet) × (contents ≡ step_checked_contents host contents bundle reply packet)
+  unfolding step_checked_call step_checked_contents
+  checked_row h cursor r a out m f g =
+      let t = all_fit m in (
+        rw (t.0, t.1, t.2) (rw g (refused_left host out h r) ∙ ap (λ (x : InnerStep). step_by host x.step) f),
+        rw (t.0, t.1, t.2) (kept_refused r contents _ ∙ ap (contents_after contents) f),
       )

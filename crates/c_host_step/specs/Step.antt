@@ -1,8 +1,8 @@
 -- The host's steps from C: what each answers and leaves in each lent buffer. A refused call leaves the record as it is.
-use Rattle.std.specs.Prelude.{ℕ, cond, length}
+use Rattle.std.specs.Prelude.{ℕ, cond, Result, Ok, Err, length}
 use mathlib.Core.List.{List, flatten}
 use Rattle.wire.specs.Codes.{long_size}
-use Rattle.host_packet.specs.Answer.{Step, row_of, entry_of, size_of}
+use Rattle.host_packet.specs.Answer.{Step, served, row_of, entry_of, size_of}
 use Rattle.host_packet.specs.declared.answer.Sent.{Sent}
 use Rattle.host_packet.specs.declared.answer.StepRefusal.{StepRefusal}
 use Rattle.host_packet.specs.Made.{InnerStep}
@@ -30,8 +30,9 @@ abbrev pub refused_step : (number : ℕ) → (host packet : List ℕ) → StepLe
 refused_step number host packet = record { step = refused_by number; host = host; packet = packet }
 
 -- what a step answers
-abbrev pub answered_by : StepRefusal → Sent → CStep
-answered_by refusal sent = record { number = step_number (row_of refusal); entry = entry_of (row_of refusal); length = size_of sent }
+abbrev pub answered_by : Result Sent StepRefusal → CStep
+answered_by (Ok sent) = record { number = step_number served; entry = entry_of served; length = size_of sent }
+answered_by (Err r) = record { number = step_number (row_of r); entry = entry_of (row_of r); length = 0 }
 
 abbrev pub step_by : (host : List ℕ) → Step → StepLeft
 step_by host s = record {

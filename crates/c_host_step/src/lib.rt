@@ -6,19 +6,18 @@ ghost use Rattle.wire.specs.Codes.{long_size};
 ghost use Rattle.host_packet.specs.Answer.{row_of};
 ghost use Rattle.host_packet.specs.Made.{told_inner};
 ghost use Rattle.host.specs.Inner.{cursor_at};
-ghost use Rattle.host_bytes.specs.Layout.{host_size, host_bytes, cursor_in, are_contents, is_kept, kept_in, kept_by};
+ghost use Rattle.host_bytes.specs.Layout.{host_size, host_bytes, read_host, cursor_in, cursor_for, are_contents, is_kept};
 ghost use Rattle.c_host.specs.Numbers.{step_number};
 ghost use Rattle.c_host_step.specs.Step.{refused_by, answered_by, told_step, step_call, inner_over, step_checked_call, step_checked_contents};
 
-use bundle_layout::verdict_of;
-use c_types::lent::{lent_number, store};
+use c_types::lent::lent_number;
 use c_types::numbers::{ROW_B, ROW_N, SERVED, WRONG_OUTPUT};
 use c_types::types::CStep;
 use host::inner::inner_step;
 use host::step::{cursor_for, step};
 use host_bytes::{
-    HOST_SIZE, are_contents, count_in, entry_in, host_bytes, is_kept, keep, read_body, read_cursor,
-    read_host, row_in,
+    HOST_SIZE, are_contents, checked_in, host_bytes, is_kept, keep, read_body, read_cursor,
+    read_host,
 };
 use host_packet::answer::{Sent, StepRefusal, Stepped};
 use host_record::fits::{Body, in_hand};
@@ -26,17 +25,13 @@ use host_record::record::{Host, HostStage};
 use wire::codes::LONG_SIZE;
 use wire::words;
 
-// The entry that a bundle's row names is told beside its number.
+// The number of the row that refuses a step.
 fn step_number(refusal: StepRefusal) -> u32
     ensures { result ≡ step_number (row_of refusal) }
 {
     let number = refusal.number() as u32;
     match refusal {
-        StepRefusal::Served => SERVED,
-        StepRefusal::Bundle {
-            verdict: _,
-            place: _,
-        } => ROW_B as u32 + number,
+        StepRefusal::Bundle(_) => ROW_B as u32 + number,
         StepRefusal::N1 => ROW_N as u32 + number,
     }
 }
@@ -52,15 +47,27 @@ fn refused(number: u32) -> CStep
     }
 }
 
-// What a step answers; the next record is stored where no row refuses.
-fn answered(host: &mut [u8], refusal: StepRefusal, sent: Sent, next: Host) -> CStep
+// A step that a row refuses. The entry that a bundle's row names is told beside its number.
+fn refused_step(refusal: StepRefusal) -> CStep
+    ensures { result ≡ answered_by (Err refusal) }
+{
+    CStep {
+        number: step_number(refusal),
+        entry: refusal.entry() as u32,
+        length: 0,
+    }
+}
+
+// A step that is served: the next record is stored.
+fn served_step(host: &mut [u8], sent: Sent, next: Host) -> CStep
     requires { length host.old ≡ host_size }
-    ensures { (result ≡ answered_by refusal sent) × (host.new ≡ kept_by (row_of refusal) host.old (host_bytes next)) }
+    ensures { (result ≡ answered_by (Ok sent)) × (host.new ≡ host_bytes next) }
 {
     let b = host_bytes(next);
+    words::copy(host, &b);
     CStep {
-        number: store(host, step_number(refusal), &b),
-        entry: refusal.entry() as u32,
+        number: SERVED,
+        entry: 0,
         length: sent.size() as u32,
     }
 }
@@ -77,12 +84,16 @@ pub fn cfu_host_step(host: &mut [u8], bundle: &[u8], reply: &[u8], packet: &mut 
         return refused(number);
     }
     let h = read_host(host);
-    let s = step(h, bundle, reply);
-    let refusal = s.refusal;
-    let sent = s.sent;
-    let p = s.packet;
-    words::copy(packet, &p);
-    answered(host, refusal, sent, s.host)
+    match step(h, bundle, reply) {
+        Ok(a) => {
+            words::copy(packet, &a.packet);
+            served_step(host, a.sent, a.host)
+        }
+        Err(r) => {
+            words::fill(packet, 0);
+            refused_step(r)
+        }
+    }
 }
 
 // The cursor of a record: the one that is kept for it, or the one that a walk over the body in hand finds.
@@ -103,37 +114,16 @@ fn inner_over(
     bundle: &[u8],
     reply: &[u8],
     packet: &mut [u8],
-) -> Stepped
+) -> Result<Stepped, StepRefusal>
     requires { (are_contents contents.now ≡ true) × (length packet.old ≡ long_size) }
-    ensures { told_inner result packet.new ≡ inner_over host.now contents.now bundle.now reply.now }
+    ensures { told_inner (read_host host.now) (cursor_for bundle.now contents.now (read_host host.now).stage) result packet.new ≡ inner_over host.now contents.now bundle.now reply.now }
 {
     let h = read_host(host);
     let stage = h.stage;
     let hand = read_body(contents, in_hand(stage));
     let cursor = cursor_over(contents, bundle, hand, stage);
-    let verdict = verdict_of(row_in(contents));
-    let place = entry_in(contents);
-    let count = count_in(contents);
-    inner_step(
-        packet, verdict, place, count, hand, cursor, h, bundle, reply,
-    )
-}
-
-// What the inner step answers; the next record, and the block with the cursor behind it, are stored where no row refuses.
-fn kept(s: Stepped, host: &mut [u8], contents: &mut [u8]) -> CStep
-    requires { length host.old ≡ host_size }
-    ensures { (result ≡ answered_by s.refusal s.sent) × (host.new ≡ kept_by (row_of s.refusal) host.old (host_bytes s.host))
-        × (contents.new ≡ kept_by (row_of s.refusal) contents.old (kept_in contents.old s.host.stage s.cursor)) }
-{
-    let refusal = s.refusal;
-    let sent = s.sent;
-    let next = s.host;
-    let stage = next.stage;
-    let step = answered(host, refusal, sent, next);
-    if step.number == SERVED {
-        keep(contents, stage, s.cursor);
-    }
-    step
+    let checked = checked_in(contents);
+    inner_step(packet, checked, hand, cursor, h, bundle, reply)
 }
 
 // The step over contents that the check left: the bundle is not checked again.
@@ -152,6 +142,11 @@ pub fn cfu_host_step_checked(
     if number != SERVED {
         return refused(number);
     }
-    let s = inner_over(host, contents, bundle, reply, packet);
-    kept(s, host, contents)
+    match inner_over(host, contents, bundle, reply, packet) {
+        Ok(s) => {
+            keep(contents, s.host.stage, s.cursor);
+            served_step(host, s.sent, s.host)
+        }
+        Err(r) => refused_step(r),
+    }
 }

@@ -23,7 +23,7 @@ pub fn leave(buffer: &mut [u8], number: u32, bytes: &[u8]) -> u32
     ensures { leaves result buffer.new ≡ sized buffer.old (length bytes.now) (leaves wrong_output buffer.old) (leaves number bytes.now) }
 {
     if buffer.len() == bytes.len() {
-        words::copy(buffer, bytes);
+        buffer.copy_from_slice(bytes);
         number
     } else {
         WRONG_OUTPUT

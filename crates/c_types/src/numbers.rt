@@ -1,9 +1,10 @@
-// The numbers that cross to C: rows of documents 01 and 02 as a letter's code, times 256, and a number; rows C1 to C4 of these crates.
+// The numbers that cross to C: rows of documents 01 and 02 as a letter's code, times 256, and a number; rows C1 to C4 of these crates. They stay numbers
+// and no enums: the C interface, include/cfu.h, has them so.
 ghost use Rattle.std.specs.Prelude.{◌≡◌};
-ghost use Rattle.wire.specs.Rows.{row_of};
+ghost use Rattle.wire.specs.Rows.{row_of, told};
 ghost use Rattle.c_types.specs.Numbers.{lettered_of, packet_number};
 
-use wire::verdict::Verdict;
+use wire::verdict::PacketRefusal;
 
 // No refusal.
 pub const SERVED: u32 = 0;
@@ -56,13 +57,24 @@ pub fn lettered(letter: u16, number: u8) -> u32
     if number == 0 {
         SERVED
     } else {
-        letter as u32 + number as u32
+        u32::from(letter) + u32::from(number)
     }
 }
 
-// The number of a packet's verdict.
-pub fn packet_number(v: Verdict) -> u32
-    ensures { result ≡ packet_number (row_of v) }
+// The number of a packet's row.
+pub fn packet_number(refusal: PacketRefusal) -> u32
+    ensures { result ≡ packet_number (row_of refusal) }
 {
-    lettered(ROW_P, v.number())
+    u32::from(ROW_P) + u32::from(refusal.number())
+}
+
+// What a build or a read answers: the number of its row, and its bytes or fields, which are these zeros where a row refuses.
+pub fn told<T: Copy>(answer: Result<T, PacketRefusal>, zeros: T) -> (u32, T)
+    ensures number { result.0 ≡ packet_number (told zeros answer).row }
+    ensures value { result.1 ≡ (told zeros answer).value }
+{
+    match answer {
+        Ok(value) => (SERVED, value),
+        Err(refusal) => (packet_number(refusal), zeros),
+    }
 }

@@ -2,7 +2,7 @@
 
 // A version by its three parts.
 #[repr(C)]
-#[derive(Clone, Copy)]
+#[derive(Clone, Copy, Default)]
 pub struct CVersion {
     pub major: u8,
     pub minor: u16,
@@ -11,7 +11,7 @@ pub struct CVersion {
 
 // An offer. The two flags are 0 or 1.
 #[repr(C)]
-#[derive(Clone, Copy)]
+#[derive(Clone, Copy, Default)]
 pub struct COffer {
     pub segment: u8,
     pub force_immediate_reset: u8,
@@ -27,7 +27,7 @@ pub struct COffer {
 
 // An information or an extended packet.
 #[repr(C)]
-#[derive(Clone, Copy)]
+#[derive(Clone, Copy, Default)]
 pub struct CSignal {
     pub code: u8,
     pub token: u8,
@@ -35,7 +35,7 @@ pub struct CSignal {
 
 // A packet of the offer channel: its kind is 1 for an offer, 2 for information, 3 for extended, 0 for none; what is of another kind is zero.
 #[repr(C)]
-#[derive(Clone, Copy)]
+#[derive(Clone, Copy, Default)]
 pub struct COfferPacket {
     pub number: u32,
     pub kind: u32,
@@ -54,7 +54,7 @@ pub struct COfferReply {
 
 // A content packet; its data are lent bytes.
 #[repr(C)]
-#[derive(Clone, Copy)]
+#[derive(Clone, Copy, Default)]
 pub struct CContent {
     pub number: u32,
     pub flags: u8,
@@ -73,7 +73,7 @@ pub struct CContentReply {
 
 // A version reply; its components are lent bytes.
 #[repr(C)]
-#[derive(Clone, Copy)]
+#[derive(Clone, Copy, Default)]
 pub struct CVersionReply {
     pub number: u32,
     pub count: u8,

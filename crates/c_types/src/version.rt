@@ -5,19 +5,23 @@ ghost use Rattle.c_types.specs.Version.{parts_of, version_in};
 use crate::types::CVersion;
 use wire::version::Version;
 
-pub fn parts(v: Version) -> CVersion
-    ensures { result ≡ parts_of v }
-{
-    CVersion {
-        major: v.major(),
-        minor: v.minor(),
-        variant: v.variant(),
+impl From<Version> for CVersion {
+    ghost from_gives = { λ v r. r ≡ parts_of v };
+
+    fn from(v: Version) -> Self {
+        CVersion {
+            major: v.major(),
+            minor: v.minor(),
+            variant: v.variant(),
+        }
     }
 }
 
 // The version of these parts.
-pub fn version_in(v: CVersion) -> Version
-    ensures { result ≡ version_in v }
-{
-    Version::new(v.major, v.minor, v.variant)
+impl From<CVersion> for Version {
+    ghost from_gives = { λ v r. r ≡ version_in v };
+
+    fn from(v: CVersion) -> Self {
+        Version::new(v.major, v.minor, v.variant)
+    }
 }

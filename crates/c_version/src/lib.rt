@@ -5,10 +5,11 @@ ghost use Rattle.std.specs.Prelude.{◌≡◌, drop};
 ghost use Rattle.wire.specs.Codes.{component_limit};
 ghost use Rattle.c_version.specs.Layout.{running_bytes, components_bytes, running_in, components_in};
 
+use std::array;
 use wire::codes::COMPONENT_LIMIT;
 use wire::version::Version;
 use wire::words;
-use wire_version::{Running, no_component};
+use wire_version::Running;
 
 // Where the id and the platform of a component stand behind its version; the lengths of a component, and of all of them.
 pub const ID_AT: usize = 4;
@@ -22,24 +23,18 @@ pub const COMPONENTS_SIZE: usize = COMPONENT_LIMIT * RUNNING_SIZE;
 fn running_bytes(e: Running) -> [u8; RUNNING_SIZE]
     ensures { result ≡ running_bytes e }
 {
-    let version = e.version;
-    let v = version.bytes();
-    let p = words::bytes16(e.platform);
-    [v[0], v[1], v[2], v[3], e.id, p[0], p[1]]
+    let [variant, minor_low, minor_high, major] = e.version.bytes();
+    let [low, high] = words::bytes16(e.platform);
+    [variant, minor_low, minor_high, major, e.id, low, high]
 }
 
 pub fn components_bytes(components: [Running; COMPONENT_LIMIT]) -> [u8; COMPONENTS_SIZE]
     ensures { result ≡ components_bytes components }
 {
     let mut out = [0u8; COMPONENTS_SIZE];
-    let mut i = 0;
-    while i < COMPONENT_LIMIT {
-        let e = components[i];
-        let b = running_bytes(e);
+    for (i, e) in components.iter().enumerate() {
         let at = i * RUNNING_SIZE;
-        let end = at + RUNNING_SIZE;
-        words::copy(&mut out[at..end], &b);
-        i += 1;
+        out[at..at + RUNNING_SIZE].copy_from_slice(&running_bytes(*e));
     }
     out
 }
@@ -58,23 +53,12 @@ fn running_in(q: &[u8]) -> Running
 fn running_at(q: &[u8], at: usize) -> Running
     ensures { result ≡ running_in (drop at q.now) }
 {
-    let n = q.len();
-    if n < at {
-        return running_in(&q[n..]);
-    }
-    running_in(&q[at..])
+    running_in(&q[at.min(q.len())..])
 }
 
 // What the bytes lack, up to the last component, is zero.
 pub fn read_components(q: &[u8]) -> [Running; COMPONENT_LIMIT]
     ensures { result ≡ components_in component_limit q.now }
 {
-    let none = no_component();
-    let mut components = [none; COMPONENT_LIMIT];
-    let mut i = 0;
-    while i < COMPONENT_LIMIT {
-        components[i] = running_at(q, i * RUNNING_SIZE);
-        i += 1;
-    }
-    components
+    array::from_fn(|i| running_at(q, i * RUNNING_SIZE))
 }

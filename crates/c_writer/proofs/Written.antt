@@ -1,21 +1,36 @@
 -- The writer's answer as it crosses to C. Assumes nothing.
 use mathlib.Core.Path.{◌≡◌, refl, ap}
 use mathlib.Core.List.{List}
-use Prim.Native.Nat.{ℕ}
-use Rattle.bundle_writer.specs.declared.WriteAnswer.{WriteAnswer}
-use Rattle.bundle_writer.specs.Rows.{served, row_w, number_of, row_of}
-use Rattle.bundle_writer.specs.declared.rows.WriteVerdict.{WriteVerdict}
+use Rattle.std.specs.Prelude.{Result, Ok, Err}
+use Prim.Native.Nat.{ℕ, ◌+◌}
+use Rattle.bundle_writer.specs.declared.WriteRefusal.{WriteRefusal}
+use Rattle.bundle_writer.specs.Rows.{number_of}
+use Rattle.bundle_writer.specs.declared.rows.WriteRow.{WriteRow}
+use Rattle.bundle_writer.specs.declared.rows.WriteRow.TheVariants.{W1, W2, W3, W4, W5, W6, W7, W8}
 use Rattle.bundle_writer.specs.Answer.{told, make_of}
-use Rattle.c_types.specs.Numbers.{letter_w, lettered_of}
-use Rattle.c_types.proofs.numbers.Laws.{of_row}
-use Rattle.c_writer.specs.Write.{write_number, told_write, write_by, write_call}
+use Rattle.c_types.specs.declared.types.CWritten.{CWritten}
+use Rattle.c_types.specs.Numbers.{served_number, letter_w, lettered_of}
+use Rattle.c_writer.specs.Write.{told_write, write_by, write_call}
 
 -- the number of a row
-of_write : (v : WriteVerdict) (entry : ℕ) → lettered_of letter_w (number_of v) ≡ write_number (row_of v entry)
-of_write v entry = of_row write_number served (row_w (number_of v) entry) letter_w (number_of v) refl refl
+pub row_number : (v : WriteRow) → lettered_of letter_w (number_of v) ≡ letter_w + number_of v
+row_number W1 = refl
+row_number W2 = refl
+row_number W3 = refl
+row_number W4 = refl
+row_number W5 = refl
+row_number W6 = refl
+row_number W7 = refl
+row_number W8 = refl
 
--- the writer's answer, and the output as it left it
-pub write_left : (list images out left : List ℕ) (w : WriteAnswer) (n : ℕ) → told w left ≡ make_of list images out → n ≡ lettered_of letter_w (number_of w.verdict)
-    → told_write (record { number = n; entry = w.place; length = w.length }) left ≡ write_call list images out
+-- the writer's answer, as it crosses
+abbrev written_as : Result ℕ WriteRefusal → CWritten
+written_as (Ok length) = record { number = served_number; entry = 0; length = length }
+written_as (Err r) = record { number = letter_w + number_of r.row; entry = r.place; length = 0 }
+
+-- and the output as it left it
+pub write_left : (list images out left : List ℕ) (r : Result ℕ WriteRefusal) → told r left ≡ make_of list images out
+    → told_write (written_as r) left ≡ write_call list images out
 unfolding write_call
-write_left list images out left w n e m = rw (m, of_write w.verdict w.place) (ap write_by e)
+write_left list images out left (Ok length) e = ap write_by e
+write_left list images out left (Err r) e = ap write_by e

@@ -33,10 +33,8 @@ pub fn crc16(bytes: &[u8]) -> u16
 {
     let table = TABLE;
     let mut r: u16 = 0;
-    let mut i = 0;
-    while i < bytes.len() {
-        r = byte_step(&table, r, bytes[i]);
-        i += 1;
+    for b in bytes {
+        r = byte_step(&table, r, *b);
     }
     r
 }

@@ -16,15 +16,14 @@ use Rattle.wire_content.specs.declared.head.ContentHead.{ContentHead}
 use Rattle.image.specs.Region.{is_inside, holds, within, region_bytes, blank, put, erase_of}
 use Rattle.image.specs.Judge.{is_right, image_id, image_version, image_in}
 use Rattle.image.specs.declared.region.Region.{Region}
-use Rattle.image.specs.declared.judge.Image.TheVariants.{Bears}
+use Rattle.std.specs.Prelude.{Ok}
 use Rattle.image.proofs.region.Within.{blank_length, within_twice, erase_inside, erase_length, write_inside, inside}
 use Rattle.device_component.specs.Lists.{component_at}
 use Rattle.device_component.specs.Record.{with_staged}
 use Rattle.device_component.specs.Versions.{image_version_fits}
 use Rattle.device_component.specs.declared.record.Component.{Component}
-use Rattle.device_component.specs.declared.list.Found.TheVariants.{At}
+use Rattle.std.specs.Prelude.{Some, None}
 use Rattle.device.specs.declared.record.Device.{Device}
-use Rattle.device_session.specs.declared.owed.Owed.TheVariants as owed
 use Rattle.device_session.specs.declared.stage.Stage.{Stage}
 use Rattle.device_session.specs.declared.stage.Stage.TheVariants.{Offered, Receiving}
 use Rattle.device.specs.declared.answer.Channel.TheVariants.{Content}
@@ -54,7 +53,7 @@ awaits slot token zero = Offered (record { slot = slot; token = token })
 awaits slot token (suc k) = Receiving (record { slot = slot; token = token; next = suc k % 65536 })
 
 -- it is open on the slot, with the token
-pub awaits_slot : (slot token k : ℕ) → open_slot (awaits slot token k) ≡ At slot
+pub awaits_slot : (slot token k : ℕ) → open_slot (awaits slot token k) ≡ Some slot
 awaits_slot slot token zero = refl
 awaits_slot slot token (suc k) = refl
 
@@ -85,9 +84,9 @@ pub record Fitting (c : ContentHead) (k : ℕ) (r : Region) : Type 0 where
   pub room : holds r c.address c.length ≡ true
 
 -- a right image of a component bears its version
-bears : (m : List ℕ) (id : ℕ) (v : Version) → is_right m ≡ true → image_id m ≡ id → image_version m ≡ v → image_in m id ≡ Bears v
+bears : (m : List ℕ) (id : ℕ) (v : Version) → is_right m ≡ true → image_id m ≡ id → image_version m ≡ v → image_in m id ≡ Ok v
 unfolding image_in
-bears m id v r i w = rw (r, eq-eqb (image_id m) id i) (ap Bears w)
+bears m id v r i w = rw (r, eq-eqb (image_id m) id i) (ap Ok w)
 
 -- its bytes are put into the region
 pub puts : (r : Region) (c : ContentHead) (k : ℕ) (s own bytes : List ℕ) → Fitting c k r → is_inside r (length s) ≡ true
@@ -130,7 +129,7 @@ module _ (d : Device) (components : List Component) (slot token : ℕ) where
   module _ (previous s p : List ℕ) (k : ℕ) where
     -- a block that is not the last: the session waits for the next, and holds this one
     goes_on : length p ≡ long_size → (head_in p).sequence ≡ k % 65536 → is_last (head_in p) ≡ false
-        → received (waiting k previous) (on_block (component_at components slot) (waiting k previous).session slot p s) ≡ answered_with (taken (head_in p)) owed.Nothing (waiting (suc k) p)
+        → received (waiting k previous) (on_block (component_at components slot) (waiting k previous).session slot p s) ≡ answered_with (taken (head_in p)) None (waiting (suc k) p)
     unfolding on_block
     goes_on l q h =
         let e : following (head_in p).sequence ≡ suc k % 65536 = omega arith in
@@ -140,7 +139,7 @@ module _ (d : Device) (components : List Component) (slot token : ℕ) where
     ends : (m : List ℕ) (v : Version) → is_last (head_in p) ≡ true → region_bytes (component_at components slot).fixed.region s ≡ m → is_right m ≡ true
         → image_id m ≡ (component_at components slot).fixed.id → image_version m ≡ v → image_version_fits (component_at components slot) v ≡ true
         → received (waiting k previous) (on_block (component_at components slot) (waiting k previous).session slot p s)
-        ≡ answered_with (taken (head_in p)) owed.Nothing (idle_with d (set components slot (with_staged (component_at components slot) v)))
+        ≡ answered_with (taken (head_in p)) None (idle_with d (set components slot (with_staged (component_at components slot) v)))
     unfolding on_block
     ends m v h e r i w g = rw (h, finishes (component_at components slot) s m v e r i w g, awaits_slot slot token k)
 
@@ -165,21 +164,21 @@ module _ (d : Device) (components : List Component) (slot token : ℕ) where
     -- a block that is not the last: status 0, and the session waits for the next and holds this one
     pub block_next : is_last c ≡ false
         → serve_entry (held d components (awaits slot token k) previous) Content s p
-        ≡ answered_with (reply_bytes (record { sequence = c.sequence; status = success_status })) owed.Nothing (held d components (awaits slot token (suc k)) p)
+        ≡ answered_with (reply_bytes (record { sequence = c.sequence; status = success_status })) None (held d components (awaits slot token (suc k)) p)
     block_next h =
         block_taken ∙ goes_on previous _ p k size (ap (λ (x : ContentHead). x.sequence) reads ∙ f.sequence) (ap (λ (x : ContentHead). is_last x) reads ∙ h)
-        ∙ ap (λ (x : ContentHead). answered_with (taken x) owed.Nothing (waiting (suc k) p)) reads
+        ∙ ap (λ (x : ContentHead). answered_with (taken x) None (waiting (suc k) p)) reads
 
     -- the last block of a right image that is not older: status 0, and the component is pending with its version
     pub block_last : (m : List ℕ) (v : Version) → is_last c ≡ true
         → region_bytes (component_at components slot).fixed.region (take_block (component_at components slot).fixed.region c (drop 8 p) s) ≡ m → is_right m ≡ true
         → image_id m ≡ (component_at components slot).fixed.id → image_version m ≡ v → image_version_fits (component_at components slot) v ≡ true
         → serve_entry (held d components (awaits slot token k) previous) Content s p
-        ≡ answered_with (reply_bytes (record { sequence = c.sequence; status = success_status })) owed.Nothing
+        ≡ answered_with (reply_bytes (record { sequence = c.sequence; status = success_status })) None
         (idle_with d (set components slot (with_staged (component_at components slot) v)))
     block_last m v h e r i w g =
         block_taken ∙ ends previous _ p k m v (ap (λ (x : ContentHead). is_last x) reads ∙ h) e r i w g
-        ∙ ap (λ (x : ContentHead). answered_with (taken x) owed.Nothing (idle_with d (set components slot (with_staged (component_at components slot) v)))) reads
+        ∙ ap (λ (x : ContentHead). answered_with (taken x) None (idle_with d (set components slot (with_staged (component_at components slot) v)))) reads
 
   -- a block, neither first nor last, that was taken just now and is sent again
   module _ (c : ContentHead) (s p : List ℕ) (size : length p ≡ 60) (reads : head_in p ≡ c) (k : ℕ)
@@ -197,9 +196,9 @@ module _ (d : Device) (components : List Component) (slot token : ℕ) where
 
     -- the same reply, and the same record
     pub block_again : serve_entry (held d components (awaits slot token (suc k)) p) Content s p
-        ≡ answered_with (reply_bytes (record { sequence = c.sequence; status = success_status })) owed.Nothing (held d components (awaits slot token (suc k)) p)
+        ≡ answered_with (reply_bytes (record { sequence = c.sequence; status = success_status })) None (held d components (awaits slot token (suc k)) p)
     unfolding serve_entry
-    block_again = again.0 ∙ ap (λ (x : ContentHead). answered_with (taken x) owed.Nothing (waiting (suc k) p)) reads
+    block_again = again.0 ∙ ap (λ (x : ContentHead). answered_with (taken x) None (waiting (suc k) p)) reads
 
     -- and the same staging buffer
     pub again_staging : serve_staging (held d components (awaits slot token (suc k)) p) Content s p ≡ s

@@ -17,8 +17,7 @@ use Rattle.wire_offer.specs.declared.offer.OfferFields.{OfferFields}
 use Rattle.wire_offer.specs.declared.signal.Signal.{Signal}
 use Rattle.wire_content.specs.Head.{head_in}
 use Rattle.device_session.specs.Effect.{idle, one_reply}
-use Rattle.device_session.specs.declared.owed.Owed.{Owed}
-use Rattle.device_session.specs.declared.owed.Owed.TheVariants as owed
+use Rattle.std.specs.Prelude.{Option, None}
 use Rattle.device_offering.specs.Offer.{on_offer}
 use Rattle.device_offering.specs.Signal as signal
 use Rattle.device_offering.specs.Signal.{on_information}
@@ -36,12 +35,12 @@ use Rattle.device.specs.Content.{session_component, content_verdict, received, c
 use Rattle.device.specs.Entries.{serve_entry}
 
 -- a served call with one reply, and then the READY that was owed
-abbrev pub answered_with : List ℕ → Owed → Device → Outcome
+abbrev pub answered_with : List ℕ → Option ℕ → Device → Outcome
 answered_with bytes ready d = record { row = served; replies = one_reply bytes ready; sent = bytes ∷ ready_sent ready; device = d }
 
 -- one reply with this status, and no reason
 abbrev pub plain_reply : (token status : ℕ) → Device → Outcome
-plain_reply token status d = answered_with (reply_bytes (record { token = token; reason = 0; status = status })) owed.Nothing d
+plain_reply token status d = answered_with (reply_bytes (record { token = token; reason = 0; status = status })) None d
 
 -- D1 and D2 let pass
 pub record Sound (d : Device) (s : List ℕ) : Type 0 where
@@ -92,7 +91,7 @@ answers_code d s p x h l e = rw (serves_kind d s p (information x) h l e) (go (e
     go false false = (refl, refl)
 
 -- so is a block, where nothing is owed
-pub answers_block : (d : Device) (s p : List ℕ) → Sound d s → d.session.owed ≡ owed.Nothing → length p ≡ 60 → Answered (serve_entry d Content s p)
+pub answers_block : (d : Device) (s p : List ℕ) → Sound d s → d.session.owed ≡ None → length p ≡ 60 → Answered (serve_entry d Content s p)
 unfolding serve_entry content_entry on_block
 answers_block d s p h o l = rw (rows_pass 60 d s (length p) h l) (go (content_verdict d p))
   where

@@ -18,9 +18,9 @@ use Rattle.wire_content.specs.Head.{head_in}
 use Rattle.wire_content.specs.declared.head.ContentHead.{ContentHead}
 use Rattle.image.specs.declared.region.Region.{Region}
 use Rattle.device_component.specs.Record.{listed}
-use Rattle.device_component.specs.Setup.{is_refused, row_of, setup_verdict}
+use Rattle.device_component.specs.Setup.{SetupVerdict, row_of, setup_verdict}
+use Rattle.std.specs.Prelude.{Ok, Err}
 use Rattle.device_component.specs.declared.record.Listed.{Listed}
-use Rattle.device_component.specs.declared.setup.SetupVerdict.{SetupVerdict}
 use Rattle.device_session.specs.Stage.{is_receiving, at_slot, at_token, following}
 use Rattle.device_session.specs.Sound.{wrong_previous}
 use Rattle.device_session.specs.declared.stage.Receiving.{Receiving as Receives}
@@ -43,7 +43,6 @@ use Rattle.device.specs.Offer.{offer_entry}
 use Rattle.device.specs.Content.{session_component, content_verdict, content_entry, content_staging}
 use Rattle.device.specs.Entries.{new_device, set_up_by, set_up_of, version_entry, Reset, reset_entry, serve_entry}
 use Rattle.device.specs.Copies.{only_replies, AnswerChangesNothing, CopyAnswered, ResentBlock, OtherBytesInvalid, FlaggedInvalid, PreviousJudged, HoldsNone, HeldOnlyReceiving}
-use Rattle.device.proofs.setup.Laws.{refused_set_up, made_set_up}
 use Rattle.device.proofs.Answers.{content_served}
 use Rattle.device.proofs.Passes.{serves}
 use Rattle.device.proofs.Calls.{Sound, rows_pass}
@@ -175,16 +174,10 @@ move_holds (stages k o v w f) h = λ e. refl
 -- set-up makes an idle session
 set_up_holds : (platform : ℕ) (list : List Listed) (count n : ℕ) → HoldsNone (set_up_of platform list count n).device
 unfolding set_up_of
-set_up_holds platform list count n = go (is_refused verdict) refl where
-  verdict : SetupVerdict
-  verdict = setup_verdict n count (map listed list)
-
-  new : Device
-  new = new_device platform list count n
-
-  go : (b : Bool) → is_refused verdict ≡ b → HoldsNone (set_up_by (row_of verdict) new).device
-  go true r = rw (refused_set_up verdict new r) (λ e. refl)
-  go false r = rw (made_set_up verdict new r) (λ e. refl)
+set_up_holds platform list count n = go (setup_verdict n count (map listed list)) where
+  go : (v : SetupVerdict) → HoldsNone (set_up_by (row_of v) (new_device platform list count n)).device
+  go (Ok u) = λ e. refl
+  go (Err row) = λ e. refl
 
 -- a reset makes one too
 reset_holds : (d : Device) → HoldsNone d → HoldsNone (reset_entry d).device

@@ -14,24 +14,20 @@ use Rattle.wire_content.specs.Head.{head_in}
 use Rattle.wire_content.specs.declared.head.ContentHead.{ContentHead}
 use Rattle.image.specs.Region.{region_bytes}
 use Rattle.image.specs.Judge.{image_version, image_id, is_right, image_in}
-use Rattle.image.specs.declared.judge.Image.TheVariants.{Damaged, Foreign, Bears}
+use Rattle.image.specs.declared.judge.ImageFault.TheVariants.{Damaged, Foreign}
+use Rattle.std.specs.Prelude.{Ok, Err}
 use Rattle.image.specs.declared.region.Region.{Region}
 use Rattle.device_component.specs.Record.{FitsStaged, FitsComponent, effective, listed, with_staged, after_reset, blank_component}
 use Rattle.device_component.specs.Lists.{component_at}
-use Rattle.device_component.specs.Setup.{is_refused, row_of, setup_verdict}
+use Rattle.device_component.specs.Setup.{SetupVerdict, row_of, setup_verdict}
 use Rattle.device_component.specs.declared.record.Component.{Component}
-use Rattle.device_component.specs.declared.record.Staged.{Staged}
-use Rattle.device_component.specs.declared.record.Staged.TheVariants.{Nothing, Pending}
-use Rattle.device_component.specs.declared.setup.SetupVerdict.{SetupVerdict}
+use Rattle.std.specs.Prelude.{Option, Some, None, Ok, Err}
 use Rattle.device_slots.specs.Slots.{reset_components}
 use Rattle.device_session.specs.Stage.{FitsStage, open_slot, at_token}
 use Rattle.device_session.specs.Effect.{FitsSession}
 use Rattle.device_receiving.specs.Content.{is_first, take_block}
 use Rattle.device.specs.Entries.{new_device, set_up_by, set_up_of, Reset, reset_entry}
-use Rattle.device_session.proofs.sound.Laws.{fine}
-use Rattle.device.proofs.setup.Laws.{refused_set_up, made_set_up}
 use Rattle.wire.specs.Version.{FitsVersion}
-use Rattle.device_component.specs.declared.list.Found.TheVariants as found
 use Rattle.device.specs.declared.record.Device.{Device}
 use Rattle.device_session.specs.declared.effect.Session.{Session}
 use Rattle.device_session.proofs.effect.Laws as session
@@ -58,7 +54,7 @@ fits_with : (d : Device) → FitsDevice d → (components : List Component) → 
 fits_with d f components l e s h =
     record { platform = f.platform; staging = f.staging; count = f.count; slots = l; each = e; session = h }
 
-slot_fits : (s : Stage) (k : ℕ) → FitsStage s → open_slot s ≡ found.At k → k < 256
+slot_fits : (s : Stage) (k : ℕ) → FitsStage s → open_slot s ≡ Some k → k < 256
 slot_fits Idle k f e = let z : ◌≡◌ {A = ℕ} 0 1 = cc in absurd (omega arith)
 slot_fits (Offered o) k f e = let q : o.slot ≡ k = cc in omega arith
 slot_fits (Receiving r) k f e = let q : r.slot ≡ k = cc in omega arith
@@ -69,10 +65,10 @@ token_fits (Offered o) f = f.1
 token_fits (Receiving r) f = f.1
 
 -- the version that an image bears is the one that it holds
-bears : (m : List ℕ) (id : ℕ) (v : Version) → image_in m id ≡ Bears v → v ≡ image_version m
+bears : (m : List ℕ) (id : ℕ) (v : Version) → image_in m id ≡ Ok v → v ≡ image_version m
 unfolding image_in
 bears m id v e = go (is_right m) (eqb (image_id m) id) e where
-  go : (a b : Bool) → cond a (cond b (Bears (image_version m)) Foreign) Damaged ≡ Bears v → v ≡ image_version m
+  go : (a b : Bool) → cond a (cond b (Ok (image_version m)) (Err Foreign)) (Err Damaged) ≡ Ok v → v ≡ image_version m
   go true true h = cc
   go true false h = let z : ◌≡◌ {A = ℕ} 0 1 = cc in absurd (omega arith)
   go false b h = let z : ◌≡◌ {A = ℕ} 0 1 = cc in absurd (omega arith)
@@ -126,26 +122,19 @@ blank_device_fits = record {
 
 pub set_up_fits : SetUpFits
 unfolding set_up_of
-set_up_fits platform list count n p k l e = go (is_refused verdict) refl where
-  verdict : SetupVerdict
-  verdict = setup_verdict n count (map listed list)
-
-  new : Device
-  new = new_device platform list count n
-
-  go : (b : Bool) → is_refused verdict ≡ b → FitsDevice (set_up_by (row_of verdict) new).device
-  go true r = rw (refused_set_up verdict new r) blank_device_fits
-  go false r =
-      let s = fine_staging n count (map listed list) (fine _ r) in
-      rw (made_set_up verdict new r)
+set_up_fits platform list count n p k l e = go (setup_verdict n count (map listed list)) refl where
+  go : (v : SetupVerdict) → setup_verdict n count (map listed list) ≡ v → FitsDevice (set_up_by (row_of v) (new_device platform list count n)).device
+  go (Err row) r = blank_device_fits
+  go (Ok u) r =
+      let s = fine_staging n count (map listed list) r in
       (record { platform = p; staging = omega arith; count = k; slots = length-map list listed ∙ l; each = e; session = idle_fits })
 
 -- a component after a reset has values of its type
 reset_fits : (c : Component) → FitsComponent c → FitsComponent (after_reset c)
 reset_fits c f = record { fixed = f.fixed; running = effective_fits c.staged f.staged; staged = tt } where
-  effective_fits : (s : Staged) → FitsStaged s → FitsVersion (effective c.running s)
-  effective_fits Nothing h = f.running
-  effective_fits (Pending v) h = h
+  effective_fits : (s : Option Version) → FitsStaged s → FitsVersion (effective c.running s)
+  effective_fits None h = f.running
+  effective_fits (Some v) h = h
 
 pub reset_keeps_fits : ResetKeepsFits
 unfolding reset_entry

@@ -20,8 +20,7 @@ use Rattle.device_component.specs.Versions.{image_version_fits, keeps_staged}
 use Rattle.device_component.specs.declared.record.Component.{Component}
 use Rattle.device_component.specs.declared.record.Fixed.{Fixed}
 use Rattle.device_component.specs.declared.record.Listed.{Listed}
-use Rattle.device_component.specs.declared.record.Staged.{Staged}
-use Rattle.device_component.specs.declared.record.Staged.TheVariants.{Nothing, Pending}
+use Rattle.std.specs.Prelude.{Option, Some, None}
 use Rattle.device_component.proofs.rule.Laws.{image_staged_lem, staged_floor_lem}
 use Rattle.device_session.proofs.sound.Laws.{passes}
 use Rattle.device.specs.declared.record.Device.{Device}
@@ -38,7 +37,7 @@ use Rattle.device.proofs.Moves.{Move, stays, idles, opens, owes, goes, stages, s
 abbrev Keeps : Component → Component → Type 0
 Keeps c c' =
     (c'.fixed ≡ c.fixed)
-    × ((v : Version) → c'.staged ≡ Pending v → (c.staged ≡ Pending v) ⊎ Allowed c v)
+    × ((v : Version) → c'.staged ≡ Some v → (c.staged ≡ Some v) ⊎ Allowed c v)
     × ((c'.running ≡ c.running) ⊎ Allowed c c'.running)
 
 unchanged : (c : Component) → Keeps c c
@@ -52,7 +51,7 @@ allowed_as c c' v e h = subst (λ (f : Fixed). release_of f.floor ≤ release_of
 keeps_both : (a b c : Component) → Keeps a b → Keeps b c → Keeps a c
 keeps_both a b c p q = (q.0 ∙ p.0, (λ v h. pending v (q.1 v h)), runs q.2 p.2)
   where
-    pending : (v : Version) → (b.staged ≡ Pending v) ⊎ Allowed b v → (a.staged ≡ Pending v) ⊎ Allowed a v
+    pending : (v : Version) → (b.staged ≡ Some v) ⊎ Allowed b v → (a.staged ≡ Some v) ⊎ Allowed a v
     pending v (inl h) = p.1 v h
     pending v (inr h) = inr (allowed_as a b v p.0 h)
 
@@ -62,7 +61,7 @@ keeps_both a b c p q = (q.0 ∙ p.0, (λ v h. pending v (q.1 v h)), runs q.2 p.2
     runs (inr h) f = inr (allowed_as a b c.running p.0 h)
 
 -- nothing staged is not a staged version
-never : {A : Type 0} (v : Version) → Nothing ≡ Pending v → A
+never : {A : Type 0} (v : Version) → None ≡ Some v → A
 never v e = let z : ◌≡◌ {A = ℕ} 0 1 = cc in absurd (omega arith)
 
 -- an image that fits becomes pending
@@ -88,9 +87,9 @@ move_keeps {d} (stages j s v e f) k = go (at_set d.components j k (with_staged (
 reset_one : (c : Component) → not (keeps_staged c c.staged) ≡ false → Keeps c (after_reset c)
 reset_one c h = (refl, (λ v e. never v e), go c.staged refl)
   where
-    go : (s : Staged) → c.staged ≡ s → ((after_reset c).running ≡ c.running) ⊎ Allowed c (after_reset c).running
-    go Nothing e = rw e (inl refl)
-    go (Pending v) e = rw e (inr (staged_floor_lem c v (not-false _ (rw e at h))))
+    go : (s : Option Version) → c.staged ≡ s → ((after_reset c).running ≡ c.running) ⊎ Allowed c (after_reset c).running
+    go None e = rw e (inl refl)
+    go (Some v) e = rw e (inr (staged_floor_lem c v (not-false _ (rw e at h))))
 
 -- .. of the first n, and the others stay
 reset_front : (n : ℕ) (cs : List Component) (k : ℕ) → any (λ c. not (keeps_staged c c.staged)) (take n cs) ≡ false
@@ -132,12 +131,12 @@ call_keeps_floor = record {
 }
 
 -- set-up stages nothing
-blank_staged : (n k : ℕ) → (component_at (replicate n blank_component) k).staged ≡ Nothing
+blank_staged : (n k : ℕ) → (component_at (replicate n blank_component) k).staged ≡ None
 blank_staged zero k = refl
 blank_staged (suc n) zero = refl
 blank_staged (suc n) (suc k) = blank_staged n k
 
-list_staged : (l : List Listed) (k : ℕ) → (component_at (map listed l) k).staged ≡ Nothing
+list_staged : (l : List Listed) (k : ℕ) → (component_at (map listed l) k).staged ≡ None
 list_staged [] k = refl
 list_staged (x ∷ l) zero = refl
 list_staged (x ∷ l) (suc k) = list_staged l k
@@ -146,11 +145,11 @@ module _ (platform : ℕ) (list : List Listed) (count : ℕ) (staging : List ℕ
   abbrev new : Device
   new = new_device platform list count (length staging)
 
-  nothing_staged : (k : ℕ) → (component_of (from_set_up platform list count staging) k).staged ≡ Nothing
+  nothing_staged : (k : ℕ) → (component_of (from_set_up platform list count staging) k).staged ≡ None
   unfolding set_up_of
   nothing_staged k = go (setup.row_of (setup_verdict (length staging) count (map listed list)))
     where
-      go : (row : setup.Row) → (component (set_up_by row new).device k).staged ≡ Nothing
+      go : (row : setup.Row) → (component (set_up_by row new).device k).staged ≡ None
       go setup.served = list_staged list k
       go (setup.row_s n) = blank_staged component_limit k
 
@@ -171,7 +170,7 @@ floor_holds = record {
 }
   where
     allowed : (platform : ℕ) (list : List Listed) (count : ℕ) (staging : List ℕ) (k : ℕ) (v : Version)
-        → ((component_of (from_set_up platform list count staging) k).staged ≡ Pending v) ⊎ Allowed (component_of (from_set_up platform list count staging) k) v
+        → ((component_of (from_set_up platform list count staging) k).staged ≡ Some v) ⊎ Allowed (component_of (from_set_up platform list count staging) k) v
         → Allowed (component_of (from_set_up platform list count staging) k) v
     allowed platform list count staging k v (inl h) = never v (sym (nothing_staged platform list count staging k) ∙ h)
     allowed platform list count staging k v (inr h) = h

@@ -9,15 +9,14 @@ use Rattle.wire.specs.declared.version.Version.{Version}
 use Rattle.wire_offer.specs.Kind.{Kind, kind_in}
 use Rattle.wire_content.specs.Head.{head_in}
 use Rattle.image.specs.Region.{region_bytes}
-use Rattle.image.specs.Judge.{image_in}
-use Rattle.image.specs.declared.judge.Image.{Image}
-use Rattle.image.specs.declared.judge.Image.TheVariants.{Damaged, Foreign, Bears}
+use Rattle.image.specs.Judge.{Image, image_in}
+use Rattle.image.specs.declared.judge.ImageFault.TheVariants.{Damaged, Foreign}
+use Rattle.std.specs.Prelude.{Ok, Err}
 use Rattle.device_component.specs.Lists.{component_at}
 use Rattle.device_component.specs.Record.{with_staged, blank_component}
 use Rattle.device_component.specs.Versions.{image_version_fits}
 use Rattle.device_component.specs.declared.record.Component.{Component}
-use Rattle.device_component.specs.declared.record.Staged.{Staged}
-use Rattle.device_component.specs.declared.record.Staged.TheVariants.{Nothing, Pending}
+use Rattle.std.specs.Prelude.{Option, Some, None}
 use Rattle.device_session.specs.Stage.{at_slot}
 use Rattle.device_receiving.specs.declared.checks.ContentVerdict.{ContentVerdict}
 use Rattle.device_receiving.specs.declared.checks.ContentVerdict.TheVariants.{Answer, Take}
@@ -47,18 +46,18 @@ at_set (x ∷ xs) (suc i) (suc k) a z = go (at_set xs i k a z) where
   go (inr h) = inr (ap suc h.0, h.1)
 
 -- two pending components have one version
-pub one_version : (v w : Version) → Pending v ≡ Pending w → v ≡ w
+pub one_version : (v w : Version) → Some v ≡ Some w → v ≡ w
 one_version v w e = ap version e where
-  version : Staged → Version
-  version Nothing = v
-  version (Pending x) = x
+  version : Option Version → Version
+  version None = v
+  version (Some x) = x
 
 module _ (d : Device) (staging report : List ℕ) (k : ℕ) (v : Version) where
   -- what is claimed, of the components and the staging buffer that a call leaves
   abbrev Own : List Component → List ℕ → Type 0
-  Own components s = (component_at components k).staged ≡ Pending v
-      → ((component d k).staged ≡ Pending v)
-      ⊎ ((image_in (region_bytes (component d k).fixed.region s) (component d k).fixed.id ≡ Bears v) × (image_version_fits (component d k) v ≡ true))
+  Own components s = (component_at components k).staged ≡ Some v
+      → ((component d k).staged ≡ Some v)
+      ⊎ ((image_in (region_bytes (component d k).fixed.region s) (component d k).fixed.id ≡ Ok v) × (image_version_fits (component d k) v ≡ true))
 
   -- a component that stays
   unchanged : (slot : ℕ) (s : List ℕ) → Own (set d.components slot (component d slot)) s
@@ -67,17 +66,17 @@ module _ (d : Device) (staging report : List ℕ) (k : ℕ) (v : Version) where
   module _ (slot : ℕ) where
     after_judge : (s : List ℕ) (m : Image) → image_in (region_bytes (component d slot).fixed.region s) (component d slot).fixed.id ≡ m
         → Own (set d.components slot (judge (component d slot) m).component) s
-    after_judge s Damaged e = unchanged slot s
-    after_judge s Foreign e = unchanged slot s
-    after_judge s (Bears w) e = go (image_version_fits (component d slot) w) refl where
-      go : (b : Bool) → image_version_fits (component d slot) w ≡ b → Own (set d.components slot (judge (component d slot) (Bears w)).component) s
+    after_judge s (Err Damaged) e = unchanged slot s
+    after_judge s (Err Foreign) e = unchanged slot s
+    after_judge s (Ok w) e = go (image_version_fits (component d slot) w) refl where
+      go : (b : Bool) → image_version_fits (component d slot) w ≡ b → Own (set d.components slot (judge (component d slot) (Ok w)).component) s
       go false f = rw f (unchanged slot s)
       go true f = rw f (λ h. stored h (at_set d.components slot k (with_staged (component d slot) w) blank_component)) where
-        stored : (get_or (set d.components slot (with_staged (component d slot) w)) k blank_component).staged ≡ Pending v
+        stored : (get_or (set d.components slot (with_staged (component d slot) w)) k blank_component).staged ≡ Some v
             → (get_or (set d.components slot (with_staged (component d slot) w)) k blank_component ≡ component d k)
             ⊎ ((k ≡ slot) × (get_or (set d.components slot (with_staged (component d slot) w)) k blank_component ≡ with_staged (component d slot) w))
-            → ((component d k).staged ≡ Pending v)
-            ⊎ ((image_in (region_bytes (component d k).fixed.region s) (component d k).fixed.id ≡ Bears v) × (image_version_fits (component d k) v ≡ true))
+            → ((component d k).staged ≡ Some v)
+            ⊎ ((image_in (region_bytes (component d k).fixed.region s) (component d k).fixed.id ≡ Ok v) × (image_version_fits (component d k) v ≡ true))
         stored h (inl q) = inl (sym (ap (λ (c : Component). c.staged) q) ∙ h)
         stored h (inr q) =
             let same : w ≡ v = one_version w v (sym (ap (λ (c : Component). c.staged) q.1) ∙ h) in

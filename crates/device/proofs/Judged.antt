@@ -18,7 +18,7 @@ use Rattle.wire_content.specs.Head.{head_in}
 use Rattle.wire_content.specs.Reply as content_reply
 use Rattle.image.specs.Region.{region_bytes}
 use Rattle.image.specs.Judge.{image_in}
-use Rattle.image.specs.declared.judge.Image.TheVariants.{Bears}
+use Rattle.std.specs.Prelude.{Ok}
 use Rattle.device_component.specs.Record.{listed}
 use Rattle.device_component.specs.Lists.{component_at}
 use Rattle.device_component.specs.Setup as setup
@@ -26,7 +26,7 @@ use Rattle.device_component.specs.Setup.{staging_too_long, bad_count, bad_ids, b
 use Rattle.device_component.specs.Versions.{wrong_variant, is_old, below_floor, too_low, image_version_fits, staged_version_fits, keeps_staged}
 use Rattle.device_component.specs.declared.record.Component.{Component}
 use Rattle.device_component.specs.declared.record.Listed.{Listed}
-use Rattle.device_component.specs.declared.record.Staged.TheVariants.{Pending}
+use Rattle.std.specs.Prelude.{Some}
 use Rattle.device_component.proofs.setup.Laws.{fine_floors}
 use Rattle.device_session.specs.Stage.{at_slot}
 use Rattle.device_session.proofs.sound.Laws.{passes, setup_fine}
@@ -72,7 +72,7 @@ offers d n report o k e x p b =
 
 -- an image
 images : (d : Device) (staging report : List ℕ) (k : ℕ) (v : Version) → (content_entry d staging report).row ≡ served → content_verdict d report ≡ Take k
-    → is_last (head_in report) ≡ true → image_in (region_bytes (component d k).fixed.region (content_staging d staging report)) (component d k).fixed.id ≡ Bears v
+    → is_last (head_in report) ≡ true → image_in (region_bytes (component d k).fixed.region (content_staging d staging report)) (component d k).fixed.id ≡ Ok v
     → below_floor (component d k) v ≡ true
     → ((content_entry d staging report).sent ≡ content_reply.reply_bytes (record { sequence = (head_in report).sequence; status = error_version }) ∷ ready_sent d.session.owed)
     × ((content_entry d staging report).device ≡ to_idle d)
@@ -83,7 +83,7 @@ images d staging report k v e t l m b =
     = rw t at (content_says (session_component d).fixed.region d.session.stage (is_copy d.session.previous report) (head_in report)) in
     let at : at_slot d.session.stage ≡ k = rw says.0 in
     let unfit : image_version_fits (component d k) v ≡ false = rw b (and_false (follows (component d k) v)) in
-    let image : image_in (region_bytes (component d k).fixed.region (written (component d k).fixed.region report staging)) (component d k).fixed.id ≡ Bears v
+    let image : image_in (region_bytes (component d k).fixed.region (written (component d k).fixed.region report staging)) (component d k).fixed.id ≡ Ok v
     = rw (r, t, at) at m in
     (rw (r, t, l, at, image, unfit), rw (r, t, l, at, image, unfit, kept d.components k))
 
@@ -91,7 +91,7 @@ images d staging report k v e t l m b =
 plain : (floor : Version) → bad_floor floor ≡ false → variant_of floor ≡ 0
 plain floor e = eqb-true (variant_of floor) 0 (not-false _ e)
 
--- set_up_lem
+-- set-up
 set_up_lem : (platform : ℕ) (list : List Listed) (count n : ℕ) → staging_too_long n ≡ false → bad_count count ≡ false → bad_ids (take count (map listed list)) ≡ false
     → bad_regions n (take count (map listed list)) ≡ false → HasVariant count (map listed list)
     → set_up_of platform list count n ≡ record { row = setup.row_s 5; device = blank_device }
@@ -117,7 +117,7 @@ module _ (d : Device) (f : FloorBroken d) where
     fits = none_below (λ c. not (keeps_staged c c.staged)) d.count d.components f.slot refl f.listed (passes e).staged
 
     whole : (variant_of (component d f.slot).fixed.floor ≡ 0 → ⊥)
-        ⊎ ((v : Version) × ((component d f.slot).staged ≡ Pending v) × (below_floor (component d f.slot) v ≡ true)) → ⊥
+        ⊎ ((v : Version) × ((component d f.slot).staged ≡ Some v) × (below_floor (component d f.slot) v ≡ true)) → ⊥
     whole (inl b) = b floors
     whole (inr s) =
         let w : staged_version_fits (component d f.slot) s.0 ≡ true = not-false _ (rw s.1 at fits) in

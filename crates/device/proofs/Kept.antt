@@ -12,10 +12,9 @@ use Rattle.wire_content.specs.Head.{head_in}
 use Rattle.device_component.specs.Record.{listed, after_reset, with_staged}
 use Rattle.device_component.specs.Versions.{keeps_staged}
 use Rattle.device_component.specs.Setup as setup
-use Rattle.device_component.specs.Setup.{setup_verdict}
+use Rattle.device_component.specs.Setup.{SetupVerdict, setup_verdict}
+use Rattle.std.specs.Prelude.{Ok, Err}
 use Rattle.device_component.specs.declared.record.Component.{Component}
-use Rattle.device_component.specs.declared.setup.SetupVerdict.{SetupVerdict}
-use Rattle.device_component.specs.declared.setup.SetupVerdict.TheVariants.{Fine, S1, S2, S3, S4, S5}
 use Rattle.device.specs.declared.record.Device.{Device}
 use Rattle.device.specs.declared.answer.Channel.{Channel}
 use Rattle.device.specs.Record.{component}
@@ -50,12 +49,8 @@ set_up_passes platform list count n l = go (setup_verdict n count (map listed li
 
   go : (v : SetupVerdict) → setup_verdict n count (map listed list) ≡ v → (set_up_by (setup.row_of v) new).row ≡ setup.served
       → breaks_d1 (set_up_by (setup.row_of v) new).device ≡ false
-  go Fine e h = keeps (record { setup = rw e; slot = refl; previous = refl; owed = refl; staged = fresh })
-  go S1 e h = let z : ◌≡◌ {A = ℕ} 0 1 = cc in absurd (omega arith)
-  go S2 e h = let z : ◌≡◌ {A = ℕ} 0 1 = cc in absurd (omega arith)
-  go S3 e h = let z : ◌≡◌ {A = ℕ} 0 1 = cc in absurd (omega arith)
-  go S4 e h = let z : ◌≡◌ {A = ℕ} 0 1 = cc in absurd (omega arith)
-  go S5 e h = let z : ◌≡◌ {A = ℕ} 0 1 = cc in absurd (omega arith)
+  go (Ok u) e h = keeps (record { setup = rw e; slot = refl; previous = refl; owed = refl; staged = fresh })
+  go (Err row) e h = let z : ◌≡◌ {A = ℕ} 0 1 = cc in absurd (omega arith)
 
 -- each of the six moves keeps D1
 move_passes : {d : Device} {channel : Channel} {staging report : List ℕ} {d' : Device} → Passes d → Move d channel staging report d' → breaks_d1 d' ≡ false

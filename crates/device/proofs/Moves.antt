@@ -13,17 +13,15 @@ use Rattle.wire_offer.specs.Signal.{signal_in}
 use Rattle.wire_offer.specs.declared.signal.Signal.{Signal}
 use Rattle.wire_content.specs.Head.{head_in}
 use Rattle.image.specs.Region.{region_bytes}
-use Rattle.image.specs.Judge.{image_in}
-use Rattle.image.specs.declared.judge.Image.{Image}
-use Rattle.image.specs.declared.judge.Image.TheVariants.{Damaged, Foreign, Bears}
+use Rattle.image.specs.Judge.{Image, image_in}
+use Rattle.image.specs.declared.judge.ImageFault.TheVariants.{Damaged, Foreign}
+use Rattle.std.specs.Prelude.{Ok, Err}
 use Rattle.device_component.specs.Record.{is_pending, with_staged}
 use Rattle.device_component.specs.Versions.{image_version_fits}
-use Rattle.device_component.specs.declared.list.Found.TheVariants as found
+use Rattle.std.specs.Prelude.{Option, Some, None}
 use Rattle.device_session.specs.Stage.{is_open, open_slot, at_slot}
 use Rattle.device_session.specs.Effect.{blank_packet, in_stage, owing}
 use Rattle.device_session.specs.declared.stage.Stage.TheVariants.{Offered}
-use Rattle.device_session.specs.declared.owed.Owed.{Owed}
-use Rattle.device_session.specs.declared.owed.Owed.TheVariants as owed
 use Rattle.device_session.specs.declared.effect.Effect.{Effect}
 use Rattle.device_offering.specs.Offer.{offer_verdict, after_offer, on_offer}
 use Rattle.device_offering.specs.Signal.{on_information, on_notify, on_extended}
@@ -55,11 +53,11 @@ pub data Move (d : Device) (channel : Channel) (staging report : List ℕ) : Dev
   idles : Move d channel staging report (to_idle d)
   opens : (k : ℕ) → Accepts d channel staging report k → is_pending (component d k).staged ≡ false
       → Move d channel staging report (with_session d d.components (in_stage d.session (Offered (record { slot = k; token = (offers.fields_in report).token })) blank_packet))
-  owes : is_open d.session.stage ≡ true → Move d channel staging report (with_session d d.components (owing d.session (owed.Token (get_or report 3 0))))
-  goes : (k : ℕ) → open_slot d.session.stage ≡ found.At k → length report ≡ long_size
+  owes : is_open d.session.stage ≡ true → Move d channel staging report (with_session d d.components (owing d.session (Some (get_or report 3 0))))
+  goes : (k : ℕ) → open_slot d.session.stage ≡ Some k → length report ≡ long_size
       → Move d channel staging report (with_session d d.components (goes_on d.session k report))
-  stages : (k : ℕ) → open_slot d.session.stage ≡ found.At k → (v : Version)
-      → image_in (region_bytes (component d k).fixed.region (written (component d k).fixed.region report staging)) (component d k).fixed.id ≡ Bears v
+  stages : (k : ℕ) → open_slot d.session.stage ≡ Some k → (v : Version)
+      → image_in (region_bytes (component d k).fixed.region (written (component d k).fixed.region report staging)) (component d k).fixed.id ≡ Ok v
       → image_version_fits (component d k) v ≡ true → Move d channel staging report (idle_with d (set d.components k (with_staged (component d k) v)))
 
 -- where nothing refuses the call, the entry's own answer counts
@@ -78,7 +76,7 @@ module _ (d : Device) (staging report : List ℕ) where
 
   -- no row refuses the packet, and it is an offer
   module _ (r : refusal_of 16 d (length staging) (length report) ≡ served) (x : kind_in report ≡ offer (offers.fields_in report)) where
-    accepts : (k : ℕ) → verdict_on ≡ Accept k → find d (offers.fields_in report).id ≡ found.At k → Accepts d Offer staging report k
+    accepts : (k : ℕ) → verdict_on ≡ Accept k → find d (offers.fields_in report).id ≡ Some k → Accepts d Offer staging report k
     unfolding serve_entry offer_entry on_offer
     accepts k e f = record { fields = offers.fields_in report; entry = refl; kind = x; component = f; verdict = e; reply = rw (r, x, e) }
 
@@ -97,10 +95,10 @@ module _ (d : Device) (staging report : List ℕ) where
     go false true e f = rw (e, f) stays
     go false false e f = rw (e, f) stays
 
-  after_notify : (b : Bool) (o : Owed) → is_open d.session.stage ≡ b → Move d Offer staging report (after (on_notify d.session (get_or report 3 0) b o))
+  after_notify : (b : Bool) (o : Option ℕ) → is_open d.session.stage ≡ b → Move d Offer staging report (after (on_notify d.session (get_or report 3 0) b o))
   after_notify false o e = stays
-  after_notify true owed.Nothing e = owes e
-  after_notify true (owed.Token t) e = stays
+  after_notify true None e = owes e
+  after_notify true (Some t) e = stays
 
   after_extended : Move d Offer staging report (after (on_extended d.session (signal_in report)))
   unfolding on_extended
@@ -121,17 +119,17 @@ module _ (d : Device) (staging report : List ℕ) where
   abbrev taken : (k : ℕ) → Taken → Device
   taken k t = with_session d (set d.components k t.component) t.effect.session
 
-  module _ (k : ℕ) (h : open_slot d.session.stage ≡ found.At k) where
+  module _ (k : ℕ) (h : open_slot d.session.stage ≡ Some k) where
     -- the staging buffer after a block
     abbrev buffer : List ℕ
     buffer = written (component d k).fixed.region report staging
 
     after_judge : (m : Image) → image_in (region_bytes (component d k).fixed.region buffer) (component d k).fixed.id ≡ m
         → Move d Content staging report (idle_with d (set d.components k (judge (component d k) m).component))
-    after_judge Damaged e = rw (kept d.components k) idles
-    after_judge Foreign e = rw (kept d.components k) idles
-    after_judge (Bears v) e = go (image_version_fits (component d k) v) refl where
-      go : (b : Bool) → image_version_fits (component d k) v ≡ b → Move d Content staging report (idle_with d (set d.components k (judge (component d k) (Bears v)).component))
+    after_judge (Err Damaged) e = rw (kept d.components k) idles
+    after_judge (Err Foreign) e = rw (kept d.components k) idles
+    after_judge (Ok v) e = go (image_version_fits (component d k) v) refl where
+      go : (b : Bool) → image_version_fits (component d k) v ≡ b → Move d Content staging report (idle_with d (set d.components k (judge (component d k) (Ok v)).component))
       go true f = rw f (stages k h v e f)
       go false f = rw (f, kept d.components k) idles
 

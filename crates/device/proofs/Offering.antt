@@ -6,7 +6,7 @@ use lib.ListN.{length}
 use Rattle.wire_offer.specs.Reply.{reply_bytes}
 use Rattle.wire_offer.specs.Kind.{offer, kind_in}
 use Rattle.wire_offer.specs.declared.offer.OfferFields.{OfferFields}
-use Rattle.device_session.specs.declared.owed.Owed.TheVariants as owed
+use Rattle.std.specs.Prelude.{None}
 use Rattle.device_offering.specs.Offer as offering
 use Rattle.device_offering.specs.Offer.{status_of, reason_of, on_offer}
 use Rattle.device_offering.specs.declared.verdict.OfferVerdict.{OfferVerdict}
@@ -26,6 +26,6 @@ after_offer d token v = with_session d d.components (offering.after_offer d.sess
 
 pub answers : (d : Device) (s p : List ℕ) (o : OfferFields) (v : OfferVerdict) → Sound d s → length p ≡ 16 → kind_in p ≡ offer o → offer_verdict d o ≡ v
     → serve_entry d Offer s p
-    ≡ answered_with (reply_bytes (record { token = o.token; reason = reason_of v; status = status_of v })) owed.Nothing (after_offer d o.token v)
+    ≡ answered_with (reply_bytes (record { token = o.token; reason = reason_of v; status = status_of v })) None (after_offer d o.token v)
 unfolding on_offer
 answers d s p o v h l e q = serves_kind d s p (offer o) h l e ∙ rw q

@@ -10,11 +10,9 @@ use Rattle.wire.specs.Codes.{notify_on_ready, info_start_entire_transaction, inf
 use Rattle.wire.proofs.Chain.{either}
 use Rattle.wire_offer.specs.Kind.{Kind, offer, information, extended, kind_in}
 use Rattle.wire_content.specs.Head.{head_in}
-use Rattle.device_component.specs.declared.list.Found.TheVariants.{At}
+use Rattle.std.specs.Prelude.{Option, Some, None}
 use Rattle.device_session.specs.Stage.{is_open, open_slot}
 use Rattle.device_session.specs.Owed.{owes}
-use Rattle.device_session.specs.declared.owed.Owed.{Owed}
-use Rattle.device_session.specs.declared.owed.Owed.TheVariants as owed
 use Rattle.device_session.specs.declared.stage.Stage.{Stage}
 use Rattle.device_session.specs.declared.stage.Stage.TheVariants.{Idle, Offered, Receiving}
 use Rattle.device_session.specs.declared.effect.Effect.{Effect}
@@ -38,13 +36,13 @@ One d e = (served_with d d.components e).sent ≡ e.replies.reply ∷ []
 
 module _ (d : Device) where
   -- what a notify on ready comes to
-  abbrev notified : (token : ℕ) → Bool → Owed → Outcome
+  abbrev notified : (token : ℕ) → Bool → Option ℕ → Outcome
   notified token b o = served_with d d.components (on_notify d.session token b o)
 
-  notify_sends : (token : ℕ) (b : Bool) (o : Owed) → (notified token b o).sent ≡ cond (b && not (owes o)) [] ((notified token b o).replies.reply ∷ [])
+  notify_sends : (token : ℕ) (b : Bool) (o : Option ℕ) → (notified token b o).sent ≡ cond (b && not (owes o)) [] ((notified token b o).replies.reply ∷ [])
   notify_sends token false o = refl
-  notify_sends token true owed.Nothing = refl
-  notify_sends token true (owed.Token t) = refl
+  notify_sends token true None = refl
+  notify_sends token true (Some t) = refl
 
   kind_sends : (x : Kind) → (on_kind d x).sent ≡ cond (awaits d x) [] ((on_kind d x).replies.reply ∷ [])
   unfolding on_offer on_information on_extended
@@ -65,14 +63,14 @@ stays_open : (b : Bool) → (b && not b) ≡ false
 stays_open true = refl
 stays_open false = refl
 
-is_open_lem : (s : Stage) (k : ℕ) → open_slot s ≡ At k → is_open s ≡ true
+is_open_lem : (s : Stage) (k : ℕ) → open_slot s ≡ Some k → is_open s ≡ true
 is_open_lem Idle k e = cc
 is_open_lem (Offered o) k e = refl
 is_open_lem (Receiving r) k e = refl
 
 -- what is sent after a record became another
 abbrev Sends : Device → Outcome → Type 0
-Sends d a = a.sent ≡ a.replies.reply ∷ ready_sent (cond (becomes_idle d a.device) d.session.owed owed.Nothing)
+Sends d a = a.sent ≡ a.replies.reply ∷ ready_sent (cond (becomes_idle d a.device) d.session.owed None)
 
 module _ (d : Device) (report s : List ℕ) where
   verdict_sends : (v : ContentVerdict) → ContentSays (session_component d).fixed.region d.session.stage (head_in report) v

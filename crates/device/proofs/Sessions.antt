@@ -9,7 +9,7 @@ use lib.ListN.{length}
 use Rattle.image.specs.Region.{region_bytes}
 use Rattle.image.proofs.region.Within.{inside, kept_apart}
 use Rattle.device_component.specs.Record.{is_pending}
-use Rattle.device_component.specs.declared.list.Found.TheVariants as found
+use Rattle.std.specs.Prelude.{Some}
 use Rattle.device_component.proofs.setup.Laws.{fine_apart}
 use Rattle.device_session.specs.Stage.{open_slot}
 use Rattle.device_session.proofs.sound.Laws.{fine, open_slot_lem, region_inside}
@@ -27,8 +27,8 @@ use Rattle.device.proofs.Passes.{serves}
 use Rattle.device.proofs.Staging.{changes}
 
 -- of the six moves only one opens a session
-move_opens : {d : Device} {channel : Channel} {staging report : List ℕ} {d' : Device} (k : ℕ) → Move d channel staging report d' → open_slot d'.session.stage ≡ found.At k
-    → (open_slot d.session.stage ≡ found.At k) ⊎ Accepts d channel staging report k
+move_opens : {d : Device} {channel : Channel} {staging report : List ℕ} {d' : Device} (k : ℕ) → Move d channel staging report d' → open_slot d'.session.stage ≡ Some k
+    → (open_slot d.session.stage ≡ Some k) ⊎ Accepts d channel staging report k
 move_opens k stays e = inl e
 move_opens k idles e = let z : ◌≡◌ {A = ℕ} 0 1 = cc in absurd (omega arith)
 move_opens {d} {channel = channel} {staging = staging} {report = report} k (opens j a q) e =

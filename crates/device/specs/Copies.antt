@@ -1,6 +1,6 @@
 -- A block sent again (document 02, A4): what a copy of the previous packet is answered with, that it changes nothing, what a repeat with other bytes is answered
 -- with, what D1 asks of the previous packet, and that from set-up on a session which is not receiving holds none.
-use Rattle.std.specs.Prelude.{ℕ, ◌≡◌, true, false, ◌||◌, List, [], ◌∷◌, replicate}
+use Rattle.std.specs.Prelude.{ℕ, ◌≡◌, true, false, ◌||◌, List, [], ◌∷◌, replicate, None}
 use Rattle.wire.specs.Bytes.{Bytes}
 use Rattle.wire.specs.Codes.{success_status, error_invalid}
 use Rattle.wire_content.specs.Head.{head_in}
@@ -11,7 +11,6 @@ use Rattle.device_session.specs.Stage.{is_receiving, following}
 use Rattle.device_session.specs.Effect.{blank_packet, one_reply}
 use Rattle.device_session.specs.declared.stage.Receiving.{Receiving}
 use Rattle.device_session.specs.declared.stage.Stage.TheVariants as stage
-use Rattle.device_session.specs.declared.owed.Owed.TheVariants.{Nothing}
 use Rattle.device_receiving.specs.Content.{is_first, is_last, bad_shape}
 use Rattle.device_receiving.specs.declared.checks.ContentVerdict.TheVariants.{Answer, Take}
 use Rattle.device.specs.declared.record.Device.{Device}
@@ -25,7 +24,7 @@ use Rattle.device.specs.Entries.{set_up_of, version_entry, reset_entry, serve_en
 abbrev pub only_replies : Device → (report : List ℕ) → (status : ℕ) → Outcome
 only_replies d report status = record {
   row = served;
-  replies = one_reply (reply_bytes (record { sequence = (head_in report).sequence; status = status })) Nothing;
+  replies = one_reply (reply_bytes (record { sequence = (head_in report).sequence; status = status })) None;
   sent = reply_bytes (record { sequence = (head_in report).sequence; status = status }) ∷ [];
   device = d;
 }

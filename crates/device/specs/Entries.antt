@@ -1,16 +1,15 @@
 -- Set-up, version reply, reset, and the entry by channel (document 01, "The device" and "Numbered refusals").
-use Rattle.std.specs.Prelude.{ℕ, cond, List, map, length, replicate}
+use Rattle.std.specs.Prelude.{ℕ, cond, List, map, length, replicate, Result, Ok, Err}
 use Rattle.wire.specs.Codes.{protocol_number}
 use Rattle.wire_version.specs.Reply.{reply_size, reply_bytes}
 use Rattle.device_component.specs.Record.{listed}
 use Rattle.device_component.specs.Setup as setup
 use Rattle.device_component.specs.declared.record.Listed.{Listed}
+use Rattle.device_component.specs.declared.setup.SetupRow.{SetupRow}
 use Rattle.device_slots.specs.Slots.{reset_components, running_of}
 use Rattle.device_session.specs.Effect.{idle}
 use Rattle.device.specs.declared.record.Device.{Device}
-use Rattle.device.specs.declared.answer.SetupAnswer.{SetupAnswer}
-use Rattle.device.specs.declared.answer.VersionAnswer.{VersionAnswer}
-use Rattle.device.specs.declared.answer.ResetAnswer.{ResetAnswer}
+use Rattle.device.specs.declared.answer.Refusal.{Refusal}
 use Rattle.device.specs.declared.answer.Channel.{Channel}
 use Rattle.device.specs.declared.answer.Channel.TheVariants.{Offer, Content}
 use Rattle.device.specs.Record.{idle_with, blank_device}
@@ -23,8 +22,9 @@ pub record SetUp : Type 0 where
   pub row : setup.Row
   pub device : Device
 
-abbrev pub told_set_up : SetupAnswer → SetUp
-told_set_up a = record { row = setup.row_of a.verdict; device = a.device }
+abbrev pub told_set_up : Result Device SetupRow → SetUp
+told_set_up (Ok d) = record { row = setup.served; device = d }
+told_set_up (Err row) = record { row = setup.row_s (setup.number_of row); device = blank_device }
 
 -- a device as it is set up: idle, nothing staged, nothing owed, no packet held
 abbrev pub new_device : (platform : ℕ) → List Listed → (count n : ℕ) → Device
@@ -50,8 +50,10 @@ pub record Versions : Type 0 where
   pub row : Row
   pub packet : List ℕ
 
-abbrev pub told_versions : VersionAnswer → Versions
-told_versions a = record { row = row_of a.refusal; packet = a.packet }
+-- .. by its result: the packet of a refused call is zeroed
+abbrev pub told_versions : Result (List ℕ) Refusal → Versions
+told_versions (Ok packet) = record { row = served; packet = packet }
+told_versions (Err refusal) = record { row = row_of refusal; packet = replicate reply_size 0 }
 
 -- D1 with a zeroed reply, or the reply
 unfoldable pub version_entry : Device → Versions
@@ -64,8 +66,10 @@ pub record Reset : Type 0 where
   pub row : Row
   pub device : Device
 
-abbrev pub told_reset : ResetAnswer → Reset
-told_reset a = record { row = row_of a.refusal; device = a.device }
+-- .. by its result: the record of a refused call stays
+abbrev pub told_reset : Device → Result Device Refusal → Reset
+told_reset d (Ok next) = record { row = served; device = next }
+told_reset d (Err refusal) = record { row = row_of refusal; device = d }
 
 -- D1, or staged versions run, nothing is pending or owed, the session is idle and holds no packet
 unfoldable pub reset_entry : Device → Reset

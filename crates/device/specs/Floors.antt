@@ -1,6 +1,6 @@
 -- The lowest allowed version (document 02, A5): what an offer, an image and a record below a component's floor are answered with; and that no version below the
 -- floor becomes pending or starts to run by a reset, and no call changes the floor.
-use Rattle.std.specs.Prelude.{ℕ, ◌≤◌, ◌<◌, ◌≡◌, true, false, List, [], ◌∷◌, map, ◌⊎◌, length, take, replicate}
+use Rattle.std.specs.Prelude.{ℕ, ◌≤◌, ◌<◌, ◌≡◌, true, false, List, [], ◌∷◌, map, ◌⊎◌, length, take, replicate, Some, None}
 use Rattle.wire.specs.Codes.{protocol_number, offer_reject, reject_old_fw, error_version}
 use Rattle.wire.specs.Version.{variant_of, release_of}
 use Rattle.wire.specs.declared.version.Version.{Version}
@@ -12,7 +12,7 @@ use Rattle.wire_content.specs.Head.{head_in}
 use Rattle.wire_content.specs.Reply as content_reply
 use Rattle.image.specs.Region.{region_bytes}
 use Rattle.image.specs.Judge.{image_in}
-use Rattle.image.specs.declared.judge.Image.TheVariants.{Bears}
+use Rattle.std.specs.Prelude.{Ok}
 use Rattle.device_component.specs.Record.{listed}
 use Rattle.device_component.specs.Lists.{component_at}
 use Rattle.device_component.specs.Setup as setup
@@ -20,11 +20,8 @@ use Rattle.device_component.specs.Setup.{staging_too_long, bad_count, bad_ids, b
 use Rattle.device_component.specs.Versions.{wrong_variant, below_floor}
 use Rattle.device_component.specs.declared.record.Component.{Component}
 use Rattle.device_component.specs.declared.record.Listed.{Listed}
-use Rattle.device_component.specs.declared.record.Staged.TheVariants.{Nothing, Pending}
-use Rattle.device_component.specs.declared.list.Found.TheVariants.{At}
 use Rattle.device_session.specs.Stage.{is_open}
 use Rattle.device_session.specs.Effect.{one_reply}
-use Rattle.device_session.specs.declared.owed.Owed.TheVariants as owed
 use Rattle.device_receiving.specs.Content.{is_last}
 use Rattle.device_receiving.specs.declared.checks.ContentVerdict.TheVariants.{Take}
 use Rattle.device.specs.declared.record.Device.{Device}
@@ -40,7 +37,7 @@ use Rattle.device.specs.Calls.{Call, Kept, after_call, Event, after_events, from
 abbrev pub only_rejects : Device → (token : ℕ) → Outcome
 only_rejects d token = record {
   row = served;
-  replies = one_reply (offer_reply.reply_bytes (record { token = token; reason = reject_old_fw; status = offer_reject })) owed.Nothing;
+  replies = one_reply (offer_reply.reply_bytes (record { token = token; reason = reject_old_fw; status = offer_reject })) None;
   sent = offer_reply.reply_bytes (record { token = token; reason = reject_old_fw; status = offer_reject }) ∷ [];
   device = d;
 }
@@ -49,10 +46,10 @@ only_rejects d token = record {
 pub record ComesToSeven (d : Device) (o : OfferFields) (k : ℕ) : Type 0 where
   pub closed : is_open d.session.stage ≡ false
   pub protocol : o.protocol ≡ protocol_number
-  pub listed : find d o.id ≡ At k
+  pub listed : find d o.id ≡ Some k
   pub here : o.platform ≡ d.platform
   pub segment : o.segment ≡ 0
-  pub free : (component d k).staged ≡ Nothing
+  pub free : (component d k).staged ≡ None
   pub variant : wrong_variant (component d k) o.version ≡ false
 
 -- one of the first `count` components has a floor with a variant other than 0
@@ -66,7 +63,7 @@ pub record FloorBroken (d : Device) : Type 0 where
   pub slot : ℕ
   pub listed : slot < d.count
   pub broken : (variant_of (component d slot).fixed.floor ≡ 0 → ⊥)
-      ⊎ ((v : Version) × ((component d slot).staged ≡ Pending v) × (below_floor (component d slot) v ≡ true))
+      ⊎ ((v : Version) × ((component d slot).staged ≡ Some v) × (below_floor (component d slot) v ≡ true))
 
 -- a list that S1 to S4 let pass and that has a floor with a variant is refused by S5. Below the floor: an offer that comes as far as check 7 is rejected with 0,
 -- whatever its need is; an image that a last block completes, with a right CRC and its component's id, is answered with 0x07, then with the READY that was owed, and the
@@ -78,7 +75,7 @@ pub record FloorJudged : Type 0 where
   pub offers : (d : Device) (n : ℕ) (report : List ℕ) (o : OfferFields) (k : ℕ) → (offer_entry d n report).row ≡ served → kind_in report ≡ offer o
       → ComesToSeven d o k → below_floor (component d k) o.version ≡ true → offer_entry d n report ≡ only_rejects d o.token
   pub images : (d : Device) (staging report : List ℕ) (k : ℕ) (v : Version) → (content_entry d staging report).row ≡ served → content_verdict d report ≡ Take k
-      → is_last (head_in report) ≡ true → image_in (region_bytes (component d k).fixed.region (content_staging d staging report)) (component d k).fixed.id ≡ Bears v
+      → is_last (head_in report) ≡ true → image_in (region_bytes (component d k).fixed.region (content_staging d staging report)) (component d k).fixed.id ≡ Ok v
       → below_floor (component d k) v ≡ true
       → ((content_entry d staging report).sent ≡ content_reply.reply_bytes (record { sequence = (head_in report).sequence; status = error_version }) ∷ ready_sent d.session.owed)
       × ((content_entry d staging report).device ≡ to_idle d)
@@ -98,8 +95,8 @@ component_of s k = component s.device k
 -- is pending afterwards was staged before, or is allowed; and the version that runs afterwards ran before, or is allowed
 pub record CallKeepsFloor : Type 0 where
   pub fixed : (s : Kept) (call : Call) (k : ℕ) → (component_of (after_call s call) k).fixed ≡ (component_of s k).fixed
-  pub pending : (s : Kept) (call : Call) (k : ℕ) (v : Version) → (component_of (after_call s call) k).staged ≡ Pending v
-      → ((component_of s k).staged ≡ Pending v) ⊎ Allowed (component_of s k) v
+  pub pending : (s : Kept) (call : Call) (k : ℕ) (v : Version) → (component_of (after_call s call) k).staged ≡ Some v
+      → ((component_of s k).staged ≡ Some v) ⊎ Allowed (component_of s k) v
   pub running : (s : Kept) (call : Call) (k : ℕ)
       → ((component_of (after_call s call) k).running ≡ (component_of s k).running) ⊎ Allowed (component_of s k) (component_of (after_call s call) k).running
 
@@ -114,7 +111,7 @@ pub record FloorHolds : Type 0 where
   pub fixed : (platform : ℕ) (list : List Listed) (count : ℕ) (staging : List ℕ) (events : List Event) (k : ℕ)
       → (component_of (after_events (from_set_up platform list count staging) events) k).fixed ≡ (component_of (from_set_up platform list count staging) k).fixed
   pub pending : (platform : ℕ) (list : List Listed) (count : ℕ) (staging : List ℕ) (events : List Event) (k : ℕ) (v : Version)
-      → (component_of (after_events (from_set_up platform list count staging) events) k).staged ≡ Pending v
+      → (component_of (after_events (from_set_up platform list count staging) events) k).staged ≡ Some v
       → Allowed (component_of (from_set_up platform list count staging) k) v
   pub running : (platform : ℕ) (list : List Listed) (count : ℕ) (staging : List ℕ) (events : List Event) (k : ℕ)
       → ((component_of (after_events (from_set_up platform list count staging) events) k).running ≡ (component_of (from_set_up platform list count staging) k).running)

@@ -1,5 +1,5 @@
 -- What is promised of the device's entries, for every record and every input (document 00, questions 1 and 2).
-use Rattle.std.specs.Prelude.{ℕ, ◌+◌, ◌-◌, ◌^◌, ◌≤◌, ◌<◌, ◌≡◌, ◌⊎◌, Bool, false, not, cond, ◌&&◌, List, [], ◌∷◌, map, eqb, length, get_or, replicate}
+use Rattle.std.specs.Prelude.{ℕ, ◌+◌, ◌-◌, ◌^◌, ◌≤◌, ◌<◌, ◌≡◌, ◌⊎◌, Bool, false, not, cond, ◌&&◌, List, [], ◌∷◌, map, eqb, length, get_or, replicate, Some, None}
 use Rattle.wire.specs.Codes.{notify_on_ready, component_limit, data_at}
 use Rattle.wire_version.specs.Reply.{reply_size}
 use Rattle.wire_offer.specs.Kind.{Kind, offer, information, extended, kind_in}
@@ -10,9 +10,7 @@ use Rattle.device_component.specs.Record.{FitsComponent, listed}
 use Rattle.device_component.specs.Lists.{component_at}
 use Rattle.device_component.specs.Setup as setup
 use Rattle.device_component.specs.declared.record.Listed.{Listed}
-use Rattle.device_component.specs.declared.list.Found.TheVariants.{At}
 use Rattle.device.specs.declared.record.Device.{Device}
-use Rattle.device_session.specs.declared.owed.Owed.TheVariants.{Nothing}
 use Rattle.device.specs.declared.answer.Channel.{Channel}
 use Rattle.device_receiving.specs.declared.checks.ContentVerdict.TheVariants.{Take}
 use Rattle.device_session.specs.Stage.{is_open, open_slot}
@@ -72,7 +70,7 @@ Around c j = (j < c.address.0) ⊎ (c.address.0 + c.length ≤ j)
 -- stays otherwise; nothing else changes
 pub record TakesBlock (d : Device) (staging report : List ℕ) : Type 0 where
   pub slot : ℕ
-  pub opened : open_slot d.session.stage ≡ At slot
+  pub opened : open_slot d.session.stage ≡ Some slot
   pub row : (content_entry d staging report).row ≡ served
   pub verdict : content_verdict d report ≡ Take slot
   pub written : (j : ℕ) → (fields_in report).address.0 ≤ j → j < (fields_in report).address.0 + (fields_in report).length
@@ -105,4 +103,4 @@ becomes_idle d d' = is_open d.session.stage && not (is_open d'.session.stage)
 abbrev pub ContentReplies : Type 0
 ContentReplies = (d : Device) (staging report : List ℕ) → (content_entry d staging report).row ≡ served
     → (content_entry d staging report).sent
-    ≡ (content_entry d staging report).replies.reply ∷ ready_sent (cond (becomes_idle d (content_entry d staging report).device) d.session.owed Nothing)
+    ≡ (content_entry d staging report).replies.reply ∷ ready_sent (cond (becomes_idle d (content_entry d staging report).device) d.session.owed None)

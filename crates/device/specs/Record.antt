@@ -1,10 +1,9 @@
 -- The device's record: its values, its components and its session (document 01, "The device").
-use Rattle.std.specs.Prelude.{ℕ, ◌^◌, ◌<◌, ◌≡◌, List, length, replicate}
+use Rattle.std.specs.Prelude.{ℕ, ◌^◌, ◌<◌, ◌≡◌, List, length, replicate, Option}
 use Rattle.wire.specs.Codes.{component_limit}
 use Rattle.device_component.specs.Record.{FitsComponent, blank_component}
 use Rattle.device_component.specs.Lists as lists
 use Rattle.device_component.specs.declared.record.Component.{Component}
-use Rattle.device_component.specs.declared.list.Found.{Found}
 use Rattle.device_session.specs.Effect.{FitsSession, idle}
 use Rattle.device_session.specs.declared.effect.Session.{Session}
 use Rattle.device.specs.declared.record.Device.{Device}
@@ -19,7 +18,7 @@ pub record FitsDevice (d : Device) : Type 0 where
   pub session : FitsSession d.session
 
 -- the slot of the component with this id, among those below the count
-abbrev pub find : Device → ℕ → Found
+abbrev pub find : Device → ℕ → Option ℕ
 find d id = lists.find id d.count d.components
 
 -- the component in a slot, whatever the count

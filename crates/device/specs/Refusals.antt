@@ -1,18 +1,16 @@
 -- Rows D1 to D3 (document 01, "Numbered refusals"), and what an entry answers: its row, its reply, what is sent, and the next record.
-use Rattle.std.specs.Prelude.{ℕ, Bool, true, false, not, cond, List, [], ◌∷◌, ◌++◌, eqb}
+use Rattle.std.specs.Prelude.{ℕ, Bool, true, false, not, List, [], ◌∷◌, ◌++◌, eqb, Option, Some, None, Result, Ok, Err}
 use Rattle.wire.specs.Checks.{first_of}
 use Rattle.wire.specs.Codes.{offer_ready}
 use Rattle.wire_offer.specs.Reply.{reply_bytes}
 use Rattle.device_component.specs.declared.record.Component.{Component}
 use Rattle.device_session.specs.Effect.{no_replies}
 use Rattle.device_session.specs.Sound as sound
-use Rattle.device_session.specs.declared.owed.Owed.{Owed}
-use Rattle.device_session.specs.declared.owed.Owed.TheVariants as owed
 use Rattle.device_session.specs.declared.effect.Replies.{Replies}
 use Rattle.device_session.specs.declared.effect.Effect.{Effect}
 use Rattle.device.specs.declared.record.Device.{Device}
 use Rattle.device.specs.declared.answer.Refusal.{Refusal}
-use Rattle.device.specs.declared.answer.Refusal.TheVariants.{Served, D1, D2, D3}
+use Rattle.device.specs.declared.answer.Refusal.TheVariants.{D1, D2, D3}
 use Rattle.device.specs.declared.answer.Answer.{Answer}
 use Rattle.device.specs.Record.{with_session}
 
@@ -21,19 +19,19 @@ pub data Row : Type 0 where
   served : Row
   row_d : ℕ → Row
 
--- the number of a refusal's row, and 0 for none
+-- the number of a refusal's row
 abbrev pub number_of : Refusal → ℕ
-number_of Served = 0
 number_of D1 = 1
 number_of D2 = 2
 number_of D3 = 3
 
--- the row with a number
-abbrev pub row_at : ℕ → Row
-row_at number = cond (eqb number 0) served (row_d number)
-
 abbrev pub row_of : Refusal → Row
-row_of refusal = row_at (number_of refusal)
+row_of refusal = row_d (number_of refusal)
+
+-- the row of a result
+abbrev pub row_in : {A : Type 0} → Result A Refusal → Row
+row_in (Ok a) = served
+row_in (Err refusal) = row_of refusal
 
 -- a row refuses the call
 abbrev pub is_refused : Row → Bool
@@ -71,9 +69,9 @@ pub record Outcome : Type 0 where
 abbrev pub ready_bytes : ℕ → List ℕ
 ready_bytes token = reply_bytes (record { token = token; reason = 0; status = offer_ready })
 
-abbrev pub ready_sent : Owed → List (List ℕ)
-ready_sent owed.Nothing = []
-ready_sent (owed.Token t) = ready_bytes t ∷ []
+abbrev pub ready_sent : Option ℕ → List (List ℕ)
+ready_sent None = []
+ready_sent (Some t) = ready_bytes t ∷ []
 
 abbrev pub due_sent : Bool → List ℕ → List (List ℕ)
 due_sent true bytes = bytes ∷ []
@@ -83,18 +81,18 @@ due_sent false bytes = []
 abbrev pub sent_with : Replies → List (List ℕ)
 sent_with replies = due_sent replies.due replies.reply ++ ready_sent replies.ready
 
--- the outcome of an answer
-abbrev pub told : Answer → Outcome
-told a = record {
-  row = row_of a.refusal;
-  replies = a.replies;
-  sent = sent_with a.replies;
-  device = a.device;
-}
-
 -- a refused call: its row, a zeroed reply, nothing sent, the record unchanged
 abbrev pub refused_by : Row → Device → Outcome
 refused_by row d = record { row = row; replies = no_replies; sent = []; device = d }
+
+-- the outcome of an answer, which no row refuses
+abbrev pub answered : Answer → Outcome
+answered a = record { row = served; replies = a.replies; sent = sent_with a.replies; device = a.device }
+
+-- the outcome of a call to this device: that of its answer, or that of the row that refuses it
+abbrev pub told : Device → Result Answer Refusal → Outcome
+told d (Ok a) = answered a
+told d (Err refusal) = refused_by (row_of refusal) d
 
 -- a served call: what the packet does, and the components afterwards
 abbrev pub served_with : Device → List Component → Effect → Outcome

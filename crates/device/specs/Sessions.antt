@@ -1,12 +1,11 @@
 -- How a session opens, and what a pending component keeps (document 01, "The device"; document 00: one module took another module's image).
-use Rattle.std.specs.Prelude.{ℕ, ◌<◌, ◌≡◌, true, List, [], ◌∷◌, ◌⊎◌}
+use Rattle.std.specs.Prelude.{ℕ, ◌<◌, ◌≡◌, true, List, [], ◌∷◌, ◌⊎◌, Some}
 use Rattle.wire.specs.Codes.{offer_accept}
 use Rattle.wire_offer.specs.Kind.{offer, kind_in}
 use Rattle.wire_offer.specs.Reply.{reply_bytes}
 use Rattle.wire_offer.specs.declared.offer.OfferFields.{OfferFields}
 use Rattle.image.specs.Region.{region_bytes}
 use Rattle.device_component.specs.Record.{is_pending}
-use Rattle.device_component.specs.declared.list.Found.TheVariants.{At}
 use Rattle.device_session.specs.Stage.{open_slot}
 use Rattle.device_offering.specs.Offer.{offer_verdict}
 use Rattle.device_offering.specs.declared.verdict.OfferVerdict.TheVariants.{Accept}
@@ -21,7 +20,7 @@ pub record Accepts (d : Device) (channel : Channel) (staging report : List ℕ) 
   pub fields : OfferFields
   pub entry : channel ≡ Offer
   pub kind : kind_in report ≡ offer fields
-  pub component : find d fields.id ≡ At k
+  pub component : find d fields.id ≡ Some k
   pub verdict : offer_verdict d.platform d.count d.components d.session.stage fields ≡ Accept k
   pub reply : (serve_entry d channel staging report).sent ≡ reply_bytes (record { token = fields.token; reason = 0; status = offer_accept }) ∷ []
 
@@ -29,8 +28,8 @@ pub record Accepts (d : Device) (channel : Channel) (staging report : List ℕ) 
 -- component there
 abbrev pub OpensByAccept : Type 0
 OpensByAccept = (d : Device) (channel : Channel) (staging report : List ℕ) (k : ℕ)
-    → open_slot (serve_entry d channel staging report).device.session.stage ≡ At k
-    → (open_slot d.session.stage ≡ At k) ⊎ Accepts d channel staging report k
+    → open_slot (serve_entry d channel staging report).device.session.stage ≡ Some k
+    → (open_slot d.session.stage ≡ Some k) ⊎ Accepts d channel staging report k
 
 -- while a component is pending, no packet changes a byte of its region
 abbrev pub PendingKept : Type 0

@@ -1,20 +1,21 @@
 // The offer entry (document 01, "The device"): offers, information and extended packets.
 ghost use Rattle.std.specs.Prelude.{◌≡◌, length};
 ghost use Rattle.device_offering.specs.Packet.{on_packet};
-ghost use Rattle.device.specs.Refusals.{told, served_with};
+ghost use Rattle.device.specs.Refusals.{answered, told, served_with};
 ghost use Rattle.device.specs.Offer.{offer_entry};
 
-use crate::answer::Answer;
+use crate::answer::{Answer, Refusal};
 use crate::record::Device;
 use device_offering::packet;
 use device_slots::standing::standing_of;
 use wire::codes::SHORT_SIZE;
+use wire::verdict::PacketRefusal;
 use wire_offer::kind::{OfferPacket, read_offer_packet};
 
 impl Device {
     // A packet that no row refuses; none changes a component.
-    fn on_packet(self, p: OfferPacket) -> Answer
-        ensures { told result ≡ served_with self self.components (on_packet self.platform self.count self.components self.session p) }
+    fn on_packet(self, p: Result<OfferPacket, PacketRefusal>) -> Answer
+        ensures { answered result ≡ served_with self self.components (on_packet self.platform self.count self.components self.session p) }
     {
         let components = self.components;
         let session = self.session;
@@ -25,13 +26,10 @@ impl Device {
     }
 
     // D1 to D3, or the answer to an offer, an information or an extended packet.
-    pub fn offer(self, staging: &[u8], report: &[u8]) -> Answer
-        ensures { told result ≡ offer_entry self (length staging.now) report.now }
+    pub fn offer(self, staging: &[u8], report: &[u8]) -> Result<Answer, Refusal>
+        ensures { told self result ≡ offer_entry self (length staging.now) report.now }
     {
-        let refusal = self.refusal(SHORT_SIZE, staging.len(), report.len());
-        if refusal.is_refused() {
-            return self.refused(refusal);
-        }
-        self.on_packet(read_offer_packet(report))
+        self.refusal(SHORT_SIZE, staging.len(), report.len())?;
+        Ok(self.on_packet(read_offer_packet(report)))
     }
 }

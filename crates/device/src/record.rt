@@ -27,11 +27,9 @@ impl Device {
         ensures { result ≡ with_session self components session }
     {
         Device {
-            platform: self.platform,
-            staging_len: self.staging_len,
-            count: self.count,
             components,
             session,
+            ..self
         }
     }
 

@@ -1,6 +1,6 @@
 // Rows D1 to D3 (document 01, "Numbered refusals"): what every entry judges first.
 ghost use Rattle.std.specs.Prelude.{◌≡◌};
-ghost use Rattle.device.specs.Refusals.{row_of, breaks_d1, refusal_of};
+ghost use Rattle.device.specs.Refusals.{row_in, breaks_d1, refusal_of};
 
 use crate::answer::Refusal;
 use crate::record::Device;
@@ -17,18 +17,18 @@ impl Device {
     }
 
     // D1, D2 and D3, in this order, for a staging buffer of n bytes, a report of m bytes, and reports that are `size` bytes long.
-    pub(crate) fn refusal(self, size: usize, n: usize, m: usize) -> Refusal
-        ensures { row_of result ≡ refusal_of size self n m }
+    pub(crate) fn refusal(self, size: usize, n: usize, m: usize) -> Result<(), Refusal>
+        ensures { row_in result ≡ refusal_of size self n m }
     {
         if self.breaks_d1() {
-            return Refusal::D1;
+            return Err(Refusal::D1);
         }
         if n != (self.staging_len as usize) {
-            return Refusal::D2;
+            return Err(Refusal::D2);
         }
         if m != size {
-            return Refusal::D3;
+            return Err(Refusal::D3);
         }
-        Refusal::Served
+        Ok(())
     }
 }

@@ -2,10 +2,9 @@
 ghost use Rattle.std.specs.Prelude.{◌≡◌, length};
 ghost use Rattle.device.specs.Entries.{told_set_up, set_up_of};
 
-use crate::answer::SetupAnswer;
 use crate::record::Device;
 use device_component::record::Listed;
-use device_component::setup::setup_verdict;
+use device_component::setup::{SetupRow, setup_verdict};
 use device_session::effect::Session;
 use device_slots::all::components_of;
 use wire::codes::COMPONENT_LIMIT;
@@ -16,22 +15,17 @@ pub fn set_up(
     list: [Listed; COMPONENT_LIMIT],
     count: u8,
     staging: &[u8],
-) -> SetupAnswer
+) -> Result<Device, SetupRow>
     ensures { told_set_up result ≡ set_up_of platform list count (length staging.now) }
 {
     let components = components_of(list);
-    let verdict = setup_verdict(staging.len(), count, components);
-    if verdict.is_refused() {
-        let device = Device::blank();
-        return SetupAnswer { verdict, device };
-    }
+    setup_verdict(staging.len(), count, components)?;
     let session = Session::idle();
-    let device = Device {
+    Ok(Device {
         platform,
         staging_len: staging.len() as u32,
         count,
         components,
         session,
-    };
-    SetupAnswer { verdict, device }
+    })
 }

@@ -2,22 +2,19 @@
 ghost use Rattle.std.specs.Prelude.{◌≡◌};
 ghost use Rattle.device.specs.Entries.{told_versions, version_entry};
 
-use crate::answer::{Refusal, VersionAnswer};
+use crate::answer::Refusal;
 use crate::record::Device;
 use device_slots::all::all_running;
 use wire::codes::PROTOCOL;
 use wire_version::{REPLY_SIZE, VersionReply, build_version_reply};
 
 impl Device {
-    // D1 with a zeroed reply, or the reply.
-    pub fn version_reply(self) -> VersionAnswer
+    // D1, or the reply.
+    pub fn version_reply(self) -> Result<[u8; REPLY_SIZE], Refusal>
         ensures { told_versions result ≡ version_entry self }
     {
         if self.breaks_d1() {
-            return VersionAnswer {
-                refusal: Refusal::D1,
-                packet: [0u8; REPLY_SIZE],
-            };
+            return Err(Refusal::D1);
         }
         let components = self.components;
         let running = all_running(self.platform, components);
@@ -26,10 +23,6 @@ impl Device {
             protocol: PROTOCOL,
             components: running,
         });
-        let packet = built.packet;
-        VersionAnswer {
-            refusal: Refusal::Served,
-            packet,
-        }
+        Ok(built.unwrap_or([0u8; REPLY_SIZE]))
     }
 }

@@ -1,29 +1,26 @@
 -- What makes bytes a record: their length, and the flags. Assumes nothing.
-use mathlib.Core.Path.{◌≡◌, sym, ap, ap₂, ◌∙◌}
+use mathlib.Core.Path.{◌≡◌, refl, sym, ap, ◌∙◌}
 use mathlib.Core.Bool.{Bool, true, ◌&&◌}
 use mathlib.Core.List.{List}
-use Prim.Native.Nat.{ℕ, suc, ◌+◌, ◌-◌, ◌<◌}
+use Prim.Native.Nat.{ℕ, zero, suc, ◌+◌}
 use native.Mathlib.Omega.{arith}
 use borrow.Author.Tests.{eq-eqb, eqb-true}
 use lib.Dec.{eqb}
-use lib.ListN.{length, take, drop}
+use lib.ListN.{length, drop}
 use lib.Seq.{drop-drop}
-use Rattle.wire.specs.Codes.{component_limit}
-use Rattle.wire.proofs.Pieces.{rest}
+use Rattle.std.specs.List.{list_all, range_with_len}
 use Rattle.wire.proofs.Tests.{both}
 use Rattle.device_component_bytes.specs.Layout.{component_size, staged_flag_fits}
 use Rattle.device_bytes.specs.Layout.{device_size, component_start, device_in, fields_in, staged_fit, flags_fit, is_record}
 
--- the flag of the next component, by the bytes from its place on, and those of the components after it
-pub staged_step : (i at : ℕ) (b : List ℕ) (fits : Bool) → i < component_limit → at ≡ component_start i → fits ≡ staged_flag_fits (take (length b - at) (drop at b))
-    → staged_fit (component_limit - i) (drop (component_start i) b) ≡ (fits && staged_fit (component_limit - (i + 1)) (drop (component_start (i + 1)) b))
+-- the flags of so many components from one on
+pub all_staged : (b : List ℕ) (i n : ℕ) → list_all (λ k. staged_flag_fits (drop (component_start k) b)) (range_with_len i n) ≡ staged_fit n (drop (component_start i) b)
 unfolding staged_fit
-staged_step i at b fits h d g =
-    let e : component_limit - i ≡ suc (component_limit - (i + 1)) = omega arith in
+all_staged b i zero = refl
+all_staged b i (suc n) =
     let f : component_start i + component_size ≡ component_start (i + 1) = omega arith in
-    ap (λ (n : ℕ). staged_fit n (drop (component_start i) b)) e
-    ∙ ap₂ (λ (x : Bool) (l : List ℕ). x && staged_fit (component_limit - (i + 1)) l)
-    (ap (λ (n : ℕ). staged_flag_fits (drop n b)) (sym d) ∙ ap staged_flag_fits (sym (rest at b)) ∙ sym g) (drop-drop component_size (component_start i) b ∙ ap (λ (n : ℕ). drop n b) f)
+    ap (λ (x : Bool). staged_flag_fits (drop (component_start i) b) && x)
+    (all_staged b (i + 1) n ∙ ap (λ (k : ℕ). staged_fit n (drop k b)) (sym f) ∙ ap (staged_fit n) (sym (drop-drop component_size (component_start i) b)))
 
 -- a record has the one length, and its flags fit
 pub record_sized : (b : List ℕ) → is_record b ≡ true → length b ≡ device_size

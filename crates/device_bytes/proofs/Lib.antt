@@ -1,4 +1,5 @@
 pub mod Flags
+pub mod Made
 pub mod Stored
 pub mod Record
 pub mod Fields

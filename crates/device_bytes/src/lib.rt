@@ -4,12 +4,13 @@
 
 ghost use Rattle.std.specs.Prelude.{◌≡◌, ◌++◌, length, take, drop};
 ghost use Rattle.wire.specs.Codes.{component_limit};
-ghost use Rattle.device_bytes.specs.Layout.{device_size, components_start, head_bytes, components_bytes, platform_in, staging_len_in, count_in, components_in, device_bytes, fields_in, staged_fit, is_record, read_device, list_in};
+ghost use Rattle.device_component_bytes.specs.Layout.{listed_in};
+ghost use Rattle.device_bytes.specs.Layout.{device_size, components_start, head_bytes, components_bytes, platform_in, staging_len_in, count_in, components_in, device_bytes, fields_in, staged_fit, is_record, read_device, list_in, listed_start};
 
 use crate::component::{component_of, component_start, store_component};
 use crate::session::{session_in, store_session};
 use device::record::Device;
-use device_component::record::{Component, Listed, blank_component};
+use device_component::record::{Component, Listed};
 use device_component_bytes::{COMPONENT_SIZE, LISTED_SIZE, listed_in, staged_flag_fits};
 use device_session_bytes::{SESSION_SIZE, session_flags_fit};
 use wire::codes::COMPONENT_LIMIT;
@@ -52,11 +53,8 @@ fn with_components(
 ) -> [u8; DEVICE_SIZE]
     ensures { result ≡ take components_start out ++ components_bytes components }
 {
-    let mut i: u8 = 0;
-    while (i as usize) < COMPONENT_LIMIT {
-        let component = components[i as usize];
-        store_component(&mut out, i, component);
-        i += 1;
+    for i in 0..COMPONENT_LIMIT {
+        store_component(&mut out, i as u8, components[i]);
     }
     out
 }
@@ -96,14 +94,7 @@ fn components_in(b: &[u8]) -> [Component; COMPONENT_LIMIT]
     requires { length b.now ≡ device_size }
     ensures { result ≡ components_in component_limit (drop components_start b.now) }
 {
-    let none = blank_component();
-    let mut components = [none; COMPONENT_LIMIT];
-    let mut i: u8 = 0;
-    while (i as usize) < COMPONENT_LIMIT {
-        components[i as usize] = component_of(b, i);
-        i += 1;
-    }
-    components
+    std::array::from_fn(|i| component_of(b, i as u8))
 }
 
 // The fields that stand in the bytes, unjudged; bytes of another length are read as the blank record.
@@ -130,15 +121,7 @@ fn staged_fit(b: &[u8]) -> bool
     requires { length b.now ≡ device_size }
     ensures { result ≡ staged_fit component_limit (drop components_start b.now) }
 {
-    let mut i: u8 = 0;
-    while (i as usize) < COMPONENT_LIMIT {
-        let at = component_start(i);
-        if !staged_flag_fits(&b[at..]) {
-            return false;
-        }
-        i += 1;
-    }
-    true
+    (0..COMPONENT_LIMIT as u8).all(|i| staged_flag_fits(&b[component_start(i)..]))
 }
 
 // These bytes are a record: as many, and each flag one that a record has.
@@ -162,17 +145,17 @@ pub fn read_device(b: &[u8]) -> Device
     }
 }
 
+// The component of the list at a place; what the bytes lack of it is zero.
+fn listed_at(b: &[u8], place: u8) -> Listed
+    ensures { result ≡ listed_in (drop (listed_start place) b.now) }
+{
+    let at = (place as usize * LISTED_SIZE).min(b.len());
+    listed_in(&b[at..])
+}
+
 // What the bytes lack, up to all the components, is zero.
 pub fn read_list(b: &[u8]) -> [Listed; COMPONENT_LIMIT]
     ensures { result ≡ list_in component_limit b.now }
 {
-    let first = listed_in(b);
-    let mut list = [first; COMPONENT_LIMIT];
-    let mut i = 0;
-    while i < COMPONENT_LIMIT {
-        let at = words::least(i * LISTED_SIZE, b.len());
-        list[i] = listed_in(&b[at..]);
-        i += 1;
-    }
-    list
+    std::array::from_fn(|i| listed_at(b, i as u8))
 }

@@ -1,3 +1,4 @@
 pub mod Loops
+pub mod Searches
 pub mod Members
 pub mod Laws

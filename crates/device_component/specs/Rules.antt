@@ -4,10 +4,6 @@ use Rattle.wire.specs.Checks.{any, pairs}
 use Rattle.device_component.specs.Setup.{bad_id, bad_region, overlap, bad_floor}
 use Rattle.device_component.specs.Versions.{keeps_staged}
 use Rattle.device_component.specs.declared.record.Component.{Component}
-use Rattle.device_component.specs.declared.rule.Rule.{Rule}
-use Rattle.device_component.specs.declared.rule.Rule.TheVariants.{BadId, SameId, BadRegion, Overlaps, BadFloor}
-use Rattle.device_component.specs.declared.rule.Pair.{Pair}
-use Rattle.device_component.specs.declared.rule.Pair.TheVariants as pair
 
 -- D1, of one component and a staging buffer of n bytes: S3, S4, S5, or a staged version that does not fit the running one and the floor
 abbrev pub flawed : (n : ℕ) → Component → Bool
@@ -20,20 +16,3 @@ clash c c' = eqb c.fixed.id c'.fixed.id || overlap c.fixed.region c'.fixed.regio
 -- D1, of the components in use: one is flawed, or two clash
 unfoldable pub unsound : (n : ℕ) → List Component → Bool
 unsound n cs = any (flawed n) cs || pairs clash cs
-
--- a rule holds of a component
-abbrev pub rule_holds : Rule → Component → Bool
-rule_holds BadId c = bad_id c.fixed.id
-rule_holds (SameId id) c = eqb id c.fixed.id
-rule_holds (BadRegion n) c = bad_region n c.fixed.region
-rule_holds (Overlaps r) c = overlap r c.fixed.region
-rule_holds BadFloor c = bad_floor c.fixed.floor
-
--- the test of the second of two components, where this is the first
-abbrev pub rule_of : Pair → Component → Rule
-rule_of pair.SameId c = SameId c.fixed.id
-rule_of pair.Overlap c = Overlaps c.fixed.region
-
--- a test of two components holds of them
-abbrev pub pair_holds : Pair → Component → Component → Bool
-pair_holds q c c' = rule_holds (rule_of q c) c'

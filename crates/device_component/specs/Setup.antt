@@ -1,38 +1,38 @@
 -- Rows S1 to S5 (document 01, "Numbered refusals"; S5: document 02, A5), tried one after another over the whole list.
-use Rattle.std.specs.Prelude.{ℕ, ◌+◌, Bool, not, cond, ◌||◌, ◌&&◌, List, [], ◌∷◌, ltb, eqb, take}
+use Rattle.std.specs.Prelude.{ℕ, ◌+◌, Bool, not, ◌||◌, ◌&&◌, List, [], ◌∷◌, ltb, eqb, take, Result, Ok, Err, is_err}
 use Rattle.wire.specs.Codes.{component_limit, id_limit}
 use Rattle.wire.specs.Checks.{first_of, any, pairs}
 use Rattle.wire.specs.Version.{variant_of}
 use Rattle.wire.specs.declared.version.Version.{Version}
 use Rattle.image.specs.declared.region.Region.{Region}
 use Rattle.device_component.specs.declared.record.Component.{Component}
-use Rattle.device_component.specs.declared.setup.SetupVerdict.{SetupVerdict}
-use Rattle.device_component.specs.declared.setup.SetupVerdict.TheVariants.{Fine, S1, S2, S3, S4, S5}
+use Rattle.device_component.specs.declared.setup.SetupRow.{SetupRow}
+use Rattle.device_component.specs.declared.setup.SetupRow.TheVariants.{S1, S2, S3, S4, S5}
 
 -- the rows of documents 01 and 02 that set-up gives out
 pub data Row : Type 0 where
   served : Row
   row_s : ℕ → Row
 
--- a row's number, and 0 where no row refuses
-abbrev pub number_of : SetupVerdict → ℕ
-number_of Fine = 0
+-- a row's number
+abbrev pub number_of : SetupRow → ℕ
 number_of S1 = 1
 number_of S2 = 2
 number_of S3 = 3
 number_of S4 = 4
 number_of S5 = 5
 
+-- what set-up's rows say of a list: it is fine, or the row that refuses it
+abbrev pub SetupVerdict : Type 0
+SetupVerdict = Result (Unit {0}) SetupRow
+
 -- a row refuses set-up
 abbrev pub is_refused : SetupVerdict → Bool
-is_refused v = not (eqb (number_of v) 0)
-
--- the row with a number
-abbrev pub row_at : ℕ → Row
-row_at number = cond (eqb number 0) served (row_s number)
+is_refused v = is_err v
 
 abbrev pub row_of : SetupVerdict → Row
-row_of v = row_at (number_of v)
+row_of (Ok u) = served
+row_of (Err row) = row_s (number_of row)
 
 -- the largest staging buffer
 abbrev pub staging_limit : ℕ
@@ -81,10 +81,10 @@ bad_floors cs = any (λ c. bad_floor c.fixed.floor) cs
 unfoldable pub setup_verdict : (n count : ℕ) → List Component → SetupVerdict
 setup_verdict n count components =
     first_of (
-    (staging_too_long n, S1)
-    ∷ (bad_count count, S2)
-    ∷ (bad_ids (take count components), S3)
-    ∷ (bad_regions n (take count components), S4)
-    ∷ (bad_floors (take count components), S5)
+    (staging_too_long n, Err S1)
+    ∷ (bad_count count, Err S2)
+    ∷ (bad_ids (take count components), Err S3)
+    ∷ (bad_regions n (take count components), Err S4)
+    ∷ (bad_floors (take count components), Err S5)
     ∷ [])
-    Fine
+    (Ok tt)

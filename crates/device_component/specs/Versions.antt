@@ -1,13 +1,11 @@
 -- The rules on a component's versions: of an offer, of an image, of what is staged (document 01, "The device", as document 02, A1, amends it: the variant is
 -- the kind of build, and the release, which is the version divided by 256, is compared; A5: no release below the component's floor, which set-up gives and which
 -- may stand above the running version). Each is given the whole record, and none looks at its `staged`.
-use Rattle.std.specs.Prelude.{◌≤◌, ◌<◌, ◌≡◌, ◌↔◌, Bool, true, not, ◌||◌, ◌&&◌, ltb, leb, eqb}
+use Rattle.std.specs.Prelude.{◌≤◌, ◌<◌, ◌≡◌, ◌↔◌, Bool, true, not, ◌||◌, ◌&&◌, ltb, leb, eqb, Option, Some, None}
 use Rattle.wire.specs.Version.{variant_of, release_of}
 use Rattle.wire.specs.declared.version.Version.{Version}
 use Rattle.device_component.specs.Record.{with_staged}
 use Rattle.device_component.specs.declared.record.Component.{Component}
-use Rattle.device_component.specs.declared.record.Staged.{Staged}
-use Rattle.device_component.specs.declared.record.Staged.TheVariants.{Nothing, Pending}
 
 -- the check of an offer between 6 and 7: the variant differs from the running one
 abbrev pub wrong_variant : Component → Version → Bool
@@ -42,9 +40,9 @@ abbrev pub staged_version_fits : Component → Version → Bool
 staged_version_fits c v = may_follow c v
 
 -- what is staged keeps that rule
-abbrev pub keeps_staged : Component → Staged → Bool
-keeps_staged c Nothing = true
-keeps_staged c (Pending v) = staged_version_fits c v
+abbrev pub keeps_staged : Component → Option Version → Bool
+keeps_staged c None = true
+keeps_staged c (Some v) = staged_version_fits c v
 
 -- below the floor is a lower release than the floor's; and how the rules follow from each other: what an offer may bring, an image may; what an image may bring, may be staged; an offer that fits is of a later release
 -- than the running one, and nothing that fits is of a release below the floor's; and none of them looks at what is staged

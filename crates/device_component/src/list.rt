@@ -1,21 +1,16 @@
-// The loops over the first `count` components, and a place in the list.
-ghost use Rattle.std.specs.Prelude.{◌≡◌, min, take, drop};
+// The components in use, and the walks over them. The array and the count stay two parameters: the definitions that theorems name take them apart (`find`,
+// `setup_verdict`, `standing_of`, `breaks_d1`).
+ghost use Rattle.std.specs.Prelude.{◌≡◌, Bool, min, take};
 ghost use Rattle.wire.specs.Codes.{component_limit};
-ghost use Rattle.wire.specs.Checks.{any, pairs};
-ghost use Rattle.device_component.specs.Lists.{first_from, find as find_in};
-ghost use Rattle.device_component.specs.Rules.{unsound, rule_holds, pair_holds};
+ghost use Rattle.wire.specs.Checks.{pairs};
+ghost use Rattle.device_component.specs.Lists.{find as find_in};
+ghost use Rattle.device_component.specs.Rules.{unsound};
+ghost use Rattle.device_component.specs.declared.record.Component.{Component};
 
 use crate::record::Component;
-use crate::rule::{Pair, Rule, applies, clash, flawed, rule_of};
+use crate::rule::{clash, flawed};
 use wire::codes::COMPONENT_LIMIT;
 use wire::words::least;
-
-// A place in the list of components, or none.
-#[derive(Clone, Copy)]
-pub enum Found {
-    Nothing,
-    At(u8),
-}
 
 // A count as far as there are slots.
 pub fn within_slots(count: u8) -> u8
@@ -24,77 +19,45 @@ pub fn within_slots(count: u8) -> u8
     least(count as usize, COMPONENT_LIMIT) as u8
 }
 
-// The first place from `from` on to which the rule applies.
-fn first(rule: Rule, components: [Component; COMPONENT_LIMIT], from: u8, count: u8) -> Found
-    ensures { result ≡ first_from (rule_holds rule) from (drop from (take count components)) }
+// The components in use.
+pub(crate) fn in_use(components: &[Component; COMPONENT_LIMIT], count: u8) -> &[Component]
+    ensures { result.now ≡ take count components.now }
 {
-    let end = within_slots(count);
-    let mut i = from;
-    while i < end {
-        let c = components[i as usize];
-        if applies(rule, c) {
-            return Found::At(i);
-        }
-        i += 1;
-    }
-    Found::Nothing
+    &components[..within_slots(count) as usize]
 }
 
-// Does the rule apply to some component from `from` on?
-pub fn some(rule: Rule, components: [Component; COMPONENT_LIMIT], from: u8, count: u8) -> bool
-    ensures { result ≡ any (rule_holds rule) (drop from (take count components)) }
+// Does the test hold of some component and a later one?
+pub(crate) fn some_two<F: Fn(Component, Component) -> bool>(listed: &[Component], test: F) -> bool
+    ghost holds: { Component → Component → Bool }
+    requires callable { F.IsAlwaysCallable test }
+    requires answers { (c d : Component) (r : Bool) → F.post test c d r → r ≡ holds c d }
+    ensures { result ≡ pairs holds listed.now }
 {
-    let f = first(rule, components, from, count);
-    match f {
-        Found::Nothing => false,
-        Found::At(_) => true,
-    }
-}
-
-// Does the pair's rule apply to some component and a later one?
-pub fn some_two(pair: Pair, components: [Component; COMPONENT_LIMIT], count: u8) -> bool
-    ensures { result ≡ pairs (pair_holds pair) (take count components) }
-{
-    let end = within_slots(count);
-    let mut i: u8 = 0;
-    while i < end {
-        let c = components[i as usize];
-        let rule = rule_of(pair, c);
-        if some(rule, components, i + 1, count) {
+    let mut rest = listed;
+    while let Some((c, later)) = rest.split_first() {
+        if later.iter().any(|d| test(*c, *d)) {
             return true;
         }
-        i += 1;
+        rest = later;
     }
     false
 }
 
 // The slot of the component with this id.
-pub fn find(components: [Component; COMPONENT_LIMIT], count: u8, id: u8) -> Found
+pub fn find(components: [Component; COMPONENT_LIMIT], count: u8, id: u8) -> Option<u8>
     ensures { result ≡ find_in id count components }
 {
-    first(Rule::SameId(id), components, 0, count)
+    let listed = in_use(&components, count);
+    listed
+        .iter()
+        .position(|c| id == c.fixed.id)
+        .map(|k| k as u8)
 }
 
 // D1: some component is flawed, or two clash.
 pub fn some_unsound(n: usize, components: [Component; COMPONENT_LIMIT], count: u8) -> bool
     ensures { result ≡ unsound n (take count components) }
 {
-    let end = within_slots(count);
-    let mut i: u8 = 0;
-    while i < end {
-        let c = components[i as usize];
-        if flawed(n, c) {
-            return true;
-        }
-        let mut j = i + 1;
-        while j < end {
-            let other = components[j as usize];
-            if clash(c, other) {
-                return true;
-            }
-            j += 1;
-        }
-        i += 1;
-    }
-    false
+    let listed = in_use(&components, count);
+    listed.iter().any(|c| flawed(n, *c)) | some_two(listed, clash)
 }

@@ -5,13 +5,6 @@ ghost use Rattle.device_component.specs.Record.{blank_component, is_pending, eff
 use image::region::{Region, StagingOffset};
 use wire::version::Version;
 
-#[derive(Clone, Copy)]
-pub enum Staged {
-    Nothing,
-    // A staged version makes the component pending.
-    Pending(Version),
-}
-
 // What set-up fixes of a component; nothing changes it later.
 #[derive(Clone, Copy)]
 pub struct Fixed {
@@ -25,7 +18,8 @@ pub struct Fixed {
 pub struct Component {
     pub fixed: Fixed,
     pub running: Version,
-    pub staged: Staged,
+    // A staged version makes the component pending.
+    pub staged: Option<Version>,
 }
 
 // A component as it is given to set-up.
@@ -45,7 +39,7 @@ impl Component {
         Component {
             fixed,
             running,
-            staged: Staged::Nothing,
+            staged: None,
         }
     }
 
@@ -58,7 +52,7 @@ impl Component {
         Component {
             fixed,
             running,
-            staged: Staged::Pending(v),
+            staged: Some(v),
         }
     }
 
@@ -71,29 +65,21 @@ impl Component {
         Component {
             fixed,
             running,
-            staged: Staged::Nothing,
+            staged: None,
         }
     }
 
     pub fn is_pending(self) -> bool
         ensures { result ≡ is_pending self.staged }
     {
-        let staged = self.staged;
-        match staged {
-            Staged::Nothing => false,
-            Staged::Pending(_) => true,
-        }
+        self.staged.is_some()
     }
 
     // Staged if pending, else running.
     pub fn effective(self) -> Version
         ensures { result ≡ effective_of self.running self.staged }
     {
-        let staged = self.staged;
-        match staged {
-            Staged::Nothing => self.running,
-            Staged::Pending(v) => v,
-        }
+        self.staged.unwrap_or(self.running)
     }
 }
 
@@ -112,6 +98,6 @@ pub fn blank_component() -> Component
             floor: running,
         },
         running,
-        staged: Staged::Nothing,
+        staged: None,
     }
 }

@@ -1,12 +1,11 @@
-// The rules on a component: those on its versions, and those over the list. The tests of S3 to S5 and `find` are values, so that one loop serves them; D1 has
-// loops of its own.
+// The rules on a component: those on its versions, and those over the list.
 ghost use Rattle.std.specs.Prelude.{◌≡◌, not, eqb};
 ghost use Rattle.wire.specs.Version.{variant_of};
 ghost use Rattle.device_component.specs.Versions.{wrong_variant, is_old, below_floor, too_low, may_follow, image_version_fits, staged_version_fits, keeps_staged};
-ghost use Rattle.device_component.specs.Rules.{flawed as is_flawed, clash as clashes, rule_holds, rule_of};
+ghost use Rattle.device_component.specs.Rules.{flawed as is_flawed, clash as clashes};
 ghost use Rattle.device_component.specs.Setup.{bad_id, bad_region, overlap, bad_floor};
 
-use crate::record::{Component, Staged};
+use crate::record::Component;
 use crate::setup::REGION_LEAST;
 use image::region::Region;
 use wire::codes::ID_LIMIT;
@@ -76,49 +75,23 @@ impl Component {
     pub fn keeps_staged(self) -> bool
         ensures { result ≡ keeps_staged self self.staged }
     {
-        let staged = self.staged;
-        match staged {
-            Staged::Nothing => true,
-            Staged::Pending(v) => self.staged_version_fits(v),
-        }
+        self.staged.map_or(true, |v| self.staged_version_fits(v))
     }
 }
 
-// A test of a component.
-#[derive(Clone, Copy)]
-pub enum Rule {
-    // S3: its id lies outside 1-0xDF.
-    BadId,
-    // Its id is this one.
-    SameId(u8),
-    // S4: its region is under 8 bytes, or past a buffer of so many.
-    BadRegion(usize),
-    // S4: its region overlaps this one.
-    Overlaps(Region),
-    // S5: its floor has a variant other than 0.
-    BadFloor,
-}
-
-// A test of two components.
-#[derive(Clone, Copy)]
-pub enum Pair {
-    SameId,
-    Overlap,
-}
-
-fn bad_id(id: u8) -> bool
+pub(crate) fn bad_id(id: u8) -> bool
     ensures { result ≡ bad_id id }
 {
     (id < 1) | (ID_LIMIT < id)
 }
 
-fn bad_region(n: usize, r: Region) -> bool
+pub(crate) fn bad_region(n: usize, r: Region) -> bool
     ensures { result ≡ bad_region n r }
 {
     (r.len < REGION_LEAST) | ((n as u64) < (r.base.number() as u64) + (r.len as u64))
 }
 
-fn overlaps(r: Region, other: Region) -> bool
+pub(crate) fn overlaps(r: Region, other: Region) -> bool
     ensures { result ≡ overlap r other }
 {
     let base = r.base.number() as u64;
@@ -126,7 +99,7 @@ fn overlaps(r: Region, other: Region) -> bool
     (base < next + (other.len as u64)) & (next < base + (r.len as u64))
 }
 
-fn bad_floor(floor: Version) -> bool
+pub(crate) fn bad_floor(floor: Version) -> bool
     ensures { result ≡ bad_floor floor }
 {
     floor.variant() != 0
@@ -148,29 +121,4 @@ pub fn clash(c: Component, other: Component) -> bool
     let region = c.fixed.region;
     let next = other.fixed.region;
     (c.fixed.id == other.fixed.id) | overlaps(region, next)
-}
-
-pub fn applies(rule: Rule, c: Component) -> bool
-    ensures { result ≡ rule_holds rule c }
-{
-    let region = c.fixed.region;
-    let floor = c.fixed.floor;
-    match rule {
-        Rule::BadId => bad_id(c.fixed.id),
-        Rule::SameId(id) => id == c.fixed.id,
-        Rule::BadRegion(n) => bad_region(n, region),
-        Rule::Overlaps(r) => overlaps(r, region),
-        Rule::BadFloor => bad_floor(floor),
-    }
-}
-
-// The test of the second of two components, where this is the first.
-pub fn rule_of(pair: Pair, c: Component) -> Rule
-    ensures { result ≡ rule_of pair c }
-{
-    let region = c.fixed.region;
-    match pair {
-        Pair::SameId => Rule::SameId(c.fixed.id),
-        Pair::Overlap => Rule::Overlaps(region),
-    }
 }

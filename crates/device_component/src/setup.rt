@@ -1,10 +1,10 @@
 // The verdict of set-up on a list of components and a staging length (document 01, "Numbered refusals"; S5: document 02, A5).
-ghost use Rattle.std.specs.Prelude.{◌≡◌, take};
-ghost use Rattle.device_component.specs.Setup.{number_of, is_refused, staging_too_long, bad_count, bad_ids, bad_regions, bad_floors, setup_verdict};
+ghost use Rattle.std.specs.Prelude.{◌≡◌};
+ghost use Rattle.device_component.specs.Setup.{number_of, staging_too_long, bad_count, bad_ids, bad_regions, bad_floors, setup_verdict};
 
-use crate::list::{some, some_two};
+use crate::list::{in_use, some_two};
 use crate::record::Component;
-use crate::rule::{Pair, Rule};
+use crate::rule::{bad_floor, bad_id, bad_region, overlaps};
 use wire::codes::COMPONENT_LIMIT;
 
 // The largest staging buffer.
@@ -13,36 +13,22 @@ pub const STAGING_LIMIT: u32 = 65536;
 // The shortest region.
 pub const REGION_LEAST: u32 = 8;
 
-#[derive(Clone, Copy)]
-pub enum SetupVerdict {
-    Fine,
-    S1,
-    S2,
-    S3,
-    S4,
-    S5,
+// The rows that refuse set-up.
+#[derive(Clone, Copy, PartialEq, Eq)]
+pub enum SetupRow {
+    S1 = 1,
+    S2 = 2,
+    S3 = 3,
+    S4 = 4,
+    S5 = 5,
 }
 
-impl SetupVerdict {
-    // The row's number, and 0 where no row refuses.
+impl SetupRow {
+    // The row's number.
     pub fn number(self) -> u8
         ensures { result ≡ number_of self }
     {
-        match self {
-            SetupVerdict::Fine => 0,
-            SetupVerdict::S1 => 1,
-            SetupVerdict::S2 => 2,
-            SetupVerdict::S3 => 3,
-            SetupVerdict::S4 => 4,
-            SetupVerdict::S5 => 5,
-        }
-    }
-
-    // S1 to S5 refuse it.
-    pub fn is_refused(self) -> bool
-        ensures { result ≡ is_refused self }
-    {
-        self.number() != 0
+        self as u8
     }
 }
 
@@ -58,42 +44,48 @@ pub fn bad_count(count: u8) -> bool
     (count < 1) | ((COMPONENT_LIMIT as u8) < count)
 }
 
-fn bad_ids(components: [Component; COMPONENT_LIMIT], count: u8) -> bool
-    ensures { result ≡ bad_ids (take count components) }
+fn bad_ids(listed: &[Component]) -> bool
+    ensures { result ≡ bad_ids listed.now }
 {
-    some(Rule::BadId, components, 0, count) | some_two(Pair::SameId, components, count)
+    listed.iter().any(|c| bad_id(c.fixed.id)) | some_two(listed, |c, d| c.fixed.id == d.fixed.id)
 }
 
-fn bad_regions(n: usize, components: [Component; COMPONENT_LIMIT], count: u8) -> bool
-    ensures { result ≡ bad_regions n (take count components) }
+fn bad_regions(n: usize, listed: &[Component]) -> bool
+    ensures { result ≡ bad_regions n listed.now }
 {
-    some(Rule::BadRegion(n), components, 0, count) | some_two(Pair::Overlap, components, count)
+    listed.iter().any(|c| bad_region(n, c.fixed.region))
+        | some_two(listed, |c, d| overlaps(c.fixed.region, d.fixed.region))
 }
 
-fn bad_floors(components: [Component; COMPONENT_LIMIT], count: u8) -> bool
-    ensures { result ≡ bad_floors (take count components) }
+fn bad_floors(listed: &[Component]) -> bool
+    ensures { result ≡ bad_floors listed.now }
 {
-    some(Rule::BadFloor, components, 0, count)
+    listed.iter().any(|c| bad_floor(c.fixed.floor))
 }
 
 // S1 to S5, row after row, each over the whole list.
-pub fn setup_verdict(n: usize, count: u8, components: [Component; COMPONENT_LIMIT]) -> SetupVerdict
+pub fn setup_verdict(
+    n: usize,
+    count: u8,
+    components: [Component; COMPONENT_LIMIT],
+) -> Result<(), SetupRow>
     ensures { result ≡ setup_verdict n count components }
 {
     if staging_too_long(n) {
-        return SetupVerdict::S1;
+        return Err(SetupRow::S1);
     }
     if bad_count(count) {
-        return SetupVerdict::S2;
+        return Err(SetupRow::S2);
     }
-    if bad_ids(components, count) {
-        return SetupVerdict::S3;
+    let listed = in_use(&components, count);
+    if bad_ids(listed) {
+        return Err(SetupRow::S3);
     }
-    if bad_regions(n, components, count) {
-        return SetupVerdict::S4;
+    if bad_regions(n, listed) {
+        return Err(SetupRow::S4);
     }
-    if bad_floors(components, count) {
-        return SetupVerdict::S5;
+    if bad_floors(listed) {
+        return Err(SetupRow::S5);
     }
-    SetupVerdict::Fine
+    Ok(())
 }

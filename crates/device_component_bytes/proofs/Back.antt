@@ -16,14 +16,13 @@ use Rattle.image.specs.declared.region.Region.{Region}
 use Rattle.device_component.specs.Record.{FitsStaged, FitsFixed, FitsComponent, listed}
 use Rattle.device_component.specs.declared.record.Component.{Component}
 use Rattle.device_component.specs.declared.record.Listed.{Listed}
-use Rattle.device_component.specs.declared.record.Staged.{Staged}
-use Rattle.device_component.specs.declared.record.Staged.TheVariants.{Nothing, Pending}
+use Rattle.std.specs.Prelude.{Option, Some, None}
 use Rattle.device_component_bytes.specs.Layout.{word_size, version_size, running_at, region_at, region_len_at, floor_at, staged_at, staged_version_at, staged_bytes, region_bytes, component_bytes, listed_bytes, listed_of, component_in, listed_in, staged_flag_fits}
 
 -- what is staged is bytes, and so are a component of the list and a component
-staged_bytes_lem : (s : Staged) → FitsStaged s → Bytes (staged_bytes s)
-staged_bytes_lem Nothing f = cons_bytes 0 (bytes_of version_size 0) (omega arith) (word_bytes version_size 0)
-staged_bytes_lem (Pending v) f = cons_bytes 1 (version_bytes v) (omega arith) (version_bytes_lem v f)
+staged_bytes_lem : (s : Option Version) → FitsStaged s → Bytes (staged_bytes s)
+staged_bytes_lem None f = cons_bytes 0 (bytes_of version_size 0) (omega arith) (word_bytes version_size 0)
+staged_bytes_lem (Some v) f = cons_bytes 1 (version_bytes v) (omega arith) (version_bytes_lem v f)
 
 region_bytes_lem : (r : Region) → Bytes (region_bytes r)
 region_bytes_lem r = join_bytes (bytes_of word_size r.base.0) (bytes_of word_size r.len) (word_bytes word_size r.base.0) (word_bytes word_size r.len)
@@ -50,22 +49,22 @@ listed_back l rest f = listed_read l rest f.fixed
 -- so does a component
 pub component_back : (c : Component) (rest : List ℕ) → FitsComponent c → component_in (component_bytes c ++ rest) ≡ c
 component_back c rest f =
-    ap₂ (λ (l : Listed) (s : Staged). record { fixed = l.fixed; running = l.running; staged = s }) (listed_read (listed_of c) (staged_bytes c.staged ++ rest) f.fixed) (go c.staged)
+    ap₂ (λ (l : Listed) (s : Option Version). record { fixed = l.fixed; running = l.running; staged = s }) (listed_read (listed_of c) (staged_bytes c.staged ++ rest) f.fixed) (go c.staged)
   where
-    go : (s : Staged) → let q = staged_bytes s ++ rest in cond (eqb (get_or q 0 0) 1) (Pending (version_at 1 q)) Nothing ≡ s
-    go Nothing = refl
-    go (Pending v) = ap Pending (parts v)
+    go : (s : Option Version) → let q = staged_bytes s ++ rest in cond (eqb (get_or q 0 0) 1) (Some (version_at 1 q)) None ≡ s
+    go None = refl
+    go (Some v) = ap Some (parts v)
 
 -- the flag of a component fits
 pub component_flag : (c : Component) (rest : List ℕ) → staged_flag_fits (component_bytes c ++ rest) ≡ true
 component_flag c rest = go c.staged
   where
-    go : (s : Staged) → leb (get_or (staged_bytes s ++ rest) 0 0) 1 ≡ true
-    go Nothing = refl
-    go (Pending v) = refl
+    go : (s : Option Version) → leb (get_or (staged_bytes s ++ rest) 0 0) 1 ≡ true
+    go None = refl
+    go (Some v) = refl
 
 -- what is read of bytes fits
-staged_fits_lem : (x : Bool) (v : Version) → FitsVersion v → FitsStaged (cond x (Pending v) Nothing)
+staged_fits_lem : (x : Bool) (v : Version) → FitsVersion v → FitsStaged (cond x (Some v) None)
 staged_fits_lem true v f = f
 staged_fits_lem false v f = tt
 

@@ -5,20 +5,20 @@ use Prim.Native.Nat.{ℕ}
 use lib.ListN.{length}
 use Rattle.wire.specs.Version.{version_bytes}
 use Rattle.wire.specs.Bytes.{bytes_of, bytes_at}
-use Rattle.device_component.specs.declared.record.Staged.{Staged}
-use Rattle.device_component.specs.declared.record.Staged.TheVariants.{Nothing, Pending}
+use Rattle.std.specs.Prelude.{Option, Some, None}
+use Rattle.wire.specs.declared.version.Version.{Version}
 use Rattle.device_component.specs.declared.record.Component.{Component}
 use Rattle.device_component.specs.declared.record.Listed.{Listed}
 use Rattle.device_component_bytes.specs.Layout.{word_size, version_size, staged_size, listed_size, component_size, staged_bytes, component_bytes, listed_bytes, listed_of}
 
 -- what is staged is so many bytes, each by its place
-staged_each : (s : Staged) → bytes_at staged_size 0 (staged_bytes s) ≡ staged_bytes s
-staged_each Nothing = refl
-staged_each (Pending v) = refl
+staged_each : (s : Option Version) → bytes_at staged_size 0 (staged_bytes s) ≡ staged_bytes s
+staged_each None = refl
+staged_each (Some v) = refl
 
-staged_sized : (s : Staged) → length (staged_bytes s) ≡ staged_size
-staged_sized Nothing = refl
-staged_sized (Pending v) = refl
+staged_sized : (s : Option Version) → length (staged_bytes s) ≡ staged_size
+staged_sized None = refl
+staged_sized (Some v) = refl
 
 -- a component is as many bytes as it has in a record
 pub component_sized : (c : Component) → length (component_bytes c) ≡ component_size

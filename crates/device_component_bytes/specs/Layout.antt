@@ -1,14 +1,13 @@
 -- A component of the device as bytes, little-endian, for whoever keeps it outside of Rattle: one of the list that set-up takes, and behind it what is staged.
 -- What is read stands in bytes that start at the component.
-use Rattle.std.specs.Prelude.{ℕ, ◌+◌, Bool, cond, List, ◌∷◌, ◌++◌, eqb, leb, get_or}
+use Rattle.std.specs.Prelude.{ℕ, ◌+◌, Bool, cond, List, ◌∷◌, ◌++◌, eqb, leb, get_or, Option, Some, None}
 use Rattle.wire.specs.Bytes.{number, bytes_of, bytes_at}
 use Rattle.wire.specs.Version.{version_at, version_bytes}
+use Rattle.wire.specs.declared.version.Version.{Version}
 use Rattle.image.specs.declared.region.Region.{Region}
 use Rattle.device_component.specs.declared.record.Component.{Component}
 use Rattle.device_component.specs.declared.record.Fixed.{Fixed}
 use Rattle.device_component.specs.declared.record.Listed.{Listed}
-use Rattle.device_component.specs.declared.record.Staged.{Staged}
-use Rattle.device_component.specs.declared.record.Staged.TheVariants.{Nothing, Pending}
 
 -- the lengths of a word, of a version, of a region, and of what is staged: a flag and a version
 abbrev pub word_size : ℕ
@@ -51,9 +50,9 @@ abbrev pub component_size : ℕ
 component_size = staged_at + staged_size
 
 -- 0 nothing staged, or 1 pending, and the staged version
-abbrev pub staged_bytes : Staged → List ℕ
-staged_bytes Nothing = 0 ∷ bytes_of version_size 0
-staged_bytes (Pending v) = 1 ∷ version_bytes v
+abbrev pub staged_bytes : Option Version → List ℕ
+staged_bytes None = 0 ∷ bytes_of version_size 0
+staged_bytes (Some v) = 1 ∷ version_bytes v
 
 -- a region: its base and its length
 abbrev pub region_bytes : Region → List ℕ
@@ -87,7 +86,7 @@ abbrev pub component_in : List ℕ → Component
 component_in q = record {
   fixed = (listed_in q).fixed;
   running = (listed_in q).running;
-  staged = cond (eqb (get_or q staged_at 0) 1) (Pending (version_at staged_version_at q)) Nothing;
+  staged = cond (eqb (get_or q staged_at 0) 1) (Some (version_at staged_version_at q)) None;
 }
 
 -- the flag of what is staged is one that a component has

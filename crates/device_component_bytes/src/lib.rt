@@ -3,10 +3,9 @@
 #![tactic(auto)]
 
 ghost use Rattle.std.specs.Prelude.{◌≡◌, cond, eqb};
-ghost use Rattle.device_component.specs.declared.record.Staged.TheVariants.{Nothing, Pending};
 ghost use Rattle.device_component_bytes.specs.Layout.{staged_bytes, component_bytes, listed_bytes, fixed_in, component_in, listed_in, staged_flag_fits};
 
-use device_component::record::{Component, Fixed, Listed, Staged};
+use device_component::record::{Component, Fixed, Listed};
 use image::region::{Region, StagingOffset};
 use wire::version::Version;
 use wire::words;
@@ -39,12 +38,12 @@ pub const STAGED_VERSION_AT: usize = STAGED_AT + 1;
 
 pub const COMPONENT_SIZE: usize = STAGED_AT + STAGED_SIZE;
 
-fn staged_bytes(s: Staged) -> [u8; STAGED_SIZE]
+fn staged_bytes(s: Option<Version>) -> [u8; STAGED_SIZE]
     ensures { result ≡ staged_bytes s }
 {
     match s {
-        Staged::Nothing => [0u8; STAGED_SIZE],
-        Staged::Pending(v) => {
+        None => [0u8; STAGED_SIZE],
+        Some(v) => {
             let b = v.bytes();
             [1, b[0], b[1], b[2], b[3]]
         }
@@ -98,14 +97,10 @@ fn fixed_in(q: &[u8]) -> Fixed
     }
 }
 
-fn staged_in(staged: u8, v: Version) -> Staged
-    ensures { result ≡ cond (eqb staged 1) (Pending v) Nothing }
+fn staged_in(staged: u8, v: Version) -> Option<Version>
+    ensures { result ≡ cond (eqb staged 1) (Some v) None }
 {
-    if staged == 1 {
-        Staged::Pending(v)
-    } else {
-        Staged::Nothing
-    }
+    (staged == 1).then_some(v)
 }
 
 // A component of the list that set-up takes. Inlined, with what it calls: where the length of what is lent is known, no byte's place is tested.

@@ -1,2 +1,3 @@
+pub mod Walks
 pub mod Stands
 pub mod Left

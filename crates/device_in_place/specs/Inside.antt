@@ -1,5 +1,6 @@
 -- What packets that no row refuses come to, over the bytes of a record. Contracts of private functions use these; no promise and no public contract does.
-use Rattle.std.specs.Prelude.{ℕ, List}
+use Rattle.std.specs.Prelude.{ℕ, List, Result}
+use Rattle.wire.specs.declared.verdict.PacketRefusal.{PacketRefusal}
 use Rattle.wire_offer.specs.declared.kind.OfferPacket.{OfferPacket}
 use Rattle.device_session.specs.Stage.{at_slot}
 use Rattle.device_receiving.specs.Receive.{on_content}
@@ -20,7 +21,7 @@ content_stored b staging report =
     (with_session_bytes (content_by b staging report).device.session b)
 
 -- what a packet of the offer channel that no row refuses comes to
-abbrev pub packet_by : (b : List ℕ) → OfferPacket → Outcome
+abbrev pub packet_by : (b : List ℕ) → Result OfferPacket PacketRefusal → Outcome
 packet_by b p =
     served_with (device_in b) (device_in b).components
     (on_packet (device_in b).platform (device_in b).count (device_in b).components (device_in b).session p)

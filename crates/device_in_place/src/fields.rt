@@ -6,9 +6,8 @@ ghost use Rattle.device_bytes.specs.Layout.{device_size, device_in};
 
 use device_bytes::component::component_of;
 use device_bytes::count_in;
-use device_component::list::{Found, within_slots};
+use device_component::list::within_slots;
 use device_component::record::Component;
-use device_slots::slot::slot_of;
 use device_slots::standing::Standing;
 
 // The component in a slot; past the last slot there is none.
@@ -20,20 +19,11 @@ pub(crate) fn component_at(b: &[u8], slot: u8) -> Component
 }
 
 // The slot of the component with this id.
-fn find_in(b: &[u8], count: u8, id: u8) -> Found
+fn find_in(b: &[u8], count: u8, id: u8) -> Option<u8>
     requires { length b.now ≡ device_size }
     ensures { result ≡ find id count (device_in b.now).components }
 {
-    let end = within_slots(count);
-    let mut i: u8 = 0;
-    while i < end {
-        let component = component_at(b, i);
-        if id == component.fixed.id {
-            return Found::At(i);
-        }
-        i += 1;
-    }
-    Found::Nothing
+    (0..within_slots(count)).find(|slot| id == component_at(b, *slot).fixed.id)
 }
 
 // A component by its id.
@@ -42,6 +32,6 @@ pub(crate) fn standing_in(b: &[u8], id: u8) -> Standing
     ensures { result ≡ standing_of id (device_in b.now).count (device_in b.now).components }
 {
     let at = find_in(b, count_in(b), id);
-    let component = component_at(b, slot_of(at));
+    let component = component_at(b, at.unwrap_or(0));
     Standing { at, component }
 }

@@ -3,7 +3,7 @@ ghost use Rattle.std.specs.Prelude.{◌≡◌, length, take, drop};
 ghost use Rattle.wire.specs.Checks.{any};
 ghost use Rattle.device_component.specs.Rules.{clash as clash_of, unsound};
 ghost use Rattle.device_session.specs.Sound.{breaks_d1};
-ghost use Rattle.device.specs.Refusals.{row_of, refusal_of};
+ghost use Rattle.device.specs.Refusals.{row_in, refusal_of};
 ghost use Rattle.device_bytes.specs.Layout.{device_size, count_in, session_in, device_in, read_device};
 
 use crate::fields::component_at;
@@ -15,23 +15,13 @@ use device_component::record::Component;
 use device_component::rule::{clash, flawed};
 use device_component::setup::{bad_count, staging_too_long};
 use device_session::sound::{owes_on, wrong_previous, wrong_slot};
-use device_slots::slot::slot_of;
 
 // A later component clashes with this one.
 fn clashes(b: &[u8], c: Component, from: u8, count: u8) -> bool
     requires { length b.now ≡ device_size }
     ensures { result ≡ any (clash_of c) (drop from (take count (device_in b.now).components)) }
 {
-    let end = within_slots(count);
-    let mut i = from;
-    while i < end {
-        let d = component_at(b, i);
-        if clash(c, d) {
-            return true;
-        }
-        i += 1;
-    }
-    false
+    (from..within_slots(count)).any(|slot| clash(c, component_at(b, slot)))
 }
 
 // Some component is flawed, or two clash.
@@ -39,16 +29,10 @@ fn some_unsound(b: &[u8], n: usize, count: u8) -> bool
     requires { length b.now ≡ device_size }
     ensures { result ≡ unsound n (take count (device_in b.now).components) }
 {
-    let end = within_slots(count);
-    let mut i: u8 = 0;
-    while i < end {
-        let c = component_at(b, i);
-        if flawed(n, c) | clashes(b, c, i + 1, count) {
-            return true;
-        }
-        i += 1;
-    }
-    false
+    (0..within_slots(count)).any(|slot| {
+        let c = component_at(b, slot);
+        flawed(n, c) | clashes(b, c, slot + 1, count)
+    })
 }
 
 // D1, for a record with a staging buffer of n bytes.
@@ -62,28 +46,28 @@ fn breaks(b: &[u8], n: usize) -> bool
     let owed = session.owed;
     let previous = session.previous;
     let slot = stage.open_slot();
-    let component = component_at(b, slot_of(slot));
+    let component = component_at(b, slot.unwrap_or(0));
     (staging_too_long(n) | bad_count(count))
         | (wrong_slot(count, component, slot)
             | (wrong_previous(stage, previous) | (owes_on(slot, owed) | some_unsound(b, n, count))))
 }
 
 // D1, D2 and D3, in this order, for a staging buffer of n bytes, a report of m bytes, and reports that are `size` bytes long.
-pub fn refusal_in(b: &[u8], size: usize, n: usize, m: usize) -> Refusal
-    ensures { row_of result ≡ refusal_of size (read_device b.now) n m }
+pub fn refusal_in(b: &[u8], size: usize, n: usize, m: usize) -> Result<(), Refusal>
+    ensures { row_in result ≡ refusal_of size (read_device b.now) n m }
 {
     if !is_record(b) {
-        return Refusal::D1;
+        return Err(Refusal::D1);
     }
     let len = staging_len_in(b) as usize;
     if breaks(b, len) {
-        return Refusal::D1;
+        return Err(Refusal::D1);
     }
     if n != len {
-        return Refusal::D2;
+        return Err(Refusal::D2);
     }
     if m != size {
-        return Refusal::D3;
+        return Err(Refusal::D3);
     }
-    Refusal::Served
+    Ok(())
 }

@@ -6,23 +6,21 @@ use Rattle.wire.proofs.Tests.{equal, both}
 use Rattle.wire.proofs.Chain.{quiet, none_applies}
 use Rattle.device_component.specs.Record.{is_pending}
 use Rattle.device_component.specs.Versions.{wrong_variant}
-use Rattle.device_component.specs.declared.record.Staged.{Staged}
-use Rattle.device_component.specs.declared.record.Staged.TheVariants as staged
-use Rattle.device_component.specs.declared.list.Found.{Found}
-use Rattle.device_component.specs.declared.list.Found.TheVariants as found
+use Rattle.std.specs.Prelude.{ℕ, Option, Some, None}
+use Rattle.wire.specs.declared.version.Version.{Version}
 use Rattle.device_slots.specs.Slots.{slot_of, is_absent}
 use Rattle.device_offering.specs.Offer.{rejections_at}
 use Rattle.device_offering.specs.Eligible.{EligibleIs}
 
 -- what was found stands in its slot
-there : (f : Found) → is_absent f ≡ false → f ≡ found.At (slot_of f)
-there found.Nothing e = absurd (true≢false e)
-there (found.At k) e = refl
+there : (f : Option ℕ) → is_absent f ≡ false → f ≡ Some (slot_of f)
+there None e = absurd (true≢false e)
+there (Some k) e = refl
 
 -- what is not pending has nothing staged
-none_staged : (x : Staged) → is_pending x ≡ false → x ≡ staged.Nothing
-none_staged staged.Nothing h = refl
-none_staged (staged.Pending v) h = absurd (true≢false h)
+none_staged : (x : Option Version) → is_pending x ≡ false → x ≡ None
+none_staged None h = refl
+none_staged (Some v) h = absurd (true≢false h)
 
 -- an offer is eligible exactly where none of checks 2 to 7 rejects it
 pub eligible_is : EligibleIs

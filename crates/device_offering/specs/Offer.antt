@@ -1,6 +1,6 @@
 -- An offer: checks 1 to 9, its reply and the session afterwards (document 01, "The device"; document 02, A1 and A5), for a device of this platform whose components in use are
 -- the first `count`.
-use Rattle.std.specs.Prelude.{ℕ, Bool, not, ◌||◌, ◌&&◌, List, [], ◌∷◌, ◌++◌, ltb, eqb}
+use Rattle.std.specs.Prelude.{ℕ, Bool, not, ◌||◌, ◌&&◌, List, [], ◌∷◌, ◌++◌, ltb, eqb, None}
 use Rattle.wire.specs.Checks.{first_of}
 use Rattle.wire.specs.Codes.{protocol_number, offer_skip, offer_accept, offer_reject, offer_busy, reject_old_fw, reject_inv_component, reject_swap_pending, reject_wrong_protocol, reject_wrong_segment, reject_wrong_variant}
 use Rattle.wire.specs.Version.{release_of}
@@ -16,7 +16,6 @@ use Rattle.device_session.specs.Stage.{is_open}
 use Rattle.device_session.specs.Effect.{blank_packet, in_stage, answered}
 use Rattle.device_session.specs.declared.stage.Stage.{Stage}
 use Rattle.device_session.specs.declared.stage.Stage.TheVariants.{Offered}
-use Rattle.device_session.specs.declared.owed.Owed.TheVariants as owed
 use Rattle.device_session.specs.declared.effect.Session.{Session}
 use Rattle.device_session.specs.declared.effect.Effect.{Effect}
 use Rattle.device_offering.specs.declared.verdict.OfferVerdict.{OfferVerdict}
@@ -80,7 +79,7 @@ after_offer session token (Accept k) = in_stage session (Offered (record { slot 
 -- what a verdict comes to: its reply, and the session afterwards
 abbrev pub on_verdict : Session → (token : ℕ) → OfferVerdict → Effect
 on_verdict session token verdict =
-    answered (reply_bytes (record { token = token; reason = reason_of verdict; status = status_of verdict })) owed.Nothing
+    answered (reply_bytes (record { token = token; reason = reason_of verdict; status = status_of verdict })) None
     (after_offer session token verdict)
 
 -- an offer, with the component that it is for and the one that it needs

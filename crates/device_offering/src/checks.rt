@@ -6,7 +6,6 @@ ghost use Rattle.device_offering.specs.Offer.{rejections_at, need_unmet_at, verd
 
 use crate::verdict::OfferVerdict;
 use device_session::stage::Stage;
-use device_slots::slot::{is_absent, slot_of};
 use device_slots::standing::Standing;
 use wire::codes;
 use wire_offer::offer::OfferFields;
@@ -18,7 +17,7 @@ fn need_unmet(needed: Standing, o: OfferFields) -> bool
     let f = needed.at;
     let component = needed.component;
     let version = component.effective();
-    (o.need != 0) & (is_absent(f) | (version.release() < o.least))
+    (o.need != 0) & (f.is_none() | (version.release() < o.least))
 }
 
 // Checks 2 to 7, that of the variant between 6 and 7, from the last to the first; where none rejects the offer, the verdict of the checks after them.
@@ -50,7 +49,7 @@ fn unless_rejected(
         OfferVerdict::Reject(codes::REJECT_INV_COMPONENT),
     );
     let three = four.unless(
-        is_absent(f),
+        f.is_none(),
         OfferVerdict::Reject(codes::REJECT_INV_COMPONENT),
     );
     three.unless(
@@ -70,7 +69,7 @@ pub fn judge_offer(
     ensures { result ≡ verdict_at platform stage target needed o }
 {
     let found = target.at;
-    let nine = OfferVerdict::Accept(slot_of(found));
+    let nine = OfferVerdict::Accept(found.unwrap_or(0));
     let eight = nine.unless(need_unmet(needed, o), OfferVerdict::Skip);
     let two = unless_rejected(platform, target, o, eight);
     two.unless(stage.is_open(), OfferVerdict::Busy)

@@ -5,7 +5,6 @@ ghost use Rattle.device_offering.specs.Offer.{after_offer, on_offer_at};
 use crate::checks::judge_offer;
 use crate::verdict::OfferVerdict;
 use device_session::effect::{Effect, Session};
-use device_session::owed::Owed;
 use device_session::stage::{Offered, Stage};
 use device_slots::standing::Standing;
 use wire::codes::LONG_SIZE;
@@ -17,12 +16,10 @@ fn after_offer(session: Session, token: u8, verdict: OfferVerdict) -> Session
     ensures { result ≡ after_offer session token verdict }
 {
     match verdict {
-        OfferVerdict::Busy => session,
-        OfferVerdict::Reject(_) => session,
-        OfferVerdict::Skip => session,
         OfferVerdict::Accept(slot) => {
             session.in_stage(Stage::Offered(Offered { slot, token }), [0u8; LONG_SIZE])
         }
+        _ => session,
     }
 }
 
@@ -44,5 +41,5 @@ pub fn on_offer(
         status: verdict.status(),
     });
     let next = after_offer(session, o.token, verdict);
-    next.answered(reply, Owed::Nothing)
+    next.answered(reply, None)
 }

@@ -6,29 +6,26 @@ use crate::offer::on_offer;
 use crate::signal::{on_extended, on_information};
 use device_session::effect::{Effect, Session};
 use device_slots::standing::Standing;
+use wire::verdict::PacketRefusal;
 use wire_offer::kind::OfferPacket;
 
 // The id of the component that a packet is for; 0, which none has, where it is no offer.
-pub fn id_of(p: OfferPacket) -> u8
+pub fn id_of(p: Result<OfferPacket, PacketRefusal>) -> u8
     ensures { result ≡ id_of p }
 {
     match p {
-        OfferPacket::Refused => 0,
-        OfferPacket::Offer(o) => o.id,
-        OfferPacket::Information(_) => 0,
-        OfferPacket::Extended(_) => 0,
+        Ok(OfferPacket::Offer(o)) => o.id,
+        _ => 0,
     }
 }
 
 // The id of the component that it needs, or 0.
-pub fn need_of(p: OfferPacket) -> u8
+pub fn need_of(p: Result<OfferPacket, PacketRefusal>) -> u8
     ensures { result ≡ need_of p }
 {
     match p {
-        OfferPacket::Refused => 0,
-        OfferPacket::Offer(o) => o.need,
-        OfferPacket::Information(_) => 0,
-        OfferPacket::Extended(_) => 0,
+        Ok(OfferPacket::Offer(o)) => o.need,
+        _ => 0,
     }
 }
 
@@ -38,14 +35,14 @@ pub fn on_packet(
     session: Session,
     target: Standing,
     needed: Standing,
-    p: OfferPacket,
+    p: Result<OfferPacket, PacketRefusal>,
 ) -> Effect
     ensures { result ≡ on_packet_at platform session target needed p }
 {
     match p {
-        OfferPacket::Refused => session.silent(),
-        OfferPacket::Offer(o) => on_offer(platform, session, target, needed, o),
-        OfferPacket::Information(s) => on_information(session, s),
-        OfferPacket::Extended(s) => on_extended(session, s),
+        Err(_) => session.silent(),
+        Ok(OfferPacket::Offer(o)) => on_offer(platform, session, target, needed, o),
+        Ok(OfferPacket::Information(s)) => on_information(session, s),
+        Ok(OfferPacket::Extended(s)) => on_extended(session, s),
     }
 }

@@ -4,7 +4,6 @@ ghost use Rattle.device_session.specs.Stage.{is_open};
 ghost use Rattle.device_offering.specs.Signal.{plain_reply, on_information, on_notify, on_extended};
 
 use device_session::effect::{Effect, Session};
-use device_session::owed::Owed;
 use wire::codes;
 use wire_offer::reply::{OfferReply, build_offer_reply};
 use wire_offer::signal::Signal;
@@ -18,7 +17,7 @@ fn plain_reply(session: Session, token: u8, status: u8) -> Effect
         reason: 0,
         status,
     });
-    session.answered(reply, Owed::Nothing)
+    session.answered(reply, None)
 }
 
 // Code 0 makes the session idle and drops an owed reply; codes 1 and 2 change nothing; others are unsupported.
@@ -43,11 +42,11 @@ fn on_notify(session: Session, token: u8) -> Effect
     let owed = session.owed;
     if stage.is_open() {
         match owed {
-            Owed::Nothing => {
-                let next = session.owing(Owed::Token(token));
+            None => {
+                let next = session.owing(Some(token));
                 next.silent()
             }
-            Owed::Token(_) => plain_reply(session, token, codes::OFFER_BUSY),
+            Some(_) => plain_reply(session, token, codes::OFFER_BUSY),
         }
     } else {
         plain_reply(session, token, codes::OFFER_READY)

@@ -39,10 +39,8 @@ impl OfferVerdict {
         ensures { result ≡ reason_of self }
     {
         match self {
-            OfferVerdict::Busy => 0,
             OfferVerdict::Reject(r) => r,
-            OfferVerdict::Skip => 0,
-            OfferVerdict::Accept(_) => 0,
+            _ => 0,
         }
     }
 }

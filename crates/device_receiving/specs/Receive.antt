@@ -1,6 +1,6 @@
 -- The answer to a content packet: its reply, the READY that was owed, and the session, its component and the staging buffer afterwards (document 01,
 -- "The device"; document 02, A4).
-use Rattle.std.specs.Prelude.{ℕ, cond, List, drop}
+use Rattle.std.specs.Prelude.{ℕ, cond, List, drop, Option, None}
 use Rattle.wire.specs.Bytes.{copy_of}
 use Rattle.wire.specs.Codes.{success_status, data_at}
 use Rattle.wire_content.specs.Head.{head_in}
@@ -10,8 +10,6 @@ use Rattle.device_component.specs.declared.record.Component.{Component}
 use Rattle.device_session.specs.Stage.{at_token, following}
 use Rattle.device_session.specs.Effect.{blank_packet, idle, in_stage, answered}
 use Rattle.device_session.specs.declared.stage.Stage.TheVariants.{Receiving}
-use Rattle.device_session.specs.declared.owed.Owed.{Owed}
-use Rattle.device_session.specs.declared.owed.Owed.TheVariants as owed
 use Rattle.device_session.specs.declared.effect.Session.{Session}
 use Rattle.device_session.specs.declared.effect.Effect.{Effect}
 use Rattle.device_receiving.specs.declared.checks.ContentVerdict.{ContentVerdict}
@@ -21,7 +19,7 @@ use Rattle.device_receiving.specs.Content.{is_last, is_copy, content_verdict, ta
 use Rattle.device_receiving.specs.Finish.{finish}
 
 -- the reply to a block
-abbrev pub block_reply : (sequence status : ℕ) → Owed → Session → Effect
+abbrev pub block_reply : (sequence status : ℕ) → Option ℕ → Session → Effect
 block_reply sequence status ready session = answered (reply_bytes (record { sequence = sequence; status = status })) ready session
 
 -- the packet that the session holds after a block: its 60 bytes; what is not 60 bytes long is no packet
@@ -38,7 +36,7 @@ unfoldable pub on_block : Component → Session → (slot : ℕ) → (report s :
 on_block c session slot report s =
     cond (is_last (head_in report))
     (record { effect = block_reply (head_in report).sequence (finish c s).status session.owed idle; component = (finish c s).component })
-    (record { effect = block_reply (head_in report).sequence success_status owed.Nothing (goes_on session slot report); component = c })
+    (record { effect = block_reply (head_in report).sequence success_status None (goes_on session slot report); component = c })
 
 -- the staging buffer after a taken block: its data stand behind the head
 abbrev pub written : Region → (report s : List ℕ) → List ℕ
@@ -46,7 +44,7 @@ written region report s = take_block region (head_in report) (drop data_at repor
 
 -- an answer of checks 1 to 5 changes nothing
 abbrev pub on_verdict : Component → Session → (report s : List ℕ) → ContentVerdict → Taken
-on_verdict c session report s (Answer status) = record { effect = block_reply (head_in report).sequence status owed.Nothing session; component = c }
+on_verdict c session report s (Answer status) = record { effect = block_reply (head_in report).sequence status None session; component = c }
 on_verdict c session report s (Take slot) = on_block c session slot report (written c.fixed.region report s)
 
 abbrev pub staging_by : Region → (report s : List ℕ) → ContentVerdict → List ℕ

@@ -3,7 +3,7 @@ ghost use Rattle.std.specs.Prelude.{◌≡◌};
 ghost use Rattle.wire_content.specs.Head.{head_in};
 ghost use Rattle.device_receiving.specs.Content.{is_first, is_last, is_copy, no_offer, bad_shape, bad_first, sent_again, bad_sequence, bad_address, content_verdict};
 
-use device_session::stage::Stage;
+use device_session::stage::{SequenceVerdict, Stage};
 use image::region::Region;
 use wire::codes::LONG_SIZE;
 use wire::{codes, words};
@@ -67,16 +67,14 @@ pub(crate) fn is_copy(previous: [u8; LONG_SIZE], report: &[u8], c: ContentHead) 
 fn sent_again(stage: Stage, copy: bool, c: ContentHead) -> bool
     ensures { result ≡ sent_again stage copy c }
 {
-    let verdict = stage.sequence_verdict(copy, c.sequence);
-    verdict.is_again()
+    stage.sequence_verdict(copy, c.sequence) == SequenceVerdict::Again
 }
 
 // Check 4: receiving, and the sequence is wrong.
 fn bad_sequence(stage: Stage, copy: bool, c: ContentHead) -> bool
     ensures { result ≡ bad_sequence stage copy c }
 {
-    let verdict = stage.sequence_verdict(copy, c.sequence);
-    verdict.is_wrong()
+    stage.sequence_verdict(copy, c.sequence) == SequenceVerdict::Wrong
 }
 
 // Check 5: address and length past the region of the session's component.

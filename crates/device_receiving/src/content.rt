@@ -8,7 +8,6 @@ use crate::checks::{ContentVerdict, is_copy, is_last, judge_content};
 use crate::finish::finish;
 use device_component::record::Component;
 use device_session::effect::{Effect, Session};
-use device_session::owed::Owed;
 use device_session::stage::{Receiving, Stage};
 use image::region::Region;
 use wire::codes::{DATA_AT, LONG_SIZE};
@@ -24,7 +23,7 @@ pub struct Taken {
 }
 
 // The reply to a block, and then the READY that was owed.
-fn block_reply(session: Session, sequence: u16, status: u8, ready: Owed) -> Effect
+fn block_reply(session: Session, sequence: u16, status: u8, ready: Option<u8>) -> Effect
     ensures { result ≡ block_reply sequence status ready session }
 {
     let reply = build_content_reply(ContentReply { sequence, status });
@@ -76,7 +75,7 @@ fn on_block(
         }
     } else {
         let on = goes_on(session, slot, c, report);
-        let effect = block_reply(on, c.sequence, codes::SUCCESS, Owed::Nothing);
+        let effect = block_reply(on, c.sequence, codes::SUCCESS, None);
         Taken { effect, component }
     }
 }
@@ -104,7 +103,7 @@ pub fn on_report(component: Component, session: Session, report: &[u8], staging:
     let verdict = judge_content(region, stage, copy, c);
     match verdict {
         ContentVerdict::Answer(status) => {
-            let effect = block_reply(session, c.sequence, status, Owed::Nothing);
+            let effect = block_reply(session, c.sequence, status, None);
             Taken { effect, component }
         }
         ContentVerdict::Take(slot) => {

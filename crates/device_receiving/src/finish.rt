@@ -3,7 +3,7 @@ ghost use Rattle.std.specs.Prelude.{◌≡◌};
 ghost use Rattle.device_receiving.specs.Finish.{finish as finish_of};
 
 use device_component::record::Component;
-use image::judge::Image;
+use image::judge::ImageFault;
 use wire::codes;
 
 // What a finished image comes to.
@@ -21,15 +21,16 @@ fn failed(component: Component, status: u8) -> Finished
 }
 
 // The only place that judges and stages.
+#[tactic(auto, unfolding(crate::specs::Finish::finish))]
 pub(crate) fn finish(component: Component, staging: &[u8]) -> Finished
     ensures { result ≡ finish_of component staging.now }
 {
     let region = component.fixed.region;
     let judged = region.image(staging, component.fixed.id);
     match judged {
-        Image::Damaged => failed(component, codes::ERROR_CRC),
-        Image::Foreign => failed(component, codes::ERROR_VERIFY),
-        Image::Bears(version) => {
+        Err(ImageFault::Damaged) => failed(component, codes::ERROR_CRC),
+        Err(ImageFault::Foreign) => failed(component, codes::ERROR_VERIFY),
+        Ok(version) => {
             if component.image_version_fits(version) {
                 let staged = component.with_staged(version);
                 Finished {

@@ -11,8 +11,8 @@ use Rattle.wire.specs.declared.version.Version.{Version}
 use Rattle.wire_content.specs.Head.{head_in}
 use Rattle.image.specs.Judge.{image_in}
 use Rattle.image.specs.Region.{region_bytes}
-use Rattle.image.specs.declared.judge.Image.TheVariants.{Bears}
-use Rattle.device_component.specs.declared.setup.SetupVerdict.{SetupVerdict}
+use Rattle.std.specs.Prelude.{Ok}
+use Rattle.device_component.specs.Setup.{SetupVerdict}
 use Rattle.device_component.specs.declared.record.Component.{Component}
 use Rattle.device_slots.specs.Slots.{slot_of}
 use Rattle.device_session.specs.Stage.{at_slot}
@@ -94,7 +94,7 @@ module _ (P : Component → Version → Type 0) (a b : VersionRules) (rows rows'
           images slot z w l v m =
               let e = checks_as d report ∙ w in
               let says = subst
-              (λ (k : ℕ). image_in (region_bytes (component d k).fixed.region (contents.content_staging d staging report)) (component d k).fixed.id ≡ Bears v → P (component d k) v)
+              (λ (k : ℕ). image_in (region_bytes (component d k).fixed.region (contents.content_staging d staging report)) (component d k).fixed.id ≡ Ok v → P (component d k) v)
               (taken_slot d report slot e)
               (g slot v (row_as one d own staging report z) e l) in
               (agree (session_component d) v (says (rw (after_as one d own staging report z slot e) m))).2

@@ -9,14 +9,14 @@ use Rattle.wire.specs.Checks.{first_of}
 use Rattle.wire.specs.Codes.{short_size, long_size}
 use Rattle.wire_offer.specs.Kind.{Kind, offer, information, extended, kind_in}
 use Rattle.wire_content.specs.Head.{head_in}
-use Rattle.image.specs.Judge.{image_in}
+use Rattle.image.specs.Judge.{Image, image_in}
 use Rattle.image.specs.Region.{region_bytes}
-use Rattle.image.specs.declared.judge.Image.{Image}
-use Rattle.image.specs.declared.judge.Image.TheVariants.{Damaged, Foreign, Bears}
+use Rattle.image.specs.declared.judge.ImageFault.TheVariants.{Damaged, Foreign}
+use Rattle.std.specs.Prelude.{Ok, Err}
 use Rattle.device_component.specs.Versions as rule
 use Rattle.device_component.specs.declared.record.Component.{Component}
-use Rattle.device_component.specs.declared.record.Staged.{Staged}
-use Rattle.device_component.specs.declared.record.Staged.TheVariants.{Nothing, Pending}
+use Rattle.std.specs.Prelude.{Option, Some, None}
+use Rattle.wire.specs.declared.version.Version.{Version}
 use Rattle.device_session.specs.Sound as sound
 use Rattle.device_session.specs.declared.effect.Session.{Session}
 use Rattle.device_offering.specs.Offer as offering
@@ -41,9 +41,9 @@ use Rattle.device_rules.specs.Promises.{RulesInForceAnswer}
 use Rattle.device_rules.proofs.Same.{any_same}
 
 -- each part is the entry's own
-staged_as : (c : Component) (s : Staged) → not (rule.keeps_staged c s) ≡ not (keeps_staged_by in_force c s)
-staged_as c Nothing = refl
-staged_as c (Pending v) = refl
+staged_as : (c : Component) (s : Option Version) → not (rule.keeps_staged c s) ≡ not (keeps_staged_by in_force c s)
+staged_as c None = refl
+staged_as c (Some v) = refl
 
 pub d1_as : (d : Device) → refusals.breaks_d1 d ≡ breaks_d1_by in_force d
 unfolding sound.breaks_d1
@@ -62,9 +62,9 @@ kind_as d (information s) = refl
 kind_as d (extended s) = refl
 
 judge_as : (c : Component) (m : Image) → finishing.judge c m ≡ judge_by in_force c m
-judge_as c Damaged = refl
-judge_as c Foreign = refl
-judge_as c (Bears v) = refl
+judge_as c (Err Damaged) = refl
+judge_as c (Err Foreign) = refl
+judge_as c (Ok v) = refl
 
 pub checks_as : (d : Device) (report : List ℕ) → contents.content_verdict d report ≡ verdict_on_by in_force d report
 unfolding content_verdict

@@ -13,16 +13,13 @@ use Rattle.wire_offer.specs.Kind.{Kind, offer, information, extended, kind_in}
 use Rattle.wire_offer.specs.declared.offer.OfferFields.{OfferFields}
 use Rattle.wire_content.specs.Head.{head_in}
 use Rattle.image.specs.Region.{region_bytes}
-use Rattle.image.specs.Judge.{image_in}
-use Rattle.image.specs.declared.judge.Image.{Image}
-use Rattle.image.specs.declared.judge.Image.TheVariants.{Damaged, Foreign, Bears}
+use Rattle.image.specs.Judge.{Image, image_in}
+use Rattle.image.specs.declared.judge.ImageFault.TheVariants.{Damaged, Foreign}
+use Rattle.std.specs.Prelude.{Ok, Err}
 use Rattle.device_component.specs.Lists.{component_at}
 use Rattle.device_component.specs.Record.{with_staged}
 use Rattle.device_component.specs.declared.record.Component.{Component}
-use Rattle.device_component.specs.declared.record.Staged.{Staged}
-use Rattle.device_component.specs.declared.record.Staged.TheVariants.{Nothing, Pending}
-use Rattle.device_component.specs.declared.list.Found.{Found}
-use Rattle.device_component.specs.declared.list.Found.TheVariants as found
+use Rattle.std.specs.Prelude.{Option, Some, None}
 use Rattle.device_offering.specs.Offer as on_offer
 use Rattle.device_offering.specs.declared.verdict.OfferVerdict.{OfferVerdict}
 use Rattle.device_receiving.specs.Content.{is_last}
@@ -49,7 +46,7 @@ any_same p q (suc n) (c ∷ cs) h = ap₂ (λ (a b : Bool). a || b) (h zero (ome
 module _ (r r' : Rules) (d : Device) where
   -- they agree on what is staged
   abbrev pub StagedSame : Type 0
-  StagedSame = (k : ℕ) (v : Version) → k < d.count → (component d k).staged ≡ Pending v
+  StagedSame = (k : ℕ) (v : Version) → k < d.count → (component d k).staged ≡ Some v
       → r.versions.staged_fits (component d k) v ≡ r'.versions.staged_fits (component d k) v
 
   -- and on the previous packet
@@ -64,10 +61,10 @@ module _ (r r' : Rules) (d : Device) where
   pub d1_same : StagedSame → HeldSame → SetupSame → breaks_d1_by r d ≡ breaks_d1_by r' d
   d1_same h p s = rw (s, any_same (λ (c : Component). not (keeps_staged_by r c c.staged)) (λ (c : Component). not (keeps_staged_by r' c c.staged)) d.count d.components (λ k l. each k l (component d k).staged refl), p) refl
     where
-      each : (k : ℕ) → k < d.count → (s : Staged) → (component d k).staged ≡ s
+      each : (k : ℕ) → k < d.count → (s : Option Version) → (component d k).staged ≡ s
           → not (keeps_staged_by r (component d k) (component d k).staged) ≡ not (keeps_staged_by r' (component d k) (component d k).staged)
-      each k l Nothing e = rw e
-      each k l (Pending v) e = rw e (ap not (h k v l e))
+      each k l None e = rw e
+      each k l (Some v) e = rw e (ap not (h k v l e))
 
   -- so have D1 to D3
   refusal_same : breaks_d1_by r d ≡ breaks_d1_by r' d → (size n m : ℕ) → refusal_by r size d n m ≡ refusal_by r' size d n m
@@ -75,7 +72,7 @@ module _ (r r' : Rules) (d : Device) where
 
   -- they agree on the version of an offer for a listed component
   abbrev pub OfferedSame : OfferFields → Type 0
-  OfferedSame o = (k : ℕ) → find d o.id ≡ found.At k
+  OfferedSame o = (k : ℕ) → find d o.id ≡ Some k
       → (r.versions.wrong_variant (component d k) o.version ≡ r'.versions.wrong_variant (component d k) o.version)
       × (r.versions.too_low (component d k) o.version ≡ r'.versions.too_low (component d k) o.version)
 
@@ -84,9 +81,9 @@ module _ (r r' : Rules) (d : Device) where
   unfolding first_of
   verdict_same o h = go (find d o.id) refl
     where
-      go : (f : Found) → find d o.id ≡ f → offer_verdict_by r d o ≡ offer_verdict_by r' d o
-      go found.Nothing e = rw e refl
-      go (found.At k) e = rw e (rw ((h k e).0, (h k e).1) refl)
+      go : (f : Option ℕ) → find d o.id ≡ f → offer_verdict_by r d o ≡ offer_verdict_by r' d o
+      go None e = rw e refl
+      go (Some k) e = rw e (rw ((h k e).0, (h k e).1) refl)
 
   -- an offer packet is answered alike
   kind_same : (x : Kind) → ((o : OfferFields) → x ≡ offer o → OfferedSame o) → on_kind_by r d x ≡ on_kind_by r' d x
@@ -101,12 +98,12 @@ module _ (r r' : Rules) (d : Device) where
 
   -- they agree on the version of a judged image
   abbrev pub JudgedSame : Component → Image → Type 0
-  JudgedSame c m = (v : Version) → m ≡ Bears v → r.versions.image_fits c v ≡ r'.versions.image_fits c v
+  JudgedSame c m = (v : Version) → m ≡ Ok v → r.versions.image_fits c v ≡ r'.versions.image_fits c v
 
   judge_same : (c : Component) (m : Image) → JudgedSame c m → judge_by r c m ≡ judge_by r' c m
-  judge_same c Damaged h = refl
-  judge_same c Foreign h = refl
-  judge_same c (Bears v) h =
+  judge_same c (Err Damaged) h = refl
+  judge_same c (Err Foreign) h = refl
+  judge_same c (Ok v) h =
       ap (λ (b : Bool). cond {A = Finished} b (record { status = success_status; component = with_staged c v }) (record { status = error_version; component = c })) (h v refl)
 
   module _ (staging report : List ℕ) where

@@ -7,9 +7,8 @@ use lib.Dec.{eqb}
 use Rattle.wire.specs.Checks.{first_of}
 use Rattle.wire.specs.Codes.{success_status, error_invalid_addr, error_no_offer, error_invalid}
 use Rattle.wire_content.specs.Head.{head_in}
-use Rattle.device_component.specs.Setup.{setup_verdict}
+use Rattle.device_component.specs.Setup.{SetupVerdict, setup_verdict}
 use Rattle.device_component.specs.declared.record.Component.{Component}
-use Rattle.device_component.specs.declared.setup.SetupVerdict.{SetupVerdict}
 use Rattle.device_session.specs.Stage.{sequence_verdict, is_again, is_wrong, at_slot}
 use Rattle.device_session.specs.Sound.{holds_wrong}
 use Rattle.device_session.specs.declared.stage.Stage.{Stage}

@@ -11,8 +11,7 @@ use Rattle.wire.proofs.Tests.{both, equal}
 use Rattle.device_component.specs.Setup.{setup_verdict}
 use Rattle.device_component.specs.Versions as rule
 use Rattle.device_component.specs.declared.record.Component.{Component}
-use Rattle.device_component.specs.declared.record.Staged.{Staged}
-use Rattle.device_component.specs.declared.record.Staged.TheVariants.{Pending}
+use Rattle.std.specs.Prelude.{Option, Some}
 use Rattle.device_session.proofs.sound.Laws.{passes}
 use Rattle.device.specs.Record.{component}
 use Rattle.device.proofs.Lists.{none_below}
@@ -48,9 +47,9 @@ one_variant_as_before d staging call h g =
     rules_in_force_answer.calls d staging call ∙ alike OneVariant rules.versions (with_floor versions01) setup_verdict setup_verdict agree_floor d staging refl call (d1_as d) h g
 
 -- where D1's last clause does not apply, what is staged has the running variant
-fits_one : (c : Component) (s : Staged) (v : Version) → not (rule.keeps_staged c s) ≡ false → s ≡ Pending v → OneVariant c v
+fits_one : (c : Component) (s : Option Version) (v : Version) → not (rule.keeps_staged c s) ≡ false → s ≡ Some v → OneVariant c v
 fits_one c s v k e =
-    let fits : rule.keeps_staged c (Pending v) ≡ true = subst (λ (x : Staged). rule.keeps_staged c x ≡ true) e (not-false _ k) in
+    let fits : rule.keeps_staged c (Some v) ≡ true = subst (λ (x : Option Version). rule.keeps_staged c x ≡ true) e (not-false _ k) in
     equal _ _ (not-true _ (both (not (rule.wrong_variant c v)) _ (both (not (rule.wrong_variant c v) && leb (release_of c.running) (release_of v)) _ fits).0).0)
 
 pub sound_staged_one : SoundStagedOne

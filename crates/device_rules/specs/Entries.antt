@@ -1,6 +1,6 @@
 -- The device's entries over any rules on versions, sequences and set-up: each definition that asks such a rule, with the rules for a parameter; what asks none is taken
 -- as it stands. With the rules in force the answers are the entries' own (`RulesInForceAnswer`); with other rules some answers differ (`A1Differs`, `A4Differs`, `A5Differs`).
-use Rattle.std.specs.Prelude.{ℕ, Bool, true, not, cond, ◌||◌, List, [], ◌∷◌, ◌++◌, map, eqb, length, take, replicate}
+use Rattle.std.specs.Prelude.{ℕ, Bool, true, not, cond, ◌||◌, List, [], ◌∷◌, ◌++◌, map, eqb, length, take, replicate, Option, Some, None}
 use Rattle.wire.specs.Checks.{first_of, any}
 use Rattle.wire.specs.Codes.{protocol_number, short_size, long_size, reject_old_fw, reject_inv_component, reject_swap_pending, reject_wrong_protocol, reject_wrong_segment, reject_wrong_variant, success_status, error_version, error_invalid_addr, error_no_offer, error_invalid}
 use Rattle.wire_version.specs.Reply.{reply_size, reply_bytes}
@@ -8,17 +8,16 @@ use Rattle.wire_offer.specs.Kind.{Kind, offer, information, extended, kind_in}
 use Rattle.wire_offer.specs.declared.offer.OfferFields.{OfferFields}
 use Rattle.wire_content.specs.Head.{head_in}
 use Rattle.wire_content.specs.declared.head.ContentHead.{ContentHead}
+use Rattle.wire.specs.declared.version.Version.{Version}
 use Rattle.image.specs.Region.{region_bytes}
-use Rattle.image.specs.Judge.{image_in}
+use Rattle.image.specs.Judge.{Image, image_in}
 use Rattle.image.specs.declared.region.Region.{Region}
-use Rattle.image.specs.declared.judge.Image.{Image}
-use Rattle.image.specs.declared.judge.Image.TheVariants.{Damaged, Foreign, Bears}
+use Rattle.image.specs.declared.judge.ImageFault.TheVariants.{Damaged, Foreign}
+use Rattle.std.specs.Prelude.{Ok, Err}
 use Rattle.device_component.specs.Record.{is_pending, listed, with_staged}
 use Rattle.device_component.specs.Setup.{is_refused, row_of}
 use Rattle.device_component.specs.declared.record.Component.{Component}
 use Rattle.device_component.specs.declared.record.Listed.{Listed}
-use Rattle.device_component.specs.declared.record.Staged.{Staged}
-use Rattle.device_component.specs.declared.record.Staged.TheVariants.{Nothing, Pending}
 use Rattle.device_slots.specs.Slots.{slot_of, is_absent, reset_components, running_of}
 use Rattle.device_slots.specs.Standing.{standing_of}
 use Rattle.device_slots.specs.declared.standing.Standing.{Standing}
@@ -26,7 +25,6 @@ use Rattle.device_session.specs.Stage.{is_open, at_slot, is_again, is_wrong}
 use Rattle.device_session.specs.Effect.{idle}
 use Rattle.device_session.specs.Sound.{opens_wrong, owes_idle}
 use Rattle.device_session.specs.declared.stage.Stage.{Stage}
-use Rattle.device_session.specs.declared.owed.Owed.TheVariants as owed
 use Rattle.device_session.specs.declared.effect.Session.{Session}
 use Rattle.device_offering.specs.Offer as offering
 use Rattle.device_offering.specs.declared.verdict.OfferVerdict.{OfferVerdict}
@@ -57,9 +55,9 @@ module _ (rules : Rules) where
   set_up_by platform list count n = set_up_on (row_of (rules.setup n count (map listed list))) (new_device platform list count n)
 
   -- D1
-  abbrev pub keeps_staged_by : Component → Staged → Bool
-  keeps_staged_by c Nothing = true
-  keeps_staged_by c (Pending v) = rules.versions.staged_fits c v
+  abbrev pub keeps_staged_by : Component → Option Version → Bool
+  keeps_staged_by c None = true
+  keeps_staged_by c (Some v) = rules.versions.staged_fits c v
 
   abbrev pub breaks_d1_by : Device → Bool
   breaks_d1_by d =
@@ -100,9 +98,9 @@ module _ (rules : Rules) where
 
   -- image judgement
   abbrev pub judge_by : Component → Image → Finished
-  judge_by c Damaged = finishing.judge c Damaged
-  judge_by c Foreign = finishing.judge c Foreign
-  judge_by c (Bears v) =
+  judge_by c (Err Damaged) = finishing.judge c (Err Damaged)
+  judge_by c (Err Foreign) = finishing.judge c (Err Foreign)
+  judge_by c (Ok v) =
       cond (rules.versions.image_fits c v) (record { status = success_status; component = with_staged c v }) (record { status = error_version; component = c })
 
   abbrev pub finish_by : Component → (s : List ℕ) → Finished
@@ -130,7 +128,7 @@ module _ (rules : Rules) where
   on_block_by c session slot report s =
       cond (is_last (head_in report))
       (record { effect = block_reply (head_in report).sequence (finish_by c s).status session.owed idle; component = (finish_by c s).component })
-      (record { effect = block_reply (head_in report).sequence success_status owed.Nothing (goes_on session slot report); component = c })
+      (record { effect = block_reply (head_in report).sequence success_status None (goes_on session slot report); component = c })
 
   abbrev pub on_content_verdict_by : Component → Session → (report s : List ℕ) → ContentVerdict → Taken
   on_content_verdict_by c session report s (Answer status) = receiving.on_verdict c session report s (Answer status)

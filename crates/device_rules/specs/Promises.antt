@@ -1,7 +1,7 @@
 -- What document 02 leaves as it is: where versions have the variant that their component runs, every call answers as by document 01's rules on versions, with the
 -- floors beside them (A1); every call on a record that D1's new clause lets pass, but a block sent again, answers as by document 01's rules on sequences (A4); and
 -- where every floor is 0, set-up and every call answer as without floors (A5).
-use Rattle.std.specs.Prelude.{ℕ, ◌<◌, ◌≡◌, true, false, List, map}
+use Rattle.std.specs.Prelude.{ℕ, ◌<◌, ◌≡◌, true, false, List, map, Some}
 use Rattle.wire.specs.Codes.{success_status, error_invalid}
 use Rattle.wire.specs.Version.{variant_of}
 use Rattle.wire.specs.declared.version.Version.{Version}
@@ -10,13 +10,11 @@ use Rattle.wire_offer.specs.declared.offer.OfferFields.{OfferFields}
 use Rattle.wire_content.specs.Head.{head_in}
 use Rattle.image.specs.Region.{region_bytes}
 use Rattle.image.specs.Judge.{image_in}
-use Rattle.image.specs.declared.judge.Image.TheVariants.{Bears}
+use Rattle.std.specs.Prelude.{Ok}
 use Rattle.device_component.specs.Lists.{component_at}
 use Rattle.device_component.specs.Record.{listed}
 use Rattle.device_component.specs.declared.record.Component.{Component}
 use Rattle.device_component.specs.declared.record.Listed.{Listed}
-use Rattle.device_component.specs.declared.record.Staged.TheVariants.{Pending}
-use Rattle.device_component.specs.declared.list.Found.TheVariants.{At}
 use Rattle.device_session.specs.Sound.{holds_wrong}
 use Rattle.device_receiving.specs.Content.{is_last, is_copy, sent_again}
 use Rattle.device_receiving.specs.declared.checks.ContentVerdict.TheVariants.{Answer, Take}
@@ -42,15 +40,15 @@ OneVariant c v = variant_of v ≡ variant_of c.running
 
 -- P holds of what is staged of each listed component
 abbrev pub AllStaged : (P : Component → Version → Type 0) → Device → Type 0
-AllStaged P d = (k : ℕ) (v : Version) → k < d.count → (component d k).staged ≡ Pending v → P (component d k) v
+AllStaged P d = (k : ℕ) (v : Version) → k < d.count → (component d k).staged ≡ Some v → P (component d k) v
 
 -- P holds of what a call brings to a component: the version of an offer for a listed component; and that of an image, with a right CRC and the component's id,
 -- which a last block, where it is taken, leaves in the region of the session's component
 abbrev pub Brings : (P : Component → Version → Type 0) → Device → (staging : List ℕ) → Call → Type 0
-Brings P d staging (packet Offer report) = (o : OfferFields) (k : ℕ) → kind_in report ≡ offer o → find d o.id ≡ At k → P (component d k) o.version
+Brings P d staging (packet Offer report) = (o : OfferFields) (k : ℕ) → kind_in report ≡ offer o → find d o.id ≡ Some k → P (component d k) o.version
 Brings P d staging (packet Content report) = (k : ℕ) (v : Version) → (content_entry d staging report).row ≡ served → content_verdict d report ≡ Take k
     → is_last (head_in report) ≡ true
-    → image_in (region_bytes (component d k).fixed.region (content_staging d staging report)) (component d k).fixed.id ≡ Bears v → P (component d k) v
+    → image_in (region_bytes (component d k).fixed.region (content_staging d staging report)) (component d k).fixed.id ≡ Ok v → P (component d k) v
 Brings P d staging versions = Unit {0}
 Brings P d staging reset = Unit {0}
 

@@ -1,14 +1,13 @@
 -- The rules that document 02 amends, as values, those of document 01 and those in force: on versions (A1), on the sequence of a block (A4), and on floors,
 -- against which versions and set-up's list are tested (A5).
-use Rattle.std.specs.Prelude.{ℕ, Bool, false, not, cond, ◌||◌, ◌&&◌, List, [], ◌∷◌, leb, eqb, take}
+use Rattle.std.specs.Prelude.{ℕ, Bool, false, not, cond, ◌||◌, ◌&&◌, List, [], ◌∷◌, leb, eqb, take, Ok, Err}
 use Rattle.wire.specs.Checks.{first_of}
 use Rattle.wire.specs.Version.{release_of}
 use Rattle.wire.specs.declared.version.Version.{Version}
 use Rattle.device_component.specs.Versions as amended
-use Rattle.device_component.specs.Setup.{staging_too_long, bad_count, bad_ids, bad_regions, setup_verdict}
+use Rattle.device_component.specs.Setup.{staging_too_long, bad_count, bad_ids, bad_regions, SetupVerdict, setup_verdict}
 use Rattle.device_component.specs.declared.record.Component.{Component}
-use Rattle.device_component.specs.declared.setup.SetupVerdict.{SetupVerdict}
-use Rattle.device_component.specs.declared.setup.SetupVerdict.TheVariants.{Fine, S1, S2, S3, S4}
+use Rattle.device_component.specs.declared.setup.SetupRow.TheVariants.{S1, S2, S3, S4}
 use Rattle.device_session.specs.Stage as stages
 use Rattle.device_session.specs.Sound as sound
 use Rattle.device_session.specs.declared.stage.Stage.{Stage}
@@ -82,12 +81,12 @@ sequences01 = record { judged = expected; wrong_previous = λ stage previous. fa
 abbrev pub setup01 : (n count : ℕ) → List Component → SetupVerdict
 setup01 n count components =
     first_of (
-    (staging_too_long n, S1)
-    ∷ (bad_count count, S2)
-    ∷ (bad_ids (take count components), S3)
-    ∷ (bad_regions n (take count components), S4)
+    (staging_too_long n, Err S1)
+    ∷ (bad_count count, Err S2)
+    ∷ (bad_ids (take count components), Err S3)
+    ∷ (bad_regions n (take count components), Err S4)
     ∷ [])
-    Fine
+    (Ok tt)
 
 -- a set of the three
 pub record Rules : Type 0 where

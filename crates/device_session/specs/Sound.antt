@@ -1,5 +1,5 @@
 -- Row D1, clause by clause (document 01, "Numbered refusals"; document 02: its last clause as A1 and A5 read it, and A4's clause on the previous packet).
-use Rattle.std.specs.Prelude.{ℕ, Bool, false, not, ◌||◌, List, take, ◌==◌, nat_le}
+use Rattle.std.specs.Prelude.{ℕ, Bool, false, not, ◌||◌, List, take, ◌==◌, nat_le, Option, Some, None}
 use Rattle.wire.specs.Checks.{any}
 use Rattle.wire_content.specs.Head.{head_in}
 use Rattle.device_component.specs.Record.{is_pending}
@@ -7,12 +7,9 @@ use Rattle.device_component.specs.Lists.{component_at}
 use Rattle.device_component.specs.Versions.{keeps_staged}
 use Rattle.device_component.specs.Setup.{is_refused, setup_verdict}
 use Rattle.device_component.specs.declared.record.Component.{Component}
-use Rattle.device_component.specs.declared.list.Found.{Found}
-use Rattle.device_component.specs.declared.list.Found.TheVariants as found
 use Rattle.device_slots.specs.Slots.{slot_of}
 use Rattle.device_session.specs.declared.stage.Stage.{Stage}
 use Rattle.device_session.specs.declared.stage.Stage.TheVariants.{Idle, Offered, Receiving}
-use Rattle.device_session.specs.declared.owed.Owed.{Owed}
 use Rattle.device_session.specs.declared.effect.Session.{Session}
 use Rattle.device_session.specs.Stage.{open_slot, following}
 use Rattle.device_session.specs.Owed.{owes}
@@ -22,9 +19,9 @@ abbrev pub breaks_setup : (n count : ℕ) → List Component → Bool
 breaks_setup n count components = is_refused (setup_verdict n count components)
 
 -- opens on a slot that is unlisted, or whose component, c, is pending
-abbrev pub wrong_slot : (count : ℕ) → Component → Found → Bool
-wrong_slot count c found.Nothing = false
-wrong_slot count c (found.At k) = nat_le count k || is_pending c.staged
+abbrev pub wrong_slot : (count : ℕ) → Component → Option ℕ → Bool
+wrong_slot count c None = false
+wrong_slot count c (Some k) = nat_le count k || is_pending c.staged
 
 abbrev pub opens_wrong : (count : ℕ) → List Component → Session → Bool
 opens_wrong count components session = wrong_slot count (component_at components (slot_of (open_slot session.stage))) (open_slot session.stage)
@@ -39,9 +36,9 @@ abbrev pub holds_wrong : Session → Bool
 holds_wrong session = wrong_previous session.stage session.previous
 
 -- owes while idle
-abbrev pub owes_on : Found → Owed → Bool
-owes_on found.Nothing o = owes o
-owes_on (found.At k) o = false
+abbrev pub owes_on : Option ℕ → Option ℕ → Bool
+owes_on None o = owes o
+owes_on (Some k) o = false
 
 abbrev pub owes_idle : Session → Bool
 owes_idle session = owes_on (open_slot session.stage) session.owed

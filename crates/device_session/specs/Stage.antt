@@ -1,8 +1,6 @@
 -- The stage of a session: idle, offered or receiving (document 01, "The device"), and the judgement of a block's sequence (document 02, A4).
-use Rattle.std.specs.Prelude.{ℕ, ◌+◌, ◌%◌, ◌^◌, ◌<◌, Bool, true, false, cond, ◌==◌}
+use Rattle.std.specs.Prelude.{ℕ, ◌+◌, ◌%◌, ◌^◌, ◌<◌, Bool, true, false, cond, ◌==◌, Option, Some, None}
 use Rattle.device_slots.specs.Slots.{slot_of}
-use Rattle.device_component.specs.declared.list.Found.{Found}
-use Rattle.device_component.specs.declared.list.Found.TheVariants as found
 use Rattle.device_session.specs.declared.stage.Stage.{Stage}
 use Rattle.device_session.specs.declared.stage.Stage.TheVariants.{Idle, Offered, Receiving}
 use Rattle.device_session.specs.declared.stage.SequenceVerdict.{SequenceVerdict}
@@ -26,10 +24,10 @@ is_receiving (Offered o) = false
 is_receiving (Receiving r) = true
 
 -- the slot that the session is open on
-abbrev pub open_slot : Stage → Found
-open_slot Idle = found.Nothing
-open_slot (Offered o) = found.At o.slot
-open_slot (Receiving r) = found.At r.slot
+abbrev pub open_slot : Stage → Option ℕ
+open_slot Idle = None
+open_slot (Offered o) = Some o.slot
+open_slot (Receiving r) = Some r.slot
 
 -- the slot of an open session
 abbrev pub at_slot : Stage → ℕ

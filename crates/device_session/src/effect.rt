@@ -2,24 +2,24 @@
 ghost use Rattle.std.specs.Prelude.{◌≡◌};
 ghost use Rattle.device_session.specs.Effect.{no_replies, in_stage, owing as owing_of, idle as idle_session, answered as answered_by, silent as silent_as};
 
-use crate::owed::Owed;
 use crate::stage::Stage;
 use wire::codes::{LONG_SIZE, SHORT_SIZE};
 
 #[derive(Clone, Copy)]
 pub struct Session {
     pub stage: Stage,
-    pub owed: Owed,
+    pub owed: Option<u8>,
     // While receiving, the packet of the block taken last (document 02, A4); blank, all zeros, otherwise.
     pub previous: [u8; LONG_SIZE],
 }
 
-// What is sent after a packet: a reply where one is due (its bytes are zero where none is), then the READY that was owed, with its token.
+// What is sent after a packet: a reply where one is due (its bytes are zero where none is), then the READY that was owed, with its token. `due` stays beside the
+// bytes, and is no `Option`: that they are zero is promised too (`no_replies`, and what stands on it).
 #[derive(Clone, Copy)]
 pub struct Replies {
     pub due: bool,
     pub reply: [u8; SHORT_SIZE],
-    pub ready: Owed,
+    pub ready: Option<u8>,
 }
 
 // Of a packet that no row refuses.
@@ -37,7 +37,7 @@ impl Replies {
         Replies {
             due: false,
             reply: [0u8; SHORT_SIZE],
-            ready: Owed::Nothing,
+            ready: None,
         }
     }
 }
@@ -49,7 +49,7 @@ impl Session {
     {
         Session {
             stage: Stage::Idle,
-            owed: Owed::Nothing,
+            owed: None,
             previous: [0u8; LONG_SIZE],
         }
     }
@@ -58,29 +58,22 @@ impl Session {
     pub fn in_stage(self, stage: Stage, previous: [u8; LONG_SIZE]) -> Session
         ensures { result ≡ in_stage self stage previous }
     {
-        let owed = self.owed;
         Session {
             stage,
-            owed,
             previous,
+            ..self
         }
     }
 
     // With another ready-reply owed.
-    pub fn owing(self, owed: Owed) -> Session
+    pub fn owing(self, owed: Option<u8>) -> Session
         ensures { result ≡ owing_of self owed }
     {
-        let stage = self.stage;
-        let previous = self.previous;
-        Session {
-            stage,
-            owed,
-            previous,
-        }
+        Session { owed, ..self }
     }
 
     // One reply, and then the READY that was owed.
-    pub fn answered(self, reply: [u8; SHORT_SIZE], ready: Owed) -> Effect
+    pub fn answered(self, reply: [u8; SHORT_SIZE], ready: Option<u8>) -> Effect
         ensures { result ≡ answered_by reply ready self }
     {
         let replies = Replies {

@@ -2,6 +2,5 @@
 #![tactic(auto)]
 
 pub mod stage; // stage.rt: idle, offered or receiving
-pub mod owed; // owed.rt: the owed ready-reply
 pub mod effect; // effect.rt: the session, and what a packet does
 pub mod sound; // sound.rt: row D1

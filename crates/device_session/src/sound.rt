@@ -3,33 +3,26 @@ ghost use Rattle.std.specs.Prelude.{◌≡◌};
 ghost use Rattle.device_session.specs.Sound.{wrong_slot, wrong_previous, owes_on, breaks_d1};
 
 use crate::effect::Session;
-use crate::owed::Owed;
 use crate::stage::Stage;
-use device_component::list::{Found, some_unsound};
+use device_component::list::some_unsound;
 use device_component::record::Component;
 use device_component::setup::{bad_count, staging_too_long};
-use device_slots::slot::{component_at, slot_of};
+use device_slots::slot::component_at;
 use wire::codes::{COMPONENT_LIMIT, LONG_SIZE};
 use wire_content::head::read_head;
 
 // A ready-reply is owed while the session is idle.
-pub fn owes_on(at: Found, owed: Owed) -> bool
+pub fn owes_on(at: Option<u8>, owed: Option<u8>) -> bool
     ensures { result ≡ owes_on at owed }
 {
-    match at {
-        Found::Nothing => owed.is_owed(),
-        Found::At(_) => false,
-    }
+    at.is_none() & owed.is_some()
 }
 
 // The slot that the session is open on is unlisted, or its component, which is this one, is pending.
-pub fn wrong_slot(count: u8, component: Component, at: Found) -> bool
+pub fn wrong_slot(count: u8, component: Component, at: Option<u8>) -> bool
     ensures { result ≡ wrong_slot count component at }
 {
-    match at {
-        Found::Nothing => false,
-        Found::At(k) => (count <= k) | component.is_pending(),
-    }
+    at.is_some_and(|k| (count <= k) | component.is_pending())
 }
 
 // Receiving, and the sequence of the previous packet is not just before the next one.
@@ -37,12 +30,8 @@ pub fn wrong_previous(stage: Stage, previous: [u8; LONG_SIZE]) -> bool
     ensures { result ≡ wrong_previous stage previous }
 {
     match stage {
-        Stage::Idle => false,
-        Stage::Offered(_) => false,
-        Stage::Receiving(r) => {
-            let head = read_head(&previous);
-            std::num::wrapping_add_u16(head.sequence, 1) != r.next
-        }
+        Stage::Receiving(r) => read_head(&previous).sequence.wrapping_add(1) != r.next,
+        _ => false,
     }
 }
 
@@ -59,7 +48,7 @@ pub fn breaks_d1(
     let owed = session.owed;
     let previous = session.previous;
     let slot = stage.open_slot();
-    let component = component_at(components, slot_of(slot));
+    let component = component_at(components, slot.unwrap_or(0));
     (staging_too_long(n) | bad_count(count))
         | (wrong_slot(count, component, slot)
             | (wrong_previous(stage, previous)

@@ -1,8 +1,6 @@
 // The stage of a session (document 01, "The device"): idle, offered or receiving, with its own data.
 ghost use Rattle.std.specs.Prelude.{◌≡◌};
-ghost use Rattle.device_session.specs.Stage.{is_open, open_slot, at_slot, at_token, is_receiving, sequence_verdict, is_again, is_wrong};
-
-use device_component::list::Found;
+ghost use Rattle.device_session.specs.Stage.{is_open, open_slot, at_slot, at_token, is_receiving, sequence_verdict};
 
 // An offer was accepted for the component in this slot.
 #[derive(Clone, Copy)]
@@ -28,33 +26,11 @@ pub enum Stage {
 }
 
 // Of a block's sequence (document 02, A4): the next one, the block just taken sent again, or wrong.
-#[derive(Clone, Copy)]
+#[derive(Clone, Copy, PartialEq, Eq)]
 pub enum SequenceVerdict {
     Next,
     Again,
     Wrong,
-}
-
-impl SequenceVerdict {
-    pub fn is_again(self) -> bool
-        ensures { result ≡ is_again self }
-    {
-        match self {
-            SequenceVerdict::Next => false,
-            SequenceVerdict::Again => true,
-            SequenceVerdict::Wrong => false,
-        }
-    }
-
-    pub fn is_wrong(self) -> bool
-        ensures { result ≡ is_wrong self }
-    {
-        match self {
-            SequenceVerdict::Next => false,
-            SequenceVerdict::Again => false,
-            SequenceVerdict::Wrong => true,
-        }
-    }
 }
 
 impl Stage {
@@ -62,21 +38,17 @@ impl Stage {
     pub fn is_open(self) -> bool
         ensures { result ≡ is_open self }
     {
-        match self {
-            Stage::Idle => false,
-            Stage::Offered(_) => true,
-            Stage::Receiving(_) => true,
-        }
+        !matches!(self, Stage::Idle)
     }
 
     // The slot that the session is open on.
-    pub fn open_slot(self) -> Found
+    pub fn open_slot(self) -> Option<u8>
         ensures { result ≡ open_slot self }
     {
         match self {
-            Stage::Idle => Found::Nothing,
-            Stage::Offered(o) => Found::At(o.slot),
-            Stage::Receiving(r) => Found::At(r.slot),
+            Stage::Idle => None,
+            Stage::Offered(o) => Some(o.slot),
+            Stage::Receiving(r) => Some(r.slot),
         }
     }
 
@@ -84,11 +56,7 @@ impl Stage {
     pub fn slot(self) -> u8
         ensures { result ≡ at_slot self }
     {
-        match self {
-            Stage::Idle => 0,
-            Stage::Offered(o) => o.slot,
-            Stage::Receiving(r) => r.slot,
-        }
+        self.open_slot().unwrap_or(0)
     }
 
     // The token of the accepted offer, and 0 while idle.
@@ -105,11 +73,7 @@ impl Stage {
     pub fn is_receiving(self) -> bool
         ensures { result ≡ is_receiving self }
     {
-        match self {
-            Stage::Idle => false,
-            Stage::Offered(_) => false,
-            Stage::Receiving(_) => true,
-        }
+        matches!(self, Stage::Receiving(_))
     }
 
     // While receiving, the expected sequence is next, a copy of the previous packet is that block again, and any other is wrong; otherwise any is next.
@@ -117,18 +81,14 @@ impl Stage {
         ensures { result ≡ sequence_verdict self copy sequence }
     {
         match self {
-            Stage::Idle => SequenceVerdict::Next,
-            Stage::Offered(_) => SequenceVerdict::Next,
-            Stage::Receiving(r) => {
-                if sequence == r.next {
-                    return SequenceVerdict::Next;
-                }
+            Stage::Receiving(r) if sequence != r.next => {
                 if copy {
                     SequenceVerdict::Again
                 } else {
                     SequenceVerdict::Wrong
                 }
             }
+            _ => SequenceVerdict::Next,
         }
     }
 }

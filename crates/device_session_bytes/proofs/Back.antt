@@ -18,8 +18,7 @@ use Rattle.device_session.specs.Effect.{FitsSession, blank_packet}
 use Rattle.device_session.proofs.effect.Laws.{blank_fits}
 use Rattle.device_session.specs.declared.stage.Stage.{Stage}
 use Rattle.device_session.specs.declared.stage.Stage.TheVariants.{Idle, Offered, Receiving}
-use Rattle.device_session.specs.declared.owed.Owed.{Owed}
-use Rattle.device_session.specs.declared.owed.Owed.TheVariants.{Nothing, Token}
+use Rattle.std.specs.Prelude.{Option, Some, None}
 use Rattle.device_session.specs.declared.effect.Session.{Session}
 use Rattle.device_session_bytes.specs.Layout.{slot_at, token_at, next_offset, owed_at, owed_token_at, previous_at, session_size, stage_bytes, owed_bytes, session_bytes, previous_in, session_in, session_flags_fit}
 use Rattle.device_session_bytes.proofs.Laws.{stage_sized, owed_sized}
@@ -34,9 +33,9 @@ stage_bytes_lem Idle f = fields 0 0 0 0 (omega arith) (omega arith) (omega arith
 stage_bytes_lem (Offered o) f = fields 1 o.slot o.token 0 (omega arith) f.0 f.1
 stage_bytes_lem (Receiving r) f = fields 2 r.slot r.token r.next (omega arith) f.0 f.1
 
-owed_bytes_lem : (o : Owed) → FitsOwed o → Bytes (owed_bytes o)
-owed_bytes_lem Nothing f = word_bytes 2 0
-owed_bytes_lem (Token t) f = cons_bytes 1 (t ∷ []) (omega arith) (cons_bytes t [] f no_bytes)
+owed_bytes_lem : (o : Option ℕ) → FitsOwed o → Bytes (owed_bytes o)
+owed_bytes_lem None f = word_bytes 2 0
+owed_bytes_lem (Some t) f = cons_bytes 1 (t ∷ []) (omega arith) (cons_bytes t [] f no_bytes)
 
 -- a session is bytes
 pub session_bytes_lem : (t : Session) → FitsSession t → Bytes (session_bytes t)
@@ -51,14 +50,14 @@ previous_back a p rest n h =
     rw (le-leb session_size (length (a ++ (p ++ rest))) l, drop_at a (p ++ rest) previous_at n) (take_at p rest long_size h)
 
 -- a stage and what is owed read back, whatever follows them, and their flags fit
-parts_back : (s : Stage) (o : Owed) (rest : List ℕ) → FitsStage s → let q = stage_bytes s ++ (owed_bytes o ++ rest) in
+parts_back : (s : Stage) (o : Option ℕ) (rest : List ℕ) → FitsStage s → let q = stage_bytes s ++ (owed_bytes o ++ rest) in
     ((session_in q).stage ≡ s) × ((session_in q).owed ≡ o) × (session_flags_fit q ≡ true)
-parts_back Idle Nothing rest f = (refl, refl, refl)
-parts_back Idle (Token t) rest f = (refl, refl, refl)
-parts_back (Offered x) Nothing rest f = (refl, refl, refl)
-parts_back (Offered x) (Token t) rest f = (refl, refl, refl)
-parts_back (Receiving r) Nothing rest f = (simp (round 2 r.next f.2), refl, refl)
-parts_back (Receiving r) (Token t) rest f = (simp (round 2 r.next f.2), refl, refl)
+parts_back Idle None rest f = (refl, refl, refl)
+parts_back Idle (Some t) rest f = (refl, refl, refl)
+parts_back (Offered x) None rest f = (refl, refl, refl)
+parts_back (Offered x) (Some t) rest f = (refl, refl, refl)
+parts_back (Receiving r) None rest f = (simp (round 2 r.next f.2), refl, refl)
+parts_back (Receiving r) (Some t) rest f = (simp (round 2 r.next f.2), refl, refl)
 
 -- a session reads back, whatever follows it, and its flags fit
 pub session_back : (t : Session) (rest : List ℕ) → FitsSession t → (session_in (session_bytes t ++ rest) ≡ t) × (session_flags_fit (session_bytes t ++ rest) ≡ true)
@@ -93,7 +92,7 @@ stage_fits true y slot token next f g h = (f, g)
 stage_fits false true slot token next f g h = (f, g, h)
 stage_fits false false slot token next f g h = tt
 
-owed_fits : (x : Bool) (token : ℕ) → token < 256 → FitsOwed (cond x (Token token) Nothing)
+owed_fits : (x : Bool) (token : ℕ) → token < 256 → FitsOwed (cond x (Some token) None)
 owed_fits true token f = f
 owed_fits false token f = tt
 

@@ -12,8 +12,7 @@ use Rattle.wire.proofs.words.Copies.{copy_same}
 use Rattle.device_session.specs.Effect.{blank_packet}
 use Rattle.device_session.specs.declared.stage.Stage.{Stage}
 use Rattle.device_session.specs.declared.stage.Stage.TheVariants.{Idle, Offered, Receiving}
-use Rattle.device_session.specs.declared.owed.Owed.{Owed}
-use Rattle.device_session.specs.declared.owed.Owed.TheVariants.{Nothing, Token}
+use Rattle.std.specs.Prelude.{Option, Some, None}
 use Rattle.device_session.specs.declared.effect.Session.{Session}
 use Rattle.device_session_bytes.specs.Layout.{stage_size, owed_at, owed_size, previous_at, session_size, stage_bytes, owed_bytes, session_bytes}
 
@@ -23,9 +22,9 @@ stage_sized Idle = refl
 stage_sized (Offered o) = refl
 stage_sized (Receiving r) = refl
 
-pub owed_sized : (o : Owed) → length (owed_bytes o) ≡ owed_size
-owed_sized Nothing = refl
-owed_sized (Token t) = refl
+pub owed_sized : (o : Option ℕ) → length (owed_bytes o) ≡ owed_size
+owed_sized None = refl
+owed_sized (Some t) = refl
 
 -- a session is so many bytes, where its previous packet has the size of one
 pub session_sized : (t : Session) → length t.previous ≡ long_size → length (session_bytes t) ≡ session_size

@@ -1,12 +1,10 @@
 -- The session of a device as bytes, little-endian, for whoever keeps it outside of Rattle: the stage, the ready-reply that is owed, and the previous packet
 -- (document 02, A4). What is read stands in bytes that start at the session.
-use Rattle.std.specs.Prelude.{ℕ, ◌+◌, Bool, cond, ◌&&◌, List, [], ◌∷◌, ◌++◌, eqb, leb, length, get_or, take, drop}
+use Rattle.std.specs.Prelude.{ℕ, ◌+◌, Bool, cond, ◌&&◌, List, [], ◌∷◌, ◌++◌, eqb, leb, length, get_or, take, drop, Option, Some, None}
 use Rattle.wire.specs.Bytes.{number, bytes_of, bytes_at}
 use Rattle.wire.specs.Codes.{long_size}
 use Rattle.device_session.specs.declared.stage.Stage.{Stage}
 use Rattle.device_session.specs.declared.stage.Stage.TheVariants.{Idle, Offered, Receiving}
-use Rattle.device_session.specs.declared.owed.Owed.{Owed}
-use Rattle.device_session.specs.declared.owed.Owed.TheVariants.{Nothing, Token}
 use Rattle.device_session.specs.declared.effect.Session.{Session}
 use Rattle.device_session.specs.Effect.{blank_packet}
 
@@ -46,9 +44,9 @@ stage_bytes (Offered o) = 1 ∷ o.slot ∷ o.token ∷ bytes_of 2 0
 stage_bytes (Receiving r) = 2 ∷ r.slot ∷ r.token ∷ bytes_of 2 r.next
 
 -- 0 nothing owed, or 1, and the token
-abbrev pub owed_bytes : Owed → List ℕ
-owed_bytes Nothing = 0 ∷ 0 ∷ []
-owed_bytes (Token t) = 1 ∷ t ∷ []
+abbrev pub owed_bytes : Option ℕ → List ℕ
+owed_bytes None = 0 ∷ 0 ∷ []
+owed_bytes (Some t) = 1 ∷ t ∷ []
 
 -- a session: the stage, what is owed, and the previous packet as it stands
 abbrev pub session_bytes : Session → List ℕ
@@ -60,8 +58,8 @@ stage_in stage slot token next =
     cond (eqb stage 1) (Offered (record { slot = slot; token = token }))
     (cond (eqb stage 2) (Receiving (record { slot = slot; token = token; next = next })) Idle)
 
-abbrev pub owed_in : (owed token : ℕ) → Owed
-owed_in owed token = cond (eqb owed 1) (Token token) Nothing
+abbrev pub owed_in : (owed token : ℕ) → Option ℕ
+owed_in owed token = cond (eqb owed 1) (Some token) None
 
 -- the previous packet, in whatever stage; bytes too short for it are read as no packet
 abbrev pub previous_in : List ℕ → List ℕ

@@ -6,7 +6,6 @@ ghost use Rattle.std.specs.Prelude.{◌≡◌};
 ghost use Rattle.device_session_bytes.specs.Layout.{stage_bytes, owed_bytes, session_bytes, stage_in, owed_in, previous_in, session_in, session_flags_fit};
 
 use device_session::effect::Session;
-use device_session::owed::Owed;
 use device_session::stage::{Offered, Receiving, Stage};
 use wire::codes::LONG_SIZE;
 use wire::words;
@@ -44,12 +43,12 @@ fn stage_bytes(stage: Stage) -> [u8; STAGE_SIZE]
     }
 }
 
-fn owed_bytes(owed: Owed) -> [u8; OWED_SIZE]
+fn owed_bytes(owed: Option<u8>) -> [u8; OWED_SIZE]
     ensures { result ≡ owed_bytes owed }
 {
     match owed {
-        Owed::Nothing => [0u8; OWED_SIZE],
-        Owed::Token(t) => [1, t],
+        None => [0u8; OWED_SIZE],
+        Some(t) => [1, t],
     }
 }
 
@@ -80,14 +79,10 @@ fn stage_in(stage: u8, slot: u8, token: u8, next: u16) -> Stage
     Stage::Idle
 }
 
-fn owed_in(owed: u8, token: u8) -> Owed
+fn owed_in(owed: u8, token: u8) -> Option<u8>
     ensures { result ≡ owed_in owed token }
 {
-    if owed == 1 {
-        Owed::Token(token)
-    } else {
-        Owed::Nothing
-    }
+    (owed == 1).then_some(token)
 }
 
 // The previous packet, in whatever stage; bytes too short for it are read as no packet.

@@ -1,11 +1,11 @@
 -- A loop that puts the image of each member of one list into its place of another: before, after a turn, and at the end. Assumes nothing.
 use mathlib.Core.Path.{◌≡◌, refl, ap, ◌∙◌}
-use mathlib.Core.List.{List, [], ◌∷◌, ◌++◌, map, map-append, append-nil}
+use mathlib.Core.List.{List, [], ◌∷◌, ◌++◌, map, map-append}
 use Prim.Native.Nat.{ℕ, zero, suc, ◌+◌, ◌<◌}
 use native.Mathlib.Numerals.{add-one}
 use native.Mathlib.Omega.{arith}
-use lib.ListN.{length, take, drop, set, get_or, length-map, drop_of_length-le}
-use lib.Seq.{take-suc, drop-cons, set_at, get_or_at, length-take-le, take_all}
+use lib.ListN.{length, take, drop, set, get_or, length-map}
+use lib.Seq.{take-suc, drop-cons, set_at, get_or_at, length-take-le}
 
 module _ {A B : Type 0} (f : A → B) (l : List A) (o : List B) where
   -- after i turns
@@ -32,10 +32,6 @@ module _ {A B : Type 0} (f : A → B) (l : List A) (o : List B) where
     still w =
         let k : i < length o = omega arith in
         rw (drop-cons o i w k) (get_or_at (map f (take i l)) (get_or o i w) (drop (suc i) o) w i front_length)
-
-  -- at the end
-  pub all_turned : length l ≡ length o → (i : ℕ) → i ≡ length l → turned i ≡ map f l
-  all_turned same i e = rw (take_all i l (omega arith), drop_of_length-le o {i = i} (omega arith), append-nil)
 
 module _ {A : Type 0} where
   -- as many of the first n as there are

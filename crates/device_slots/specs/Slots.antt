@@ -1,19 +1,15 @@
 -- The slots for components (document 01, "The device"): where one was found, all of them after a reset and in the version reply.
-use Rattle.std.specs.Prelude.{ℕ, Bool, true, false, List, ◌++◌, map, take, drop}
+use Rattle.std.specs.Prelude.{ℕ, Bool, List, ◌++◌, map, take, drop, Option, is_none, unwrap_or}
 use Rattle.wire_version.specs.declared.Running.{Running}
 use Rattle.device_component.specs.Record.{after_reset}
 use Rattle.device_component.specs.declared.record.Component.{Component}
-use Rattle.device_component.specs.declared.list.Found.{Found}
-use Rattle.device_component.specs.declared.list.Found.TheVariants.{Nothing, At}
 
 -- the slot of what was found, and 0 where nothing was
-abbrev pub slot_of : Found → ℕ
-slot_of Nothing = 0
-slot_of (At k) = k
+abbrev pub slot_of : Option ℕ → ℕ
+slot_of f = unwrap_or f 0
 
-abbrev pub is_absent : Found → Bool
-is_absent Nothing = true
-is_absent (At k) = false
+abbrev pub is_absent : Option ℕ → Bool
+is_absent f = is_none f
 
 -- the components after a reset; slots at or past the count stay
 abbrev pub reset_components : ℕ → List Component → List Component

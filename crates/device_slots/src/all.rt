@@ -4,23 +4,15 @@ ghost use Rattle.device_component.specs.Record.{listed};
 ghost use Rattle.device_slots.specs.Slots.{reset_components, running_of};
 
 use device_component::list::within_slots;
-use device_component::record::{Component, Listed, blank_component};
+use device_component::record::{Component, Listed};
 use wire::codes::COMPONENT_LIMIT;
-use wire_version::{Running, no_component};
+use wire_version::Running;
 
 // The components of a list, nothing staged.
 pub fn components_of(list: [Listed; COMPONENT_LIMIT]) -> [Component; COMPONENT_LIMIT]
     ensures { result ≡ map listed list }
 {
-    let none = blank_component();
-    let mut components = [none; COMPONENT_LIMIT];
-    let mut i = 0;
-    while i < COMPONENT_LIMIT {
-        let l = list[i];
-        components[i] = Component::listed(l);
-        i += 1;
-    }
-    components
+    list.map(Component::listed)
 }
 
 // The first `count` after a reset; the others stay.
@@ -30,12 +22,8 @@ pub fn reset_components(
 ) -> [Component; COMPONENT_LIMIT]
     ensures { result ≡ reset_components count components }
 {
-    let n = within_slots(count) as usize;
-    let mut i: usize = 0;
-    while i < n {
-        let component = components[i];
-        components[i] = component.after_reset();
-        i += 1;
+    for i in 0..within_slots(count) as usize {
+        components[i] = components[i].after_reset();
     }
     components
 }
@@ -58,13 +46,5 @@ pub fn all_running(
 ) -> [Running; COMPONENT_LIMIT]
     ensures { result ≡ map (running_of platform) components }
 {
-    let none = no_component();
-    let mut all = [none; COMPONENT_LIMIT];
-    let mut i: usize = 0;
-    while i < COMPONENT_LIMIT {
-        let component = components[i];
-        all[i] = running(platform, component);
-        i += 1;
-    }
-    all
+    components.map(|component| running(platform, component))
 }

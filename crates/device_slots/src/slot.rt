@@ -1,9 +1,7 @@
 // The component in a slot (document 01, "The device").
 ghost use Rattle.std.specs.Prelude.{◌≡◌, set};
 ghost use Rattle.device_component.specs.Lists.{component_at};
-ghost use Rattle.device_slots.specs.Slots.{slot_of, is_absent};
 
-use device_component::list::Found;
 use device_component::record::{Component, blank_component};
 use wire::codes::COMPONENT_LIMIT;
 
@@ -11,15 +9,12 @@ use wire::codes::COMPONENT_LIMIT;
 pub fn component_at(components: [Component; COMPONENT_LIMIT], slot: u8) -> Component
     ensures { result ≡ component_at components slot }
 {
-    let at = slot as usize;
-    if at < COMPONENT_LIMIT {
-        components[at]
-    } else {
-        blank_component()
-    }
+    let at = components.get(slot as usize).copied();
+    at.unwrap_or(blank_component())
 }
 
-// The components with another one in a slot; past the last slot nothing changes.
+// The components with another one in a slot; past the last slot nothing changes. Not by `get_mut`: tried, and the goal after its loan has only names that no
+// answer may cite.
 pub fn with_component(
     mut components: [Component; COMPONENT_LIMIT],
     slot: u8,
@@ -32,23 +27,4 @@ pub fn with_component(
         components[k] = component;
     }
     components
-}
-
-// The slot of what was found, and 0 where nothing was.
-pub fn slot_of(f: Found) -> u8
-    ensures { result ≡ slot_of f }
-{
-    match f {
-        Found::Nothing => 0,
-        Found::At(k) => k,
-    }
-}
-
-pub fn is_absent(f: Found) -> bool
-    ensures { result ≡ is_absent f }
-{
-    match f {
-        Found::Nothing => true,
-        Found::At(_) => false,
-    }
 }

@@ -1,21 +1,21 @@
 -- The inner step: over what the check answered for a bundle, the body in hand, and a cursor, the place of the record after the one in hand. A refused bundle is
 -- answered by its row, and the rest is judged by tests of constant time: what is out of range is N1. Over what the check answers, with the right cursor, it is
 -- the step.
-use Rattle.std.specs.Prelude.{ℕ, zero, suc, ◌+◌, ◌≤◌, ◌≡◌, cond, List, [], eqb, length, drop}
+use Rattle.std.specs.Prelude.{Option, Some, None, Result, Ok, Err, ℕ, zero, suc, ◌+◌, ◌≤◌, ◌≡◌, cond, List, [], eqb, length, drop}
 use Rattle.wire.specs.Bytes.{Bytes}
 use Rattle.bundle_records.specs.declared.Next.{Next}
 use Rattle.bundle_records.specs.declared.Next.TheVariants as next
 use Rattle.bundle_records.specs.Parse.{whole, records_of}
 use Rattle.bundle_records.specs.Walk.{between, next_of}
 use Rattle.bundle_layout.specs.Rows as bundle
+use Rattle.bundle_layout.specs.declared.BundleRefusal.{BundleRefusal}
 use Rattle.bundle.specs.Contents.{Contents, check_of}
 use Rattle.host_record.specs.declared.record.Host.{Host}
 use Rattle.host_record.specs.declared.record.HostStage.{HostStage}
 use Rattle.host_record.specs.declared.record.HostStage.TheVariants.{Fresh, Opening, Listing, Offering, Waiting, Sending, Closing, Ended}
 use Rattle.host_record.specs.declared.fits.Body.{Body}
 use Rattle.host_record.specs.Fits.{body_of, in_hand}
-use Rattle.host_decide.specs.declared.Decided.{Decided}
-use Rattle.host_decide.specs.declared.Decided.TheVariants as decided
+use Rattle.host_decide.specs.declared.Move.{Move}
 use Rattle.host_decide.specs.Decide.{decision_of}
 use Rattle.host_packet.specs.Packet.{packet_size}
 use Rattle.host_packet.specs.Answer.{row_b, row_n, refused_by}
@@ -23,15 +23,24 @@ use Rattle.host_packet.specs.Made.{InnerStep, made_of}
 use Rattle.host.specs.Step.{blocks_at, step_of}
 
 -- over an accepted bundle: N1, or the move
-abbrev pub inner_on : (b : List ℕ) → (hand : Body) → (cursor : ℕ) → Host → Decided → InnerStep
-inner_on b hand cursor h decided.N1 = record { step = refused_by (row_n 1) h; cursor = cursor }
-inner_on b hand cursor h (decided.Moves m) = made_of b hand cursor h m.host m.action
+abbrev pub inner_on : (b : List ℕ) → (hand : Body) → (cursor : ℕ) → Host → Option Move → InnerStep
+inner_on b hand cursor h None = record { step = refused_by (row_n 1) h; cursor = cursor }
+inner_on b hand cursor h (Some m) = made_of b hand cursor h m.host m.action
 
 -- the inner step, by the row of the check, how many offers the bundle has, and the body in hand; a refused bundle answers its row, sends nothing and keeps
 -- the record
 unfoldable pub inner_of : (b : List ℕ) → bundle.Row → (count : ℕ) → (hand : Body) → (cursor : ℕ) → Host → (reply : List ℕ) → InnerStep
 inner_of b bundle.served count hand cursor h reply = inner_on b hand cursor h (decision_of count hand.records h reply)
 inner_of b (bundle.row_b k entry) count hand cursor h reply = record { step = refused_by (row_b k entry) h; cursor = cursor }
+
+-- what is known of the check of a bundle, how many offers it has or the refusal, as a row and a count
+abbrev pub row_given : Result ℕ BundleRefusal → bundle.Row
+row_given (Ok count) = bundle.served
+row_given (Err r) = bundle.refusal_row r
+
+abbrev pub count_given : Result ℕ BundleRefusal → ℕ
+count_given (Ok count) = count
+count_given (Err r) = 0
 
 -- its packet written into lent bytes; where these are not packet_size the row is the same, but nothing is written and nothing sent, and the record is kept
 abbrev pub lent : (packet : List ℕ) → Host → (cursor : ℕ) → InnerStep → InnerStep

@@ -9,7 +9,7 @@ use crate::inner::inner_step;
 use bundle::check;
 use bundle_records::Next;
 use bundle_records::walk::next_record;
-use host_packet::answer::StepAnswer;
+use host_packet::answer::{StepAnswer, StepRefusal};
 use host_packet::packet::PACKET_SIZE;
 use host_record::fits::{Body, body_at, in_hand};
 use host_record::record::{Host, HostStage};
@@ -19,22 +19,11 @@ fn place_after(b: &[u8], at: usize, end: u64, count: u64) -> usize
     ensures { result ≡ place_after b.now at end count }
 {
     let mut place = at;
-    let mut i: u64 = 0;
-    while i < count {
-        let r = next_record(b, place, end);
-        match r {
-            Next::End => return place,
-            Next::Bad => return place,
-            Next::Record {
-                address: _,
-                start: _,
-                size: _,
-                next,
-            } => {
-                place = next;
-                i += 1;
-            }
-        }
+    for _passed in 0..count {
+        let Next::Record { next, .. } = next_record(b, place, end) else {
+            return place;
+        };
+        place = next;
     }
     place
 }
@@ -44,46 +33,23 @@ pub fn cursor_for(b: &[u8], body: Body, stage: HostStage) -> usize
     ensures { result ≡ cursor_at b.now body stage }
 {
     match stage {
-        HostStage::Fresh => 0,
-        HostStage::Opening => 0,
-        HostStage::Listing => 0,
-        HostStage::Offering(_) => 0,
-        HostStage::Waiting(_) => 0,
         HostStage::Sending(a) => place_after(b, body.start, body.end, a.place.block as u64 + 1),
-        HostStage::Closing => 0,
-        HostStage::Ended(_) => 0,
+        _ => 0,
     }
 }
 
 // The bundle's rows, N1, the end, the reply.
-pub fn step(host: Host, bundle: &[u8], reply: &[u8]) -> StepAnswer
-    ensures { told result ≡ step_of bundle.now host reply.now }
+pub fn step(host: Host, bundle: &[u8], reply: &[u8]) -> Result<StepAnswer, StepRefusal>
+    ensures { told host result ≡ step_of bundle.now host reply.now }
 {
-    let c = check(bundle);
-    let table = c.table;
-    let stage = host.stage;
-    let hand = body_at(table, in_hand(stage));
-    let cursor = cursor_for(bundle, hand, stage);
-    let verdict = c.verdict;
+    let c = check(bundle)?;
+    let hand = body_at(c.table, in_hand(host.stage));
+    let cursor = cursor_for(bundle, hand, host.stage);
     let mut packet = [0u8; PACKET_SIZE];
-    let s = inner_step(
-        &mut packet,
-        verdict,
-        c.place,
-        c.count,
-        hand,
-        cursor,
-        host,
-        bundle,
-        reply,
-    );
-    let refusal = s.refusal;
-    let sent = s.sent;
-    let next = s.host;
-    StepAnswer {
-        refusal,
-        sent,
+    let s = inner_step(&mut packet, Ok(c.count), hand, cursor, host, bundle, reply)?;
+    Ok(StepAnswer {
+        sent: s.sent,
         packet,
-        host: next,
-    }
+        host: s.host,
+    })
 }

@@ -16,7 +16,6 @@ use Rattle.wire.proofs.words.Laws.{round}
 use Rattle.wire_offer.specs.Offer.{blank_offer}
 use Rattle.bundle_layout.specs.Layout.{offer_limit, blank_entry}
 use Rattle.bundle_layout.specs.Rows as bundle
-use Rattle.bundle_layout.specs.declared.BundleVerdict.{BundleVerdict}
 use Rattle.bundle_layout.specs.declared.Entry.{Entry}
 use Rattle.bundle.specs.Contents.{Contents}
 use Rattle.host_record.specs.Fits.{listed_at, body_of}
@@ -50,14 +49,6 @@ written out front table i e full h =
     let n : hand_start ≡ bodies_start + i * body_part_size = omega arith in
     ap (λ (m : ℕ). take m out) n ∙ h ∙ ap (λ (l : List Entry). front ++ bodies_bytes l) (take_all i table (omega arith))
 
--- a row, by its number
-row_written : (k place : ℕ) → k ∷ cond (eqb k 0) 0 place ∷ [] ≡ row_bytes (bundle.row_at k place)
-row_written k place = go (eqb k 0) refl
-  where
-    go : (t : Bool) → eqb k 0 ≡ t → k ∷ cond t 0 place ∷ [] ≡ row_bytes (cond t bundle.served (bundle.row_b k place))
-    go true e = ap (λ (n : ℕ). n ∷ 0 ∷ []) (eqb-true k 0 e)
-    go false e = refl
-
 -- a copy of all that follows a place
 pub end_written : (out s last : List ℕ) (at n k : ℕ) → k ≡ n → length s ≡ n → at + n ≡ length out → last ≡ copy_of (take k (drop at out)) s
     → take at out ++ (last ++ drop k (drop at out)) ≡ take at out ++ s
@@ -66,15 +57,12 @@ end_written out s last at n k e f whole g =
     copied out s last at n k e f (omega arith) g ∙ ap (λ (l : List ℕ). take at out ++ (s ++ l)) (drop_of_length-le out m) ∙ ap (λ (l : List ℕ). take at out ++ l) (append-nil s)
 
 -- the row and the count, the bodies, and what no block has
-pub contents_of : (out q : List ℕ) (v : BundleVerdict) (place count row entry : ℕ) (table : List Entry) → length out ≡ contents_size → row ≡ bundle.number_of v
-    → entry ≡ cond (eqb row 0) 0 place → take hand_start out ≡ row ∷ entry ∷ count ∷ bodies_bytes table
+pub contents_of : (out q : List ℕ) (row place count : ℕ) (table : List Entry) → length out ≡ contents_size → take hand_start out ≡ row ∷ place ∷ count ∷ bodies_bytes table
     → q ≡ cond (eqb (length out) contents_size) (take hand_start out ++ hand_bytes no_place 0) out
-    → q ≡ contents_bytes (record { row = bundle.row_of v place; place = place; count = count; table = table }) no_place 0
-unfolding contents_bytes
-contents_of out q v place count row entry table whole e f g h =
+    → q ≡ row ∷ place ∷ [] ++ (count ∷ bodies_bytes table ++ hand_bytes no_place 0)
+contents_of out q row place count table whole g h =
     let w : q ≡ take hand_start out ++ hand_bytes no_place 0 = h ∙ rw (eq-eqb (length out) contents_size whole) in
-    let r : row ∷ entry ∷ [] ≡ row_bytes (bundle.row_of v place) = (rw (f, e)) ∙ row_written (bundle.number_of v) place in
-    w ∙ ap (λ (l : List ℕ). l ++ hand_bytes no_place 0) g ∙ ap (λ (l : List ℕ). l ++ (count ∷ bodies_bytes table ++ hand_bytes no_place 0)) r
+    w ∙ ap (λ (l : List ℕ). l ++ hand_bytes no_place 0) g
 
 -- the words of a block, and then the bytes of the cursor behind it, are stored at the end of the contents
 pub hand_stored : (q y behind t : List ℕ) (entry block cursor k : ℕ) → k ≡ 2 * word_size → length q ≡ contents_size → y ≡ laid hand_start (entry ∷ block ∷ []) q

@@ -1,11 +1,13 @@
 -- The host's record as bytes of a fixed length, little-endian, for whoever keeps it outside of Rattle; and what the check of a bundle answers, with the
 -- cursor of the inner step and the block that it is kept for, as bytes.
-use Rattle.std.specs.Prelude.{ℕ, zero, suc, ◌+◌, ◌*◌, ◌-◌, ◌^◌, ◌%◌, Bool, true, false, not, cond, ◌&&◌, ◌||◌, List, [], ◌∷◌, ◌++◌, eqb, leb, ltb, length, get_or, take, drop}
+use Rattle.std.specs.Prelude.{Option, Some, None, Result, Ok, Err, ℕ, zero, suc, ◌+◌, ◌*◌, ◌-◌, ◌^◌, ◌%◌, Bool, true, false, not, cond, ◌&&◌, ◌||◌, List, [], ◌∷◌, ◌++◌, eqb, leb, ltb, length, get_or, take, drop}
 use Rattle.wire.specs.Bytes.{number, bytes_of, bytes_at}
 use Rattle.wire_offer.specs.Offer.{blank_offer}
 use Rattle.bundle_layout.specs.Layout.{offer_limit}
 use Rattle.bundle_layout.specs.Rows.{last_row}
 use Rattle.bundle_layout.specs.Rows as bundle
+use Rattle.bundle_layout.specs.declared.BundleRefusal.{BundleRefusal}
+use Rattle.bundle_layout.specs.declared.BundleRow.{BundleRow}
 use Rattle.bundle_layout.specs.declared.Entry.{Entry}
 use Rattle.bundle.specs.Contents.{Contents}
 use Rattle.host_record.specs.Fits.{body_of, in_hand}
@@ -212,6 +214,14 @@ contents_bytes c p cursor = row_bytes c.row ++ (c.count ∷ bodies_bytes c.table
 -- what stands in bytes, unjudged: the inner step judges what it takes of them. An offer is read from the bundle, never from here
 abbrev pub row_in : List ℕ → bundle.Row
 row_in q = bundle.row_at (get_or q row_offset 0) (get_or q entry_offset 0)
+
+-- what they keep of the check: how many offers the bundle has, or its refusal; a number past the last row's is that of B8
+abbrev pub checked_by : Option BundleRow → (entry count : ℕ) → Result ℕ BundleRefusal
+checked_by None entry count = Ok count
+checked_by (Some row) entry count = Err (record { row = row; place = entry })
+
+abbrev pub checked_in : List ℕ → Result ℕ BundleRefusal
+checked_in q = checked_by (bundle.verdict_of (get_or q row_offset 0)) (get_or q entry_offset 0) (get_or q count_at 0)
 
 abbrev pub body_in : List ℕ → Entry
 body_in q = record { offer = blank_offer; offset = number (bytes_at 4 0 q); length = number (bytes_at 4 length_offset q); records = number (bytes_at 4 records_offset q) }

@@ -1,15 +1,16 @@
 // The host's record as bytes of a fixed length; and what the check of a bundle answers, with the cursor and the block that it is kept for, as bytes.
 #![tactic(auto)]
 
-ghost use Rattle.std.specs.Prelude.{◌≡◌, cond, ◌++◌, eqb, length, get_or, take, ◌+◌, ◌≤◌};
+ghost use Rattle.std.specs.Prelude.{◌≡◌, cond, [], ◌∷◌, ◌++◌, eqb, length, get_or, take, ◌+◌, ◌≤◌};
 ghost use Rattle.wire.specs.Bytes.{number, bytes_at};
 ghost use Rattle.bundle.specs.Contents.{told_checked};
-ghost use Rattle.host_bytes.specs.Layout.{row_offset, entry_offset, count_at, length_offset, records_offset, body_part_size, bodies_start, hand_start, contents_size, flag_byte, host_bytes, are_flags, read_host, bodies_bytes, hand_bytes, no_place, contents_bytes, body_read, cursor_in, are_contents, is_kept, kept_in, refused_host};
+ghost use Rattle.host_bytes.specs.Layout.{row_offset, entry_offset, count_at, length_offset, records_offset, body_part_size, bodies_start, hand_start, contents_size, flag_byte, host_bytes, are_flags, read_host, bodies_bytes, hand_bytes, no_place, contents_bytes, body_read, cursor_in, checked_in, are_contents, is_kept, kept_in, refused_host};
 
 use crate::put::{WORD_SIZE, put_words};
 use crate::stage::{SENDING, passed_in, stage_in, stage_words};
+use bundle_layout::blank::no_entries;
 use bundle_layout::limits::OFFER_LIMIT;
-use bundle_layout::{Checked, Entry, LAST_ROW};
+use bundle_layout::{BundleRefusal, Checked, Entry, LAST_ROW, verdict_of};
 use host_record::fits::Body;
 use host_record::record::{Host, HostStage};
 use wire::words;
@@ -70,7 +71,7 @@ const BODY_SIZE: u16 = RECORDS_IN + WORD_SIZE;
 fn flag_byte(holds: bool) -> u8
     ensures { result ≡ flag_byte holds }
 {
-    if holds { 1 } else { 0 }
+    holds as u8
 }
 
 pub fn host_bytes(h: Host) -> [u8; HOST_SIZE]
@@ -137,41 +138,38 @@ pub fn read_host(b: &[u8]) -> Host
     }
 }
 
-// The entry that a row names, by the row's number: none where no row refuses.
-fn entry_named(row: u8, place: u8) -> u8
-    ensures { result ≡ cond (eqb row 0) 0 place }
-{
-    if row == 0 { 0 } else { place }
-}
-
 // The bodies, one after the other, after the first three bytes.
 fn with_bodies(mut out: [u8; CONTENTS_SIZE], table: [Entry; OFFER_LIMIT]) -> [u8; CONTENTS_SIZE]
     ensures { take hand_start result ≡ take bodies_start out ++ bodies_bytes table }
 {
-    let mut i: u16 = 0;
-    while (i as usize) < OFFER_LIMIT {
-        let entry = table[i as usize];
+    for (i, entry) in table.iter().enumerate() {
         let body = [entry.offset, entry.length, entry.records];
-        put_words(&mut out, BODIES_START + i * BODY_SIZE, &body);
-        i += 1;
+        put_words(&mut out, BODIES_START + i as u16 * BODY_SIZE, &body);
     }
     out
 }
 
-// What the check answers, with no block in hand and the cursor at 0.
-pub fn contents_bytes(c: Checked) -> [u8; CONTENTS_SIZE]
-    ensures { result ≡ contents_bytes (told_checked c) no_place 0 }
+// The number of a row, the entry that it names, the count and the bodies, with no block in hand and the cursor at 0.
+fn laid(row: u8, place: u8, count: u8, table: [Entry; OFFER_LIMIT]) -> [u8; CONTENTS_SIZE]
+    ensures { result ≡ row ∷ place ∷ [] ++ (count ∷ bodies_bytes table ++ hand_bytes no_place 0) }
 {
-    let verdict = c.verdict;
-    let table = c.table;
-    let row = verdict.number();
     let mut out = [0u8; CONTENTS_SIZE];
     out[ROW_AT] = row;
-    out[ENTRY_AT] = entry_named(row, c.place);
-    out[COUNT_AT] = c.count;
+    out[ENTRY_AT] = place;
+    out[COUNT_AT] = count;
     let mut filled = with_bodies(out, table);
     store_hand(&mut filled, 0xFFFFFFFF, 0xFFFFFFFF, 0);
     filled
+}
+
+// What the check answers, with no block in hand and the cursor at 0.
+pub fn contents_bytes(told: Result<Checked, BundleRefusal>) -> [u8; CONTENTS_SIZE]
+    ensures { result ≡ contents_bytes (told_checked told) no_place 0 }
+{
+    match told {
+        Ok(c) => laid(0, 0, c.count, c.table),
+        Err(r) => laid(r.row.number(), r.place, 0, no_entries()),
+    }
 }
 
 // The row that the contents keep, the entry that it names, and the count of offers.
@@ -191,6 +189,19 @@ pub fn count_in(q: &[u8]) -> u8
     ensures { result ≡ get_or q.now count_at 0 }
 {
     words::byte_at(q, COUNT_AT)
+}
+
+// What contents keep of the check of a bundle: how many offers it has, or its refusal; a number past the last row's is that of B8.
+pub fn checked_in(q: &[u8]) -> Result<u8, BundleRefusal>
+    ensures { result ≡ checked_in q.now }
+{
+    match verdict_of(row_in(q)) {
+        None => Ok(count_in(q)),
+        Some(row) => Err(BundleRefusal {
+            row,
+            place: entry_in(q),
+        }),
+    }
 }
 
 // Bytes that a check may have left.

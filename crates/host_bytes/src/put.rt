@@ -13,11 +13,9 @@ pub(crate) fn put_words(out: &mut [u8], at: u16, values: &[u32])
     requires { at + length values.now * word_size ≤ length out.old }
     ensures { out.new ≡ take at out.old ++ (words_bytes values.now ++ drop (at + length values.now * word_size) out.old) }
 {
-    let mut i = 0;
-    while i < values.len() {
-        let b = words::bytes32(values[i]);
+    for (i, value) in values.iter().enumerate() {
+        let b = words::bytes32(*value);
         let from = at as usize + i * STEP;
         words::copy(&mut out[from..from + STEP], &b);
-        i += 1;
     }
 }

@@ -16,25 +16,26 @@ pub(crate) struct StageWords {
     pub second: u32,
 }
 
+impl StageWords {
+    // A stage that has no words.
+    fn bare(number: u8) -> Self
+        ensures { result ≡ record { number = number; first = 0; second = 0 } }
+    {
+        StageWords {
+            number,
+            first: 0,
+            second: 0,
+        }
+    }
+}
+
 pub(crate) fn stage_words(stage: HostStage) -> StageWords
     ensures { result ≡ stage_words stage }
 {
     match stage {
-        HostStage::Fresh => StageWords {
-            number: 0,
-            first: 0,
-            second: 0,
-        },
-        HostStage::Opening => StageWords {
-            number: 1,
-            first: 0,
-            second: 0,
-        },
-        HostStage::Listing => StageWords {
-            number: 2,
-            first: 0,
-            second: 0,
-        },
+        HostStage::Fresh => StageWords::bare(0),
+        HostStage::Opening => StageWords::bare(1),
+        HostStage::Listing => StageWords::bare(2),
         HostStage::Offering(t) => StageWords {
             number: 3,
             first: t.entry,
@@ -50,11 +51,7 @@ pub(crate) fn stage_words(stage: HostStage) -> StageWords
             first: a.place.entry,
             second: a.place.block,
         },
-        HostStage::Closing => StageWords {
-            number: 6,
-            first: 0,
-            second: 0,
-        },
+        HostStage::Closing => StageWords::bare(6),
         HostStage::Ended(e) => StageWords {
             number: ENDED,
             first: e.number() as u32,
@@ -67,16 +64,7 @@ pub(crate) fn stage_words(stage: HostStage) -> StageWords
 pub(crate) fn passed_in(stage: HostStage) -> bool
     ensures { result ≡ passed_in stage }
 {
-    match stage {
-        HostStage::Fresh => false,
-        HostStage::Opening => false,
-        HostStage::Listing => false,
-        HostStage::Offering(_) => false,
-        HostStage::Waiting(_) => false,
-        HostStage::Sending(a) => a.passed,
-        HostStage::Closing => false,
-        HostStage::Ended(_) => false,
-    }
+    matches!(stage, HostStage::Sending(a) if a.passed)
 }
 
 fn end_in(number: u32, status: u32) -> End
@@ -113,10 +101,7 @@ pub(crate) fn stage_in(stage: u8, first: u32, second: u32, passed: bool) -> Host
             HostStage::Sending(Awaited { place, passed })
         }
         6 => HostStage::Closing,
-        7 => {
-            let e = end_in(first, second);
-            HostStage::Ended(e)
-        }
+        7 => HostStage::Ended(end_in(first, second)),
         _ => HostStage::Fresh,
     }
 }

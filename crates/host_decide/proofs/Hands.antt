@@ -11,7 +11,7 @@ use Rattle.host_record.specs.Fits.{record_breaks, last_of, in_hand}
 use Rattle.host_decide.specs.declared.Action.{Action}
 use Rattle.host_decide.specs.declared.Action.TheVariants.{Nothing, Information, Notify, Offer, Block}
 use Rattle.host_decide.specs.declared.Move.{Move}
-use Rattle.host_decide.specs.declared.Decided.TheVariants.{N1, Moves}
+use Rattle.std.specs.Prelude.{Some, None}
 use Rattle.host_decide.specs.Decide.{ends, offer_from, noted, completes, decide_in, decide_of, decision_of, BlocksInHand}
 use Rattle.host_decide.proofs.Moves.{offer_cases, opening_cases, listing_cases, offering_cases, waiting_cases, sending_cases, closing_cases}
 
@@ -53,7 +53,7 @@ pub decided_in_hand : (n : ℕ) (last : Bool) (h : Host) (reply : List ℕ) → 
 decided_in_hand n last h reply = handed n last h reply h.stage
 
 -- what a decision that moves decides
-moves_is : (t : Bool) (d m : Move) → cond t N1 (Moves d) ≡ Moves m → d ≡ m
+moves_is : (t : Bool) (d m : Move) → cond t None (Some d) ≡ Some m → d ≡ m
 moves_is true d m e = cc
 moves_is false d m e = cc
 

@@ -1,6 +1,6 @@
 -- What the host decides on a reply (document 01, "The host"; document 02, A4): the table of rows by stage and reply, the ends H1 to H4, the replay rule, and
 -- the copy of a reply that is passed over. No byte of a bundle is looked at: only how many offers it has, and whether the block in hand is the last of its body.
-use Rattle.std.specs.Prelude.{ℕ, ◌+◌, ◌-◌, ◌≡◌, Bool, true, false, not, cond, ◌&&◌, ◌||◌, List, ltb, leb, eqb, length}
+use Rattle.std.specs.Prelude.{Option, Some, None, ℕ, ◌+◌, ◌-◌, ◌≡◌, Bool, true, false, not, cond, ◌&&◌, ◌||◌, List, ltb, leb, eqb, length}
 use Rattle.wire.specs.Codes.{info_start_entire_transaction, info_start_offer_list, info_end_offer_list, offer_skip, success_status, short_size}
 use Rattle.wire_offer.specs.Reply as offer_reply
 use Rattle.wire_content.specs.Reply as content_reply
@@ -19,8 +19,6 @@ use Rattle.host_record.specs.Fits.{busy_limit, record_breaks, last_of, in_hand}
 use Rattle.host_decide.specs.declared.Action.{Action}
 use Rattle.host_decide.specs.declared.Action.TheVariants.{Nothing, Information, Notify, Offer, Block}
 use Rattle.host_decide.specs.declared.Move.{Move}
-use Rattle.host_decide.specs.declared.Decided.{Decided}
-use Rattle.host_decide.specs.declared.Decided.TheVariants.{N1, Moves}
 
 -- the record in another stage
 abbrev pub at : Host → HostStage → Host
@@ -171,11 +169,11 @@ decide_in (Ended e) n last h reply = record { action = Nothing; host = h }
 abbrev pub decide_of : (n : ℕ) → (last : Bool) → Host → (reply : List ℕ) → Move
 decide_of n last h reply = decide_in h.stage n last h reply
 
--- what is decided over a bundle of n offers, where the body in hand has k records: N1, or a move
-unfoldable pub decision_of : (n k : ℕ) → Host → (reply : List ℕ) → Decided
-decision_of n k h reply = cond (record_breaks n k h) N1 (Moves (decide_of n (last_of k h.stage) h reply))
+-- what is decided over a bundle of n offers, where the body in hand has k records: a move, or none where N1 refuses the record
+unfoldable pub decision_of : (n k : ℕ) → Host → (reply : List ℕ) → Option Move
+decision_of n k h reply = cond (record_breaks n k h) None (Some (decide_of n (last_of k h.stage) h reply))
 
 -- a block that is sent is of the entry in hand
 abbrev pub BlocksInHand : Type 0
 BlocksInHand = (n k : ℕ) (h : Host) (reply : List ℕ) (m : Move) (p : Place)
-    → decision_of n k h reply ≡ Moves m → m.action ≡ Block p → p.entry ≡ in_hand h.stage
+    → decision_of n k h reply ≡ Some m → m.action ≡ Block p → p.entry ≡ in_hand h.stage

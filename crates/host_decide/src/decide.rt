@@ -3,19 +3,16 @@
 ghost use Rattle.std.specs.Prelude.{◌≡◌, ◌<◌};
 ghost use Rattle.host_record.specs.Record.{with_bit};
 ghost use Rattle.host_decide.specs.Decide as decided;
+ghost use Rattle.host_table.specs.Table.{code_of, number_of};
 ghost use Rattle.host_record.specs.Spare.{Spare, SpareIn, SpareCounts};
 
 use crate::{Action, Move};
 use host_record::fits::BUSY_LIMIT;
 use host_record::record::{Awaited, End, Host, HostStage, Place, Turn, sequence};
-use host_table::code_for;
+use host_table::{Row, Step, code_for};
 use wire::codes;
-use wire::codes::SHORT_SIZE;
 use wire_content::reply::{ContentReply, read_content_reply};
 use wire_offer::reply::read_offer_reply;
-
-// The length of a reply.
-const REPLY: usize = SHORT_SIZE;
 
 // A packet is sent, and its reply awaited.
 fn sends(h: Host, stage: HostStage, action: Action) -> Move
@@ -25,13 +22,9 @@ fn sends(h: Host, stage: HostStage, action: Action) -> Move
     Move {
         action,
         host: Host {
-            token: h.token,
             stage,
-            mask: h.mask,
             packets: h.packets + 1,
-            passes: h.passes,
-            skipped: h.skipped,
-            landed: h.landed,
+            ..h
         },
     }
 }
@@ -43,13 +36,8 @@ fn ends(h: Host, e: End) -> Move
     Move {
         action: Action::Nothing,
         host: Host {
-            token: h.token,
             stage: HostStage::Ended(e),
-            mask: h.mask,
-            packets: h.packets,
-            passes: h.passes,
-            skipped: h.skipped,
-            landed: h.landed,
+            ..h
         },
     }
 }
@@ -59,10 +47,12 @@ fn list(h: Host) -> Move
     requires { SpareCounts h }
     ensures { result ≡ decided.list h }
 {
-    let mut opened = h;
-    opened.passes = h.passes + 1;
-    opened.skipped = false;
-    opened.landed = false;
+    let opened = Host {
+        passes: h.passes + 1,
+        skipped: false,
+        landed: false,
+        ..h
+    };
     sends(
         opened,
         HostStage::Listing,
@@ -113,13 +103,8 @@ fn pass_over(p: Place, h: Host) -> Move
     Move {
         action: Action::Nothing,
         host: Host {
-            token: h.token,
             stage: HostStage::Sending(passed),
-            mask: h.mask,
-            packets: h.packets,
-            passes: h.passes,
-            skipped: h.skipped,
-            landed: h.landed,
+            ..h
         },
     }
 }
@@ -128,9 +113,10 @@ fn pass_over(p: Place, h: Host) -> Move
 fn noted(h: Host, status: u8) -> Host
     ensures { result ≡ decided.noted h status }
 {
-    let mut next = h;
-    next.skipped = h.skipped | (status == codes::OFFER_SKIP);
-    next
+    Host {
+        skipped: h.skipped | (status == codes::OFFER_SKIP),
+        ..h
+    }
 }
 
 // The mask with bit i set.
@@ -146,10 +132,11 @@ fn completes(h: Host, entry: u32) -> Host
     requires { entry < 32 }
     ensures { result ≡ decided.completes h entry }
 {
-    let mut next = h;
-    next.mask = with_bit(h.mask, entry);
-    next.landed = true;
-    next
+    Host {
+        mask: with_bit(h.mask, entry),
+        landed: true,
+        ..h
+    }
 }
 
 // After code 2: another pass exactly when this one had a SKIP and a completed image and fewer passes than offers have run.
@@ -159,23 +146,23 @@ fn replays(n: u32, h: Host) -> bool
     h.skipped & h.landed & (h.passes < n)
 }
 
-// What a step code does, with the offer in hand and the status of its reply.
-fn act(code: u8, n: u32, t: Turn, status: u8, h: Host) -> Move
+// What a step does, with the offer in hand and the status of its reply; where there is none, H3.
+fn act(step: Option<Step>, n: u32, t: Turn, status: u8, h: Host) -> Move
     requires { SpareCounts h × Spare t.entry }
-    ensures { result ≡ decided.act code n t status h }
+    ensures { result ≡ decided.act (code_of step) n t status h }
 {
-    match code {
-        host_table::LIST => list(h),
-        host_table::OFFER => offer_from(n, 0, h),
-        host_table::SEND => send_block(
+    match step {
+        Some(Step::List) => list(h),
+        Some(Step::Offer) => offer_from(n, 0, h),
+        Some(Step::Send) => send_block(
             Place {
                 entry: t.entry,
                 block: 0,
             },
             h,
         ),
-        host_table::NEXT_OFFER => offer_from(n, t.entry + 1, noted(h, status)),
-        host_table::WAIT => {
+        Some(Step::NextOffer) => offer_from(n, t.entry + 1, noted(h, status)),
+        Some(Step::Wait) => {
             if t.busy < BUSY_LIMIT {
                 sends(
                     h,
@@ -189,33 +176,37 @@ fn act(code: u8, n: u32, t: Turn, status: u8, h: Host) -> Move
                 ends(h, End::Busy)
             }
         }
-        host_table::SAME => sends(h, HostStage::Offering(t), Action::Offer(t.entry)),
-        host_table::DECIDE => {
+        Some(Step::Same) => sends(h, HostStage::Offering(t), Action::Offer(t.entry)),
+        Some(Step::Decide) => {
             if replays(n, h) {
                 list(h)
             } else {
                 ends(h, End::Done)
             }
         }
-        _ => ends(h, End::Unexpected),
+        None => ends(h, End::Unexpected),
     }
 }
 
 // On a reply of the offer kinds: H2 first, then the table.
-fn hears(row: usize, n: u32, t: Turn, h: Host, reply: &[u8]) -> Move
+#[tactic(auto, unfolding(crate::specs::Decide::hears, wire_offer::specs::Reply::read_reply_of))]
+fn hears(row: Row, n: u32, t: Turn, h: Host, reply: &[u8]) -> Move
     requires { SpareCounts h × Spare t.entry }
-    ensures { result ≡ decided.hears row n t h reply.now }
+    ensures { result ≡ decided.hears (number_of row) n t h reply.now }
 {
-    if reply.len() != REPLY {
+    let Ok(answer) = read_offer_reply(reply) else {
         return ends(h, End::Foreign);
-    }
-    let read = read_offer_reply(reply);
-    let answer = read.reply;
+    };
     if answer.token != h.token {
         return ends(h, End::Foreign);
     }
-    let code = code_for(row, answer.status);
-    act(code, n, t, answer.status, h)
+    act(
+        code_for(row.number(), answer.status),
+        n,
+        t,
+        answer.status,
+        h,
+    )
 }
 
 // After a block is taken: the next one, or the offer is completed and the next offer is due.
@@ -266,15 +257,14 @@ fn hears_reply(n: u32, last: bool, a: Awaited, h: Host, r: ContentReply) -> Move
 }
 
 // On a reply to a block: H2 by its length first.
+#[tactic(auto, unfolding(crate::specs::Decide::hears_block, wire_content::specs::Reply::read_reply_of))]
 fn hears_block(n: u32, last: bool, a: Awaited, h: Host, reply: &[u8]) -> Move
     requires { SpareCounts h × (a.place.entry < 32) × Spare a.place.block }
     ensures { result ≡ decided.hears_block n last a h reply.now }
 {
-    if reply.len() != REPLY {
+    let Ok(answer) = read_content_reply(reply) else {
         return ends(h, End::Foreign);
-    }
-    let read = read_content_reply(reply);
-    let answer = read.reply;
+    };
     hears_reply(n, last, a, h, answer)
 }
 
@@ -283,20 +273,19 @@ pub(crate) fn decide(h: Host, n: u32, last: bool, reply: &[u8]) -> Move
     requires { SpareCounts h × SpareIn h.stage }
     ensures { result ≡ decided.decide_of n last h reply.now }
 {
-    let stage = h.stage;
     let none = Turn { entry: 0, busy: 0 };
-    match stage {
+    match h.stage {
         HostStage::Fresh => sends(
             h,
             HostStage::Opening,
             Action::Information(codes::INFO_START_ENTIRE_TRANSACTION),
         ),
-        HostStage::Opening => hears(host_table::OPENING, n, none, h, reply),
-        HostStage::Listing => hears(host_table::LISTING, n, none, h, reply),
-        HostStage::Offering(t) => hears(host_table::OFFERING, n, t, h, reply),
-        HostStage::Waiting(t) => hears(host_table::WAITING, n, t, h, reply),
+        HostStage::Opening => hears(Row::Opening, n, none, h, reply),
+        HostStage::Listing => hears(Row::Listing, n, none, h, reply),
+        HostStage::Offering(t) => hears(Row::Offering, n, t, h, reply),
+        HostStage::Waiting(t) => hears(Row::Waiting, n, t, h, reply),
         HostStage::Sending(a) => hears_block(n, last, a, h, reply),
-        HostStage::Closing => hears(host_table::CLOSING, n, none, h, reply),
+        HostStage::Closing => hears(Row::Closing, n, none, h, reply),
         HostStage::Ended(_) => Move {
             action: Action::Nothing,
             host: h,

@@ -28,22 +28,13 @@ pub struct Move {
     pub host: Host,
 }
 
-// The row that refuses the record, or the move.
-#[derive(Clone, Copy)]
-pub enum Decided {
-    N1,
-    Moves(Move),
-}
-
-// Over a bundle of n offers, where the body in hand has k records: N1, or the move.
-pub fn decision(n: u8, k: u32, h: Host, reply: &[u8]) -> Decided
+// Over a bundle of n offers, where the body in hand has k records: the move; none where N1 refuses the record.
+pub fn decision(n: u8, k: u32, h: Host, reply: &[u8]) -> Option<Move>
     ensures { result ≡ decision_of n k h reply.now }
 {
     if breaks(n, k, h) {
-        return Decided::N1;
+        return None;
     }
-    let stage = h.stage;
-    let last = last_in(k, stage);
-    let m = decide(h, n as u32, last, reply);
-    Decided::Moves(m)
+    let last = last_in(k, h.stage);
+    Some(decide(h, n as u32, last, reply))
 }

@@ -1,5 +1,5 @@
 -- What a step answers (document 01, "The host" and rows B, N1).
-use Rattle.std.specs.Prelude.{ℕ, ◌-◌, Bool, true, false, List, [], ◌∷◌, ◌++◌, length, take, replicate}
+use Rattle.std.specs.Prelude.{ℕ, ◌-◌, List, [], ◌∷◌, ◌++◌, Result, Ok, Err, length, take, replicate}
 use Rattle.wire.specs.Codes.{short_size}
 use Rattle.bundle_layout.specs.Rows as bundle
 use Rattle.host_record.specs.declared.record.Host.{Host}
@@ -33,11 +33,10 @@ refused_by row h = record { row = row; sent = []; packet = replicate packet_size
 
 -- the row of a refusal
 abbrev pub row_of : StepRefusal → Row
-row_of refusal.Served = served
-row_of (refusal.Bundle verdict place) = row_b (bundle.number_of verdict) place
+row_of (refusal.Bundle r) = row_b (bundle.number_of r.row) r.place
 row_of refusal.N1 = row_n 1
 
--- the number of a row, 0 where none refuses; the entry that it names, or 0; and whether it refuses
+-- the number of a row, 0 where none refuses; and the entry that it names, or 0
 abbrev pub number_of : Row → ℕ
 number_of served = 0
 number_of (row_b k entry) = k
@@ -47,11 +46,6 @@ abbrev pub entry_of : Row → ℕ
 entry_of served = 0
 entry_of (row_b k entry) = entry
 entry_of (row_n k) = 0
-
-abbrev pub is_refused : Row → Bool
-is_refused served = false
-is_refused (row_b k entry) = true
-is_refused (row_n k) = true
 
 -- how many bytes are sent
 abbrev pub size_of : Sent → ℕ
@@ -64,5 +58,7 @@ sent_by sent.Nothing packet = []
 sent_by sent.Offer packet = take short_size packet ∷ []
 sent_by sent.Content packet = packet ∷ []
 
-abbrev pub told : StepAnswer → Step
-told a = record { row = row_of a.refusal; sent = sent_by a.sent a.packet; packet = a.packet; host = a.host }
+-- what the step of a host answers, in these terms
+abbrev pub told : Host → Result StepAnswer StepRefusal → Step
+told h (Ok a) = record { row = served; sent = sent_by a.sent a.packet; packet = a.packet; host = a.host }
+told h (Err r) = refused_by (row_of r) h

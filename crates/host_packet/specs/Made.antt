@@ -1,5 +1,5 @@
 -- What an action sends, over the body in hand of a bundle that was checked once, and a cursor, the place of the record after the one in hand.
-use Rattle.std.specs.Prelude.{ℕ, ◌+◌, Bool, true, false, cond, List, [], ◌∷◌, leb, eqb, length, set, take, drop}
+use Rattle.std.specs.Prelude.{ℕ, ◌+◌, Bool, true, false, cond, List, [], ◌∷◌, Option, Some, None, Result, Ok, Err, leb, eqb, length, set, take, drop}
 use Rattle.wire.specs.Codes.{notify_on_ready, short_size}
 use Rattle.wire_offer.specs.Signal.{information_bytes, extended_bytes}
 use Rattle.bundle_records.specs.Walk.{next_of}
@@ -13,6 +13,7 @@ use Rattle.host_record.specs.Fits.{is_last_of}
 use Rattle.host_decide.specs.declared.Action.{Action}
 use Rattle.host_decide.specs.declared.Action.TheVariants as action
 use Rattle.host_packet.specs.declared.answer.Stepped.{Stepped}
+use Rattle.host_packet.specs.declared.answer.StepRefusal.{StepRefusal}
 use Rattle.host_packet.specs.declared.answer.Written.{Written}
 use Rattle.host_packet.specs.Packet.{packet_size, block_bytes}
 use Rattle.host_packet.specs.Answer.{served, row_n, Step, filled, row_of, sent_by}
@@ -68,9 +69,10 @@ unfoldable pub written_of : (packet b : List ℕ) → Body → (cursor token : �
 written_of packet b body cursor token action =
     cond (eqb (length packet) packet_size) (laid_of b body cursor token action) (record { served = false; sent = []; packet = packet; cursor = cursor })
 
--- an answer of the code and the lent bytes, in these terms
-abbrev pub laid_by : Written → (packet : List ℕ) → Laid
-laid_by w packet = record { served = w.served; sent = sent_by w.sent packet; packet = packet; cursor = w.cursor }
+-- an answer of the code, at a cursor, and the lent bytes, in these terms
+abbrev pub laid_by : (cursor : ℕ) → Option Written → (packet : List ℕ) → Laid
+laid_by cursor (Some w) packet = record { served = true; sent = sent_by w.sent packet; packet = packet; cursor = w.cursor }
+laid_by cursor None packet = record { served = false; sent = []; packet = packet; cursor = cursor }
 
 -- a step and the next cursor
 pub record InnerStep : Type 0 where
@@ -88,9 +90,10 @@ step_of_laid l before after = record {
 abbrev pub made_of : (b : List ℕ) → Body → (cursor : ℕ) → (before after : Host) → Action → InnerStep
 made_of b body cursor before after action = step_of_laid (laid_of b body cursor after.token action) before after
 
--- an answer of the inner step and the lent bytes, in these terms
-abbrev pub told_inner : Stepped → (packet : List ℕ) → InnerStep
-told_inner a packet = record {
-  step = record { row = row_of a.refusal; sent = sent_by a.sent packet; packet = packet; host = a.host };
+-- an answer of the inner step of a host, at a cursor, and the lent bytes, in these terms
+abbrev pub told_inner : Host → (cursor : ℕ) → Result Stepped StepRefusal → (packet : List ℕ) → InnerStep
+told_inner h cursor (Ok a) packet = record {
+  step = record { row = served; sent = sent_by a.sent packet; packet = packet; host = a.host };
   cursor = a.cursor;
 }
+told_inner h cursor (Err r) packet = record { step = record { row = row_of r; sent = []; packet = packet; host = h }; cursor = cursor }

@@ -1,7 +1,6 @@
 // What an action sends, over the body in hand of a bundle that was checked once, and a cursor, the place of the record after the one in hand.
-ghost use Rattle.std.specs.Prelude.{◌≡◌, [], length, replicate};
-ghost use Rattle.host_packet.specs.Packet.{packet_size};
-ghost use Rattle.host_packet.specs.Made.{record_start, laid_offer, laid_block, laid_of, written_of, laid_by};
+ghost use Rattle.std.specs.Prelude.{◌≡◌, ℕ};
+ghost use Rattle.host_packet.specs.Made.{silent, lacking, record_start, laid_offer, laid_block, laid_of, written_of, laid_by};
 
 use crate::answer::{Sent, Written};
 use crate::packet;
@@ -13,35 +12,40 @@ use host_decide::Action;
 use host_record::fits;
 use host_record::fits::Body;
 use host_record::record::Place;
-use wire::words;
 
 // Nothing is sent.
-fn none(packet: &mut [u8], served: bool, cursor: usize) -> Written
-    ensures { laid_by result packet.new ≡ record { served = served; sent = []; packet = replicate (length packet.old) 0; cursor = cursor } }
+fn silent(packet: &mut [u8; PACKET_SIZE], cursor: usize) -> Written
+    ensures { laid_by cursor (Some result) packet.new ≡ silent cursor }
 {
-    words::fill(packet, 0);
+    *packet = [0; PACKET_SIZE];
     let sent = Sent::Nothing;
-    Written {
-        served,
-        sent,
-        cursor,
-    }
+    Written { sent, cursor }
 }
 
-// The offer of an entry; where the bytes do not have it, N1.
-fn written_offer(packet: &mut [u8], b: &[u8], cursor: usize, entry: u32, token: u8) -> Written
-    requires { length packet.old ≡ packet_size }
-    ensures { laid_by result packet.new ≡ laid_offer b.now cursor token entry }
+// The bundle lacks what is to be sent.
+fn lacking(packet: &mut [u8; PACKET_SIZE]) -> Option<Written>
+    ensures { (cursor : ℕ) → laid_by cursor result packet.new ≡ lacking cursor }
+{
+    *packet = [0; PACKET_SIZE];
+    None
+}
+
+// The offer of an entry; none where the bytes do not have it.
+fn written_offer(
+    packet: &mut [u8; PACKET_SIZE],
+    b: &[u8],
+    cursor: usize,
+    entry: u32,
+    token: u8,
+) -> Option<Written>
+    ensures { laid_by cursor result packet.new ≡ laid_offer b.now cursor token entry }
 {
     if (HEAD as u64) + (ENTRY as u64) * (entry as u64 + 1) <= b.len() as u64 {
         packet::offer(packet, b, entry, token);
-        Written {
-            served: true,
-            sent: Sent::Offer,
-            cursor,
-        }
+        let sent = Sent::Offer;
+        Some(Written { sent, cursor })
     } else {
-        none(packet, false, cursor)
+        lacking(packet)
     }
 }
 
@@ -52,16 +56,19 @@ fn start_of(body: Body, cursor: usize, k: u32) -> usize
     if k == 0 { body.start } else { cursor }
 }
 
-// The block of the record that stands at its start; where none stands there, N1.
-fn written_block(packet: &mut [u8], b: &[u8], body: Body, cursor: usize, p: Place) -> Written
-    requires { length packet.old ≡ packet_size }
-    ensures { laid_by result packet.new ≡ laid_block b.now body cursor p }
+// The block of the record that stands at its start; none where none stands there.
+fn written_block(
+    packet: &mut [u8; PACKET_SIZE],
+    b: &[u8],
+    body: Body,
+    cursor: usize,
+    p: Place,
+) -> Option<Written>
+    ensures { laid_by cursor result packet.new ≡ laid_block b.now body cursor p }
 {
     let at = start_of(body, cursor, p.block);
-    let r = next_record(b, at, body.end);
-    match r {
-        Next::End => none(packet, false, cursor),
-        Next::Bad => none(packet, false, cursor),
+    match next_record(b, at, body.end) {
+        Next::End | Next::Bad => lacking(packet),
         Next::Record {
             address,
             start,
@@ -70,51 +77,42 @@ fn written_block(packet: &mut [u8], b: &[u8], body: Body, cursor: usize, p: Plac
         } => {
             let last = fits::is_last(body.records, p);
             packet::block(packet, b, p.block, last, address, start, size);
-            Written {
-                served: true,
+            Some(Written {
                 sent: Sent::Content,
                 cursor: next,
-            }
+            })
         }
     }
 }
 
-// What an action sends, in PACKET_SIZE bytes.
+// What an action sends, in PACKET_SIZE bytes; none where the bundle lacks it.
 fn written_in(
-    packet: &mut [u8],
+    packet: &mut [u8; PACKET_SIZE],
     b: &[u8],
     body: Body,
     cursor: usize,
     action: Action,
     token: u8,
-) -> Written
-    requires { length packet.old ≡ packet_size }
-    ensures { laid_by result packet.new ≡ laid_of b.now body cursor token action }
+) -> Option<Written>
+    ensures { laid_by cursor result packet.new ≡ laid_of b.now body cursor token action }
 {
+    let sent = Sent::Offer;
     match action {
-        Action::Nothing => none(packet, true, cursor),
+        Action::Nothing => Some(silent(packet, cursor)),
         Action::Information(code) => {
             packet::information(packet, code, token);
-            Written {
-                served: true,
-                sent: Sent::Offer,
-                cursor,
-            }
+            Some(Written { sent, cursor })
         }
         Action::Notify => {
             packet::notify(packet, token);
-            Written {
-                served: true,
-                sent: Sent::Offer,
-                cursor,
-            }
+            Some(Written { sent, cursor })
         }
         Action::Offer(entry) => written_offer(packet, b, cursor, entry, token),
         Action::Block(p) => written_block(packet, b, body, cursor, p),
     }
 }
 
-// What an action sends, written into lent bytes; where these are not PACKET_SIZE, nothing is written and nothing sent.
+// What an action sends, written into lent bytes; none where the bundle lacks it. Where the bytes are not PACKET_SIZE, nothing is written and nothing sent.
 pub fn written(
     packet: &mut [u8],
     b: &[u8],
@@ -122,16 +120,9 @@ pub fn written(
     cursor: usize,
     action: Action,
     token: u8,
-) -> Written
-    ensures { laid_by result packet.new ≡ written_of packet.old b.now body cursor token action }
+) -> Option<Written>
+    ensures { laid_by cursor result packet.new ≡ written_of packet.old b.now body cursor token action }
 {
-    if packet.len() == PACKET_SIZE {
-        written_in(packet, b, body, cursor, action, token)
-    } else {
-        Written {
-            served: false,
-            sent: Sent::Nothing,
-            cursor,
-        }
-    }
+    let packet = packet.as_mut_array()?;
+    written_in(packet, b, body, cursor, action, token)
 }

@@ -1,29 +1,36 @@
 // What a step of the host answers.
 ghost use Rattle.std.specs.Prelude.{◌≡◌};
-ghost use Rattle.host_packet.specs.Answer.{row_of, number_of, entry_of, is_refused, size_of};
+ghost use Rattle.host_packet.specs.declared.answer.StepRefusal.TheVariants.{Bundle};
+ghost use Rattle.host_packet.specs.Answer.{row_of, number_of, entry_of, size_of};
 
 use crate::packet::PACKET_SIZE;
-use bundle_layout::BundleVerdict;
+use bundle_layout::BundleRefusal;
 use host_record::record::Host;
 use wire::codes::SHORT_SIZE;
 
-// Served, or the row that refuses the step.
+// The row that refuses a step.
 #[derive(Clone, Copy)]
 pub enum StepRefusal {
-    Served,
     // The bundle's row, with its entry.
-    Bundle { verdict: BundleVerdict, place: u8 },
+    Bundle(BundleRefusal),
     N1,
 }
 
+impl From<BundleRefusal> for StepRefusal {
+    ghost from_gives = { λ r s. s ≡ Bundle r };
+
+    fn from(r: BundleRefusal) -> StepRefusal {
+        StepRefusal::Bundle(r)
+    }
+}
+
 impl StepRefusal {
-    // The number of the row that refuses, 0 for none.
+    // The row's number.
     pub fn number(self) -> u8
         ensures { result ≡ number_of (row_of self) }
     {
         match self {
-            StepRefusal::Served => 0,
-            StepRefusal::Bundle { verdict, place: _ } => verdict.number(),
+            StepRefusal::Bundle(r) => r.row.number(),
             StepRefusal::N1 => 1,
         }
     }
@@ -33,23 +40,8 @@ impl StepRefusal {
         ensures { result ≡ entry_of (row_of self) }
     {
         match self {
-            StepRefusal::Served => 0,
-            StepRefusal::Bundle { verdict: _, place } => place,
+            StepRefusal::Bundle(r) => r.place,
             StepRefusal::N1 => 0,
-        }
-    }
-
-    // A row refuses.
-    pub fn is_refused(self) -> bool
-        ensures { result ≡ is_refused (row_of self) }
-    {
-        match self {
-            StepRefusal::Served => false,
-            StepRefusal::Bundle {
-                verdict: _,
-                place: _,
-            } => true,
-            StepRefusal::N1 => true,
         }
     }
 }
@@ -75,27 +67,25 @@ impl Sent {
     }
 }
 
+// What a step that no row refuses answers.
 #[derive(Clone, Copy)]
 pub struct StepAnswer {
-    pub refusal: StepRefusal,
     pub sent: Sent,
     // Zero where nothing is sent, and past what is sent.
     pub packet: [u8; PACKET_SIZE],
     pub host: Host,
 }
 
-// What was written into the packet: whether the step is served, what is sent, and the place of the record after the one in hand.
+// What was written into the packet: what is sent, and the place of the record after the one in hand.
 #[derive(Clone, Copy)]
 pub struct Written {
-    pub served: bool,
     pub sent: Sent,
     pub cursor: usize,
 }
 
-// What the inner step answers beside the packet that it writes: the row, what is sent, the next record, and the place of the record after the one in hand.
+// What the inner step answers beside the packet that it writes: what is sent, the next record, and the place of the record after the one in hand.
 #[derive(Clone, Copy)]
 pub struct Stepped {
-    pub refusal: StepRefusal,
     pub sent: Sent,
     pub host: Host,
     pub cursor: usize,

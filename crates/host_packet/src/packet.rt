@@ -17,24 +17,21 @@ use wire_offer::signal::{Signal, build_extended, build_information};
 pub const PACKET_SIZE: usize = LONG_SIZE;
 
 // A short packet at the start, and zeros after it.
-fn lay(packet: &mut [u8], p: [u8; SHORT_SIZE])
-    requires { length packet.old ≡ packet_size }
+fn lay(packet: &mut [u8; PACKET_SIZE], p: [u8; SHORT_SIZE])
     ensures { packet.new ≡ p ++ replicate (packet_size - short_size) 0 }
 {
     words::copy(&mut packet[0..SHORT_SIZE], &p);
     words::fill(&mut packet[SHORT_SIZE..PACKET_SIZE], 0);
 }
 
-pub(crate) fn information(packet: &mut [u8], code: u8, token: u8)
-    requires { length packet.old ≡ packet_size }
+pub(crate) fn information(packet: &mut [u8; PACKET_SIZE], code: u8, token: u8)
     ensures { packet.new ≡ information_bytes (record { code = code; token = token }) ++ replicate (packet_size - short_size) 0 }
 {
     let p = build_information(Signal { code, token });
     lay(packet, p);
 }
 
-pub(crate) fn notify(packet: &mut [u8], token: u8)
-    requires { length packet.old ≡ packet_size }
+pub(crate) fn notify(packet: &mut [u8; PACKET_SIZE], token: u8)
     ensures { packet.new ≡ extended_bytes (record { code = notify_on_ready; token = token }) ++ replicate (packet_size - short_size) 0 }
 {
     let p = build_extended(Signal {
@@ -45,8 +42,8 @@ pub(crate) fn notify(packet: &mut [u8], token: u8)
 }
 
 // The offer of an entry: the table's with our token in byte 3.
-pub(crate) fn offer(packet: &mut [u8], b: &[u8], entry: u32, token: u8)
-    requires { (length packet.old ≡ packet_size) × (table_end (entry + 1) ≤ length b.now) }
+pub(crate) fn offer(packet: &mut [u8; PACKET_SIZE], b: &[u8], entry: u32, token: u8)
+    requires { table_end (entry + 1) ≤ length b.now }
     ensures { packet.new ≡ set (take short_size (drop (table_end entry) b.now)) 3 token ++ replicate (packet_size - short_size) 0 }
 {
     let at = HEAD + ENTRY * (entry as usize);
@@ -74,7 +71,7 @@ fn flags(first: bool, last: bool) -> u8
 
 // Block k of a body as content: the record's data, unused data as zero.
 pub(crate) fn block(
-    packet: &mut [u8],
+    packet: &mut [u8; PACKET_SIZE],
     b: &[u8],
     k: u32,
     last: bool,
@@ -82,7 +79,7 @@ pub(crate) fn block(
     start: usize,
     size: u8,
 )
-    requires { (length packet.old ≡ packet_size) × (1 ≤ size) × (size ≤ packet_data_size) × (start + size ≤ length b.now) }
+    requires { (1 ≤ size) × (size ≤ packet_data_size) × (start + size ≤ length b.now) }
     ensures { packet.new ≡ block_bytes k last (record { address = address; bytes = take size (drop start b.now) }) }
 {
     let n = size as usize;

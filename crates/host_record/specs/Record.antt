@@ -1,5 +1,5 @@
 -- The host's record: its values, its start, and its report (document 01, "The host"; document 02, A4).
-use Rattle.std.specs.Prelude.{ℕ, ◌+◌, ◌/◌, ◌%◌, ◌^◌, ◌<◌, Bool, true, false, cond, eqb}
+use Rattle.std.specs.Prelude.{ℕ, Option, Some, None, ◌+◌, ◌/◌, ◌%◌, ◌^◌, ◌<◌, Bool, true, false, cond, eqb}
 use Rattle.std.specs.Int.Count.{ones}
 use Rattle.host_record.specs.declared.record.Host.{Host}
 use Rattle.host_record.specs.declared.record.Place.{Place}
@@ -9,8 +9,6 @@ use Rattle.host_record.specs.declared.record.HostStage.TheVariants.{Fresh, Openi
 use Rattle.host_record.specs.declared.record.End.{End}
 use Rattle.host_record.specs.declared.record.End.TheVariants as end
 use Rattle.host_record.specs.declared.report.Report.{Report}
-use Rattle.host_record.specs.declared.report.Progress.{Progress}
-use Rattle.host_record.specs.declared.report.Progress.TheVariants as progress
 
 -- the values of the types
 abbrev pub FitsEnd : End → Type 0
@@ -104,9 +102,9 @@ ending_in (Sending a) = running
 ending_in Closing = running
 ending_in (Ended e) = ending_of e
 
-abbrev pub told_progress : Progress → Ending
-told_progress progress.Running = running
-told_progress (progress.Ended e) = ending_of e
+abbrev pub told_progress : Option End → Ending
+told_progress None = running
+told_progress (Some e) = ending_of e
 
 abbrev pub has_ended : HostStage → Bool
 has_ended Fresh = false

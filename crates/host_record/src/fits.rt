@@ -33,8 +33,7 @@ pub fn body_at(table: [Entry; OFFER_LIMIT], i: u32) -> Body
     ensures { result ≡ body_on table i }
 {
     if i < OFFER_LIMIT as u32 {
-        let e = table[i as usize];
-        body_of(e)
+        body_of(table[i as usize])
     } else {
         Body {
             start: 0,
@@ -62,17 +61,9 @@ fn stage_breaks(n: u8, k: u32, stage: HostStage) -> bool
     ensures { result ≡ stage_breaks n k stage }
 {
     match stage {
-        HostStage::Fresh => false,
-        HostStage::Opening => false,
-        HostStage::Listing => false,
-        HostStage::Offering(t) => turn_breaks(n, t),
-        HostStage::Waiting(t) => turn_breaks(n, t),
-        HostStage::Sending(a) => {
-            let p = a.place;
-            place_breaks(n, k, p)
-        }
-        HostStage::Closing => false,
-        HostStage::Ended(_) => false,
+        HostStage::Offering(t) | HostStage::Waiting(t) => turn_breaks(n, t),
+        HostStage::Sending(a) => place_breaks(n, k, a.place),
+        _ => false,
     }
 }
 
@@ -80,21 +71,15 @@ fn stage_breaks(n: u8, k: u32, stage: HostStage) -> bool
 fn mask_breaks(n: u8, mask: u32) -> bool
     ensures { result ≡ leb (2 ^ n) mask }
 {
-    if n < 32 {
-        (1 << n as u32) <= mask
-    } else {
-        false
-    }
+    (n < 32) && (1 << n as u32) <= mask
 }
 
 // N1: .. more passes than offers, 2^31 or more packets, or a mask bit past its offers.
 pub fn breaks(n: u8, k: u32, h: Host) -> bool
     ensures { result ≡ record_breaks n k h }
 {
-    let stage = h.stage;
-    let points = stage_breaks(n, k, stage);
-    let masked = mask_breaks(n, h.mask);
-    points | (((n as u32) < h.passes) | ((PACKET_LIMIT <= h.packets) | masked))
+    stage_breaks(n, k, h.stage)
+        | (((n as u32) < h.passes) | ((PACKET_LIMIT <= h.packets) | mask_breaks(n, h.mask)))
 }
 
 // The block in hand is the last of its body, which has k records.
@@ -108,17 +93,8 @@ pub fn last_in(k: u32, stage: HostStage) -> bool
     ensures { result ≡ last_of k stage }
 {
     match stage {
-        HostStage::Fresh => false,
-        HostStage::Opening => false,
-        HostStage::Listing => false,
-        HostStage::Offering(_) => false,
-        HostStage::Waiting(_) => false,
-        HostStage::Sending(a) => {
-            let p = a.place;
-            is_last(k, p)
-        }
-        HostStage::Closing => false,
-        HostStage::Ended(_) => false,
+        HostStage::Sending(a) => is_last(k, a.place),
+        _ => false,
     }
 }
 
@@ -127,13 +103,8 @@ pub fn in_hand(stage: HostStage) -> u32
     ensures { result ≡ in_hand stage }
 {
     match stage {
-        HostStage::Fresh => 0,
-        HostStage::Opening => 0,
-        HostStage::Listing => 0,
-        HostStage::Offering(t) => t.entry,
-        HostStage::Waiting(t) => t.entry,
+        HostStage::Offering(t) | HostStage::Waiting(t) => t.entry,
         HostStage::Sending(a) => a.place.entry,
-        HostStage::Closing => 0,
-        HostStage::Ended(_) => 0,
+        _ => 0,
     }
 }

@@ -2,7 +2,7 @@
 ghost use Rattle.std.specs.Prelude.{◌≡◌};
 ghost use Rattle.host_record.specs.Record.{fresh_host, ending_of, number_of, status_of, ending_in, told_progress, told_report, report_of, sequence_of};
 
-use crate::report::{Progress, Report};
+use crate::report::Report;
 
 // A record counts fewer packets than this.
 pub const PACKET_LIMIT: u32 = 0x80000000;
@@ -61,11 +61,8 @@ impl End {
         ensures { result ≡ status_of (ending_of self) }
     {
         match self {
-            End::Done => 0,
             End::Status(status) => status,
-            End::Foreign => 0,
-            End::Unexpected => 0,
-            End::Busy => 0,
+            _ => 0,
         }
     }
 }
@@ -110,19 +107,13 @@ pub fn sequence(k: u32) -> u16
     (k % 65536) as u16
 }
 
-// How far a host is.
-fn progress(stage: HostStage) -> Progress
+// How a host ended; none while it runs.
+fn progress(stage: HostStage) -> Option<End>
     ensures { told_progress result ≡ ending_in stage }
 {
     match stage {
-        HostStage::Fresh => Progress::Running,
-        HostStage::Opening => Progress::Running,
-        HostStage::Listing => Progress::Running,
-        HostStage::Offering(_) => Progress::Running,
-        HostStage::Waiting(_) => Progress::Running,
-        HostStage::Sending(_) => Progress::Running,
-        HostStage::Closing => Progress::Running,
-        HostStage::Ended(e) => Progress::Ended(e),
+        HostStage::Ended(e) => Some(e),
+        _ => None,
     }
 }
 
@@ -146,14 +137,12 @@ impl Host {
     pub fn report(self) -> Report
         ensures { told_report result ≡ report_of self }
     {
-        let stage = self.stage;
-        let how = progress(stage);
         Report {
             completed: u32::count_ones(self.mask),
             mask: self.mask,
             packets: self.packets,
             passes: self.passes,
-            progress: how,
+            progress: progress(self.stage),
         }
     }
 }

@@ -2,17 +2,12 @@
 use crate::record::End;
 
 #[derive(Clone, Copy)]
-pub enum Progress {
-    Running,
-    Ended(End),
-}
-
-#[derive(Clone, Copy)]
 pub struct Report {
     // How many offers were completed, and which.
     pub completed: u32,
     pub mask: u32,
     pub packets: u32,
     pub passes: u32,
-    pub progress: Progress,
+    // How the host ended; none while it runs.
+    pub progress: Option<End>,
 }

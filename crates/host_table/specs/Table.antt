@@ -1,5 +1,9 @@
 -- The host's next step, a table of rows by stage and reply (document 01, "The host").
-use Rattle.std.specs.Prelude.{ℕ, cond, List, [], ◌∷◌, ltb, get_or}
+use Rattle.std.specs.Prelude.{ℕ, Option, Some, None, cond, List, [], ◌∷◌, ltb, get_or}
+use Rattle.host_table.specs.declared.Step.{Step}
+use Rattle.host_table.specs.declared.Step.TheVariants as step
+use Rattle.host_table.specs.declared.Row.{Row}
+use Rattle.host_table.specs.declared.Row.TheVariants as row
 
 -- the step codes of the table; the cells with no step end with H3
 abbrev pub step_none : ℕ
@@ -59,3 +63,22 @@ class_of status = cond (ltb status 5) status 5
 -- the step code of a row for a status
 abbrev pub cell : (row status : ℕ) → ℕ
 cell row status = get_or (get_or table row []) (class_of status) 0
+
+-- the code of a step, and of none
+abbrev pub code_of : Option Step → ℕ
+code_of None = step_none
+code_of (Some step.List) = step_list
+code_of (Some step.Offer) = step_offer
+code_of (Some step.Send) = step_send
+code_of (Some step.NextOffer) = step_next_offer
+code_of (Some step.Wait) = step_wait
+code_of (Some step.Same) = step_same
+code_of (Some step.Decide) = step_decide
+
+-- the number of a row
+abbrev pub number_of : Row → ℕ
+number_of row.Opening = opening_row
+number_of row.Listing = listing_row
+number_of row.Offering = offering_row
+number_of row.Waiting = waiting_row
+number_of row.Closing = closing_row

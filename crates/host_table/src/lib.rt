@@ -2,38 +2,57 @@
 #![tactic(auto)]
 
 ghost use Rattle.std.specs.Prelude.{◌≡◌};
-ghost use Rattle.host_table.specs.Table.{class_of, cell};
+ghost use Rattle.host_table.specs.Table.{class_of, cell, code_of, number_of};
 
-// The step codes; the cells with no step end with H3.
-const NONE: u8 = 0;
+// What the host does next; the cells with no step end with H3.
+#[derive(Clone, Copy, PartialEq, Eq)]
+pub enum Step {
+    List,
+    Offer,
+    Send,
+    NextOffer,
+    Wait,
+    Same,
+    Decide,
+}
 
-pub const LIST: u8 = 1;
+// The rows, by stage.
+#[derive(Clone, Copy, PartialEq, Eq)]
+pub enum Row {
+    Opening = 0,
+    Listing = 1,
+    Offering = 2,
+    Waiting = 3,
+    Closing = 4,
+}
 
-pub const OFFER: u8 = 2;
+impl Row {
+    // Its number in the table.
+    pub fn number(self) -> usize
+        ensures { result ≡ number_of self }
+    {
+        self as usize
+    }
+}
 
-pub const SEND: u8 = 3;
+const NONE: Option<Step> = None;
 
-pub const NEXT_OFFER: u8 = 4;
+const LIST: Option<Step> = Some(Step::List);
 
-pub const WAIT: u8 = 5;
+const OFFER: Option<Step> = Some(Step::Offer);
 
-pub const SAME: u8 = 6;
+const SEND: Option<Step> = Some(Step::Send);
 
-pub const DECIDE: u8 = 7;
+const NEXT_OFFER: Option<Step> = Some(Step::NextOffer);
 
-// The rows.
-pub const OPENING: usize = 0;
+const WAIT: Option<Step> = Some(Step::Wait);
 
-pub const LISTING: usize = 1;
+const SAME: Option<Step> = Some(Step::Same);
 
-pub const OFFERING: usize = 2;
+const DECIDE: Option<Step> = Some(Step::Decide);
 
-pub const WAITING: usize = 3;
-
-pub const CLOSING: usize = 4;
-
-// The columns: SKIP, ACCEPT, REJECT, BUSY, READY, any other status.
-const TABLE: [[u8; 6]; 5] = [
+// A row for each stage, in their order. The columns: SKIP, ACCEPT, REJECT, BUSY, READY, any other status.
+const TABLE: [[Option<Step>; 6]; 5] = [
     [NONE, LIST, NONE, NONE, NONE, NONE],
     [NONE, OFFER, NONE, NONE, NONE, NONE],
     [NEXT_OFFER, SEND, NEXT_OFFER, WAIT, NONE, NONE],
@@ -48,13 +67,12 @@ fn class(status: u8) -> usize
     if status < 5 { status as usize } else { 5 }
 }
 
-// The step code of a row for a status; there is none past the rows.
-pub fn code_for(row: usize, status: u8) -> u8
-    ensures { result ≡ cell row status }
+// The step of a row, by its number, for a status; there is none past the rows.
+pub fn code_for(row: usize, status: u8) -> Option<Step>
+    ensures { code_of result ≡ cell row status }
 {
     if row < 5 {
-        let column = class(status);
-        TABLE[row][column]
+        TABLE[row][class(status)]
     } else {
         NONE
     }

@@ -4,9 +4,9 @@ ghost use Rattle.std.specs.Prelude.{◌≡◌, ◌+◌, ◌^◌, ◌≤◌, ◌<
 ghost use Rattle.image.specs.Region.{place_of, is_inside, holds as holds_bytes, put as put_bytes, erase_of, write_of};
 
 use wire::address::RegionAddress;
-use wire::words::{copy, fill};
 
-// An offset into the staging buffer.
+// An offset into the staging buffer. A type of its own beside `RegionAddress`, and no generic one for both: that would be no plainer, since the two are alike
+// in nothing but their number.
 #[derive(Clone, Copy)]
 pub struct StagingOffset(u32);
 
@@ -36,13 +36,13 @@ pub struct Region {
 const ERASED: u8 = 0xFF;
 
 // The bytes go into the buffer, from the offset on.
+#[tactic(auto, unfolding(crate::specs::Region::put))]
 fn put(staging: &mut [u8], place: StagingOffset, bytes: &[u8])
     requires { place.0 + length bytes.now ≤ length staging.old }
     ensures { staging.new ≡ put_bytes place.0 bytes.now staging.old }
 {
     let at = place.0 as usize;
-    let end = at + bytes.len();
-    copy(&mut staging[at..end], bytes);
+    staging[at..at + bytes.len()].copy_from_slice(bytes);
 }
 
 impl Region {
@@ -74,17 +74,19 @@ impl Region {
     }
 
     // Each of its bytes becomes 0xFF; a region that the buffer does not hold is left alone.
+    #[tactic(auto, unfolding(crate::specs::Region::erase_of, crate::specs::Region::within, crate::specs::Region::blank))]
     pub fn erase(self, staging: &mut [u8])
         ensures { staging.new ≡ erase_of self staging.old }
     {
         let base = self.base.0 as usize;
         let end = ((self.base.0 as u64) + (self.len as u64)) as usize;
         if self.is_inside(staging.len()) {
-            fill(&mut staging[base..end], ERASED);
+            staging[base..end].fill(ERASED);
         }
     }
 
     // The bytes go in from the offset of the address on; nothing is written where the region does not hold them, or the buffer does not hold the region.
+    #[tactic(auto, unfolding(crate::specs::Region::write_of))]
     pub fn write(self, a: RegionAddress, staging: &mut [u8], bytes: &[u8])
         ensures { staging.new ≡ write_of self a bytes.now staging.old }
     {

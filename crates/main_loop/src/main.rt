@@ -1,7 +1,8 @@
 // A firmware's main loop around the device end (document 01, "The device"). Standard input stands for the bus: a frame is a channel, a length and a packet.
 #![tactic(auto)]
 
-ghost use Rattle.std.specs.Prelude.{◌≡◌, true};
+ghost use Rattle.std.specs.Prelude.{◌≡◌};
+ghost use Rattle.main_loop.specs.declared.Frame.TheVariants.{Packet};
 ghost use Rattle.device.specs.Entries.{serve_entry, serve_staging};
 
 use device::answer::Channel;
@@ -11,14 +12,16 @@ use device_component::record::{Fixed, Listed};
 use firmware::serve_in_place;
 use image::region::{Region, StagingOffset};
 use run_print::script::{read_first, read_full};
-use run_print::text;
+use run_print::show::Hex;
 use run_script::tell;
 use std::io;
 use std::io::{BufReader, BufWriter, Read, Write};
+use wire::codes::LONG_SIZE;
 use wire::version::Version;
+use wire_version::REPLY_SIZE;
 
 // The loop ends after 2^64 - 1 turns at the latest. A turn takes one frame.
-const TURNS: u64 = 0xFFFF_FFFF_FFFF_FFFF;
+const TURNS: u64 = u64::MAX;
 
 // A component of the bench device, with 64 bytes of the staging buffer.
 fn listed(id: u8, running: Version, floor: Version, base: u32) -> Listed {
@@ -43,95 +46,55 @@ fn bench(out: &mut impl Write, staging: &[u8]) -> io::Result<Device> {
         2,
         staging,
     );
-    tell::set_up(out, made.verdict)?;
-    Ok(made.device)
+    tell::set_up(out, made)?;
+    Ok(made.unwrap_or(Device::blank()))
 }
 
 // A frame of the bus.
-#[derive(Drop)]
-struct Frame {
-    whole: bool, // false where the input has ended or breaks off: no frame follows
-    served: bool, // the packet is for the device, on this channel:
-    channel: Channel,
-    letter: u8, // the channel as the frame has it
-    len: usize, // of the packet
+#[derive(Clone, Copy)]
+enum Frame<'a> {
+    // A packet for the device.
+    Packet(Channel, &'a [u8]),
+    // The host asks which versions run.
+    Versions,
+    // The device was reset: staged versions run.
+    Reset,
+    // On a channel that there is not.
+    Unknown,
 }
 
-// The end of the input.
-fn ended() -> Frame {
-    Frame {
-        whole: false,
-        served: false,
-        channel: Channel::Offer,
-        letter: 0,
-        len: 0,
+impl<'a> Frame<'a> {
+    // By its channel's letter.
+    fn by_letter(letter: u8, packet: &'a [u8]) -> Self {
+        match letter {
+            b'O' => Frame::Packet(Channel::Offer, packet),
+            b'C' => Frame::Packet(Channel::Content, packet),
+            b'V' => Frame::Versions,
+            b'R' => Frame::Reset,
+            _ => Frame::Unknown,
+        }
     }
 }
 
-// A whole frame, by its channel's letter.
-fn by_letter(letter: u8, len: usize) -> Frame {
-    let channel = if letter == b'O' {
-        Channel::Offer
-    } else {
-        Channel::Content
-    };
-    Frame {
-        whole: true,
-        served: (letter == b'O') | (letter == b'C'),
-        channel,
-        letter,
-        len,
-    }
-}
-
-// A byte as a length.
-fn wide(n: u8) -> usize {
-    n as usize
-}
-
-// The next frame. Its packet comes into the buffer.
-fn next_frame(input: &mut impl Read, out: &mut impl Write, packet: &mut [u8]) -> io::Result<Frame> {
+// The next frame, whose packet comes into the buffer. None where the input has ended or breaks off.
+fn next_frame<'a>(
+    input: &mut impl Read,
+    out: &mut impl Write,
+    buffer: &'a mut [u8],
+) -> io::Result<Option<Frame<'a>>> {
     let mut head = [0u8; 2];
     let got = read_full(input, &mut head)?;
     if got == 0 {
-        return Ok(ended());
+        return Ok(None);
     }
-    let n = wide(head[1]);
-    if got < 2 || !read_first(input, packet, n)? {
-        text(out, b"cut frame\n")?;
-        return Ok(ended());
-    }
-    Ok(by_letter(head[0], n))
-}
-
-// The host asks which versions run.
-fn tell_versions(out: &mut impl Write, device: Device) -> io::Result<()> {
-    let answer = device.version_reply();
-    text(out, b"versions ")?;
-    run_print::bytes(out, &answer.packet)?;
-    text(out, b"\n")
-}
-
-// The device was reset: staged versions run.
-fn restarted(out: &mut impl Write, device: Device) -> io::Result<Device> {
-    let answer = device.reset();
-    text(out, b"reset\n")?;
-    Ok(answer.device)
-}
-
-// A frame whose packet is not served.
-fn unserved(out: &mut impl Write, device: Device, letter: u8) -> io::Result<Device> {
-    match letter {
-        b'V' => {
-            tell_versions(out, device)?;
-            Ok(device)
-        }
-        b'R' => restarted(out, device),
-        _ => {
-            text(out, b"unknown channel\n")?;
-            Ok(device)
+    let [letter, len] = head;
+    if got == head.len() {
+        if let Some(packet) = read_first(input, buffer, len as usize)? {
+            return Ok(Some(Frame::by_letter(letter, packet)));
         }
     }
+    writeln!(out, "cut frame")?;
+    Ok(None)
 }
 
 // One frame. A packet for the device changes the lent record in place, and what is due goes out.
@@ -139,19 +102,26 @@ fn turn(
     out: &mut impl Write,
     device: &mut Device,
     staging: &mut [u8],
-    frame: Frame,
-    packet: &[u8],
+    frame: Frame<'_>,
 ) -> io::Result<()>
-    ensures { frame.served ≡ true
-        → (device.new ≡ (serve_entry device.old frame.channel staging.old packet.now).device)
-        × (staging.new ≡ serve_staging device.old frame.channel staging.old packet.now) }
+    ensures { (channel : _) (packet : _) → frame.entry ≡ Packet channel packet
+        → (device.new ≡ (serve_entry device.old channel staging.old packet.now).device)
+        × (staging.new ≡ serve_staging device.old channel staging.old packet.now) }
 {
-    if frame.served {
-        let answer = serve_in_place(device, frame.channel, staging, packet);
-        return tell::answer(out, answer);
+    match frame {
+        Frame::Packet(channel, packet) => {
+            tell::answer(out, serve_in_place(device, channel, staging, packet))
+        }
+        Frame::Versions => {
+            let packet = device.version_reply().unwrap_or([0; REPLY_SIZE]);
+            writeln!(out, "versions {}", Hex(&packet))
+        }
+        Frame::Reset => {
+            *device = device.reset().unwrap_or(*device);
+            writeln!(out, "reset")
+        }
+        Frame::Unknown => writeln!(out, "unknown channel"),
     }
-    *device = unserved(out, *device, frame.letter)?;
-    Ok(())
 }
 
 // The loop: it owns the record and lends it to each turn, which leaves in it what the next turn begins with. What a turn prints is out before the next frame
@@ -161,17 +131,15 @@ fn serve(
     out: &mut impl Write,
     start: Device,
     staging: &mut [u8],
-    packet: &mut [u8],
 ) -> io::Result<()> {
     let mut device = start;
+    let mut buffer = [0u8; 255];
     for _ in 0..TURNS {
         out.flush()?;
-        let frame = next_frame(input, out, packet)?;
-        if !frame.whole {
+        let Some(frame) = next_frame(input, out, &mut buffer)? else {
             break;
-        }
-        let report = run_print::first(packet, frame.len);
-        turn(out, &mut device, staging, frame, report)?;
+        };
+        turn(out, &mut device, staging, frame)?;
     }
     Ok(())
 }
@@ -181,8 +149,7 @@ fn main(rt: HostRuntime) -> io::Result<()> {
     let mut input = BufReader::new(rt.alloc(), rt.reader())?;
     let mut out = BufWriter::new(rt.alloc(), io::writer(&rt))?;
     let mut staging = [0u8; 128];
-    let mut packet = [0u8; 255];
     let device = bench(&mut out, &staging)?;
-    serve(&mut input, &mut out, device, &mut staging, &mut packet)?;
+    serve(&mut input, &mut out, device, &mut staging)?;
     out.flush()
 }

@@ -5,128 +5,124 @@ use device::answer::Channel;
 use device::record::Device;
 use device::setup::set_up;
 use device_bytes::{DEVICE_SIZE, device_bytes, fields_in, read_list};
-use run_print::script::{FRAMES, PAYLOAD_SIZE, next};
-use run_print::{first, rest};
-use run_script::{bench, tell};
+use run_print::fields::Fields;
+use run_print::script::{Frame, run_script};
+use run_print::show::Hex;
+use run_script::tell;
+use std::alloc::{AllocError, Global};
 use std::io;
-use std::io::{BufReader, BufWriter, Read, Write};
-use wire::words::{byte_at, copy, word16_at, word32_at};
+use std::io::Write;
+use wire::words::byte_at;
 
-// Where the parts of a call stand behind the number of bytes that are lent: what is asked, which for set-up is the platform, the count, the list.
-const ASKED_AT: usize = 4;
+// How long the buffer is; a call is lent its first bytes.
+const BUFFER_SIZE: usize = 65600;
 
-const COUNT_AT: usize = ASKED_AT + 2;
-
-const LIST_AT: usize = COUNT_AT + 1;
-
-fn run_set_up(out: &mut impl Write, p: &[u8], staging: &[u8]) -> io::Result<Device> {
-    let list = read_list(rest(p, LIST_AT));
-    let a = set_up(
-        word16_at(p, ASKED_AT as u16),
-        list,
-        byte_at(p, COUNT_AT),
-        staging,
-    );
-    tell::set_up(out, a.verdict)?;
-    Ok(a.device)
+// What a script runs against: the device's record, and the buffer.
+#[derive(Drop)]
+struct Bench {
+    record: [u8; DEVICE_SIZE],
+    buffer: Vec<u8>,
 }
 
-fn run_packet(
-    out: &mut impl Write,
-    d: Device,
-    kind: u8,
-    p: &[u8],
-    staging: &mut [u8],
-) -> io::Result<Device> {
-    let channel = if kind == b'O' {
-        Channel::Offer
-    } else {
-        Channel::Content
-    };
-    let a = d.serve(channel, staging, rest(p, ASKED_AT));
-    tell::replied(out, a.refusal, a.replies)?;
-    Ok(a.device)
+fn run_set_up(out: &mut impl Write, asked: Fields<'_>, staging: &[u8]) -> io::Result<Device> {
+    let mut fields = asked;
+    let platform = fields.word16();
+    let count = fields.byte();
+    let made = set_up(platform, read_list(fields.0), count, staging);
+    tell::set_up(out, made)?;
+    Ok(made.unwrap_or(Device::blank()))
 }
 
 fn run_reset(out: &mut impl Write, d: Device) -> io::Result<Device> {
-    let a = d.reset();
-    tell::reset(out, a.refusal)?;
-    Ok(a.device)
+    let next = d.reset();
+    tell::reset(out, next)?;
+    Ok(next.unwrap_or(d))
 }
 
-fn run_version_reply(out: &mut impl Write, record: &[u8]) -> io::Result<()> {
-    let d = fields_in(record);
-    let a = d.version_reply();
-    tell::version_reply(out, a.refusal, &a.packet)
-}
-
-// A call with the record, and the record that it leaves.
-fn run_call(
-    out: &mut impl Write,
-    d: Device,
-    kind: u8,
-    p: &[u8],
-    staging: &mut [u8],
-) -> io::Result<Device> {
-    match kind {
-        b'S' => run_set_up(out, p, staging),
-        b'R' => run_reset(out, d),
-        _ => run_packet(out, d, kind, p, staging),
+impl Bench {
+    fn new(alloc: Global) -> Result<Bench, AllocError> {
+        Ok(Bench {
+            record: [0; DEVICE_SIZE],
+            buffer: vec![in alloc; 0; BUFFER_SIZE]?,
+        })
     }
-}
 
-fn run_lent(
-    out: &mut impl Write,
-    record: &mut [u8],
-    kind: u8,
-    p: &[u8],
-    staging: &mut [u8],
-) -> io::Result<()> {
-    let next = run_call(out, fields_in(record), kind, p, staging)?;
-    copy(record, &device_bytes(next));
-    Ok(())
-}
+    // A call with the record and as many bytes as it is lent, and the record that it leaves. Nothing is called where more is lent than there is.
+    fn run_call<W: Write, F: FnOnce(&mut W, Device, &mut [u8]) -> io::Result<Device>>(
+        &mut self,
+        out: &mut W,
+        lent: u32,
+        call: F,
+    ) -> io::Result<()>
+        requires { F.IsAlwaysCallable call }
+    {
+        let Some(staging) = self.buffer.as_mut_slice().get_mut(..lent as usize) else {
+            return Ok(());
+        };
+        let left = call(out, fields_in(&self.record), staging)?;
+        self.record = device_bytes(left);
+        Ok(())
+    }
 
-fn run_frame(
-    out: &mut impl Write,
-    record: &mut [u8],
-    kind: u8,
-    p: &[u8],
-    buffer: &mut [u8],
-) -> io::Result<()> {
-    match kind {
-        b'S' | b'O' | b'C' | b'R' => {
-            let lent = word32_at(p, 0) as usize;
-            tell::packet(out, kind, rest(p, ASKED_AT))?;
-            if lent <= buffer.len() {
-                run_lent(out, record, kind, p, &mut buffer[..lent])?;
+    fn run_packet(
+        &mut self,
+        out: &mut impl Write,
+        lent: u32,
+        channel: Channel,
+        packet: &[u8],
+    ) -> io::Result<()> {
+        match channel {
+            Channel::Offer => write!(out, "offer {}: ", Hex(packet))?,
+            Channel::Content => write!(out, "content {}: ", Hex(packet))?,
+        }
+        self.run_call(out, lent, |out, d, staging| {
+            let a = d.serve(channel, staging, packet);
+            tell::answer(out, a)?;
+            Ok(a.map_or(d, |a| a.device))
+        })
+    }
+
+    fn run_version_reply(&self, out: &mut impl Write) -> io::Result<()> {
+        tell::version_reply(out, fields_in(&self.record).version_reply())
+    }
+
+    // Shows a part of the buffer.
+    fn show(&self, out: &mut impl Write, from: usize, count: usize) -> io::Result<()> {
+        let part = self
+            .buffer
+            .as_slice()
+            .get(from..)
+            .and_then(|s| s.get(..count));
+        writeln!(out, "{}", Hex(part.unwrap_or(&[])))
+    }
+
+    fn run_frame(&mut self, out: &mut impl Write, frame: Frame<'_>) -> io::Result<()> {
+        let p = frame.payload;
+        let mut fields = Fields(p);
+        // What a call is lent, or where the bytes stand that are shown.
+        let n = fields.word32();
+        match frame.kind {
+            b'S' => self.run_call(out, n, |out, _, staging| run_set_up(out, fields, staging)),
+            b'O' => self.run_packet(out, n, Channel::Offer, fields.0),
+            b'C' => self.run_packet(out, n, Channel::Content, fields.0),
+            b'R' => self.run_call(out, n, |out, d, _| run_reset(out, d)),
+            b'V' => self.run_version_reply(out),
+            b'D' => tell::record(out, &self.record),
+            b'B' => self.show(out, n as usize, fields.byte() as usize),
+            b'F' => {
+                self.buffer.fill(byte_at(p, 0));
+                Ok(())
             }
-            Ok(())
+            b'K' => {
+                self.record = p.try_into().unwrap_or(self.record);
+                Ok(())
+            }
+            _ => Ok(()),
         }
-        b'V' => run_version_reply(out, record),
-        _ => bench::run_frame(out, record, kind, p, buffer),
     }
-}
-
-// The frames of the script, one after the other.
-fn run(input: &mut impl Read, out: &mut impl Write) -> io::Result<()> {
-    let mut buffer = [0u8; 65600];
-    let mut record = [0u8; DEVICE_SIZE];
-    for _ in 0..FRAMES {
-        let mut payload = [0u8; PAYLOAD_SIZE];
-        let f = next(input, out, &mut payload)?;
-        if !f.whole {
-            break;
-        }
-        let p = first(&payload, f.len);
-        run_frame(out, &mut record, f.kind, p, &mut buffer)?;
-    }
-    Ok(())
 }
 
 fn main(rt: HostRuntime) -> io::Result<()> {
-    let mut input = BufReader::new(rt.alloc(), rt.reader())?;
-    let mut out = BufWriter::new(rt.alloc(), io::writer(&rt))?;
-    run(&mut input, &mut out)?;
-    out.flush()
+    let mut bench = Bench::new(rt.alloc())?;
+    run_script(&rt, |out, frame| bench.run_frame(out, frame))
 }

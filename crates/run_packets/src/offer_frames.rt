@@ -1,100 +1,129 @@
 // The offer channel. To build an offer: segment, I, V (a byte each, 0 for no), id, token, version (4), need, least version (4), protocol,
 // platform (2). An information or extended packet: code, token. A reply: token, reason, status.
-use run_print::{line, names};
+use crate::line;
+use run_print::fields::Fields;
+use run_print::show::{Dotted, SpacedHex};
 use std::io;
 use std::io::Write;
-use wire::verdict::Verdict;
-use wire::version::Version;
-use wire::words::{byte_at, word16_at, word32_at};
+use wire::codes::SHORT_SIZE;
 use wire_offer::kind::OfferPacket;
 use wire_offer::offer::OfferFields;
 use wire_offer::reply::OfferReply;
 use wire_offer::signal::Signal;
 
-// The fields, behind a word.
-fn fields(out: &mut impl Write, k: u8, o: OfferFields) -> io::Result<()> {
-    line::word(out, k)?;
-    line::hex8(out, names::SEGMENT, o.segment)?;
-    line::decimal8(out, names::I, o.force_immediate_reset as u8)?;
-    line::decimal8(out, names::V, o.force_ignore_version as u8)?;
-    line::hex8(out, names::ID, o.id)?;
-    line::hex8(out, names::TOKEN, o.token)?;
-    line::version(out, names::VERSION, o.version)?;
-    line::hex8(out, names::NEED, o.need)?;
-    line::hex32(out, names::LEAST, o.least, 6)?;
-    line::decimal8(out, names::PROTOCOL, o.protocol)?;
-    line::hex16(out, names::PLATFORM, o.platform)
+fn fields(out: &mut impl Write, o: OfferFields) -> io::Result<()> {
+    let OfferFields {
+        segment,
+        force_immediate_reset,
+        force_ignore_version,
+        id,
+        token,
+        version,
+        need,
+        least,
+        protocol,
+        platform,
+    } = o;
+    let immediate = force_immediate_reset as u8;
+    let ignore = force_ignore_version as u8;
+    let version = Dotted(version);
+    write!(
+        out,
+        " segment {segment:02x} I {immediate} V {ignore} id {id:02x}"
+    )?;
+    write!(out, " token {token:02x} version {version} need {need:02x}")?;
+    write!(
+        out,
+        " least {least:06x} protocol {protocol} platform {platform:04x}"
+    )
 }
 
 pub fn build(out: &mut impl Write, p: &[u8]) -> io::Result<()> {
+    let mut f = Fields(p);
     let o = OfferFields {
-        segment: byte_at(p, 0),
-        force_immediate_reset: byte_at(p, 1) != 0,
-        force_ignore_version: byte_at(p, 2) != 0,
-        id: byte_at(p, 3),
-        token: byte_at(p, 4),
-        version: Version::read_at(p, 5),
-        need: byte_at(p, 9),
-        least: word32_at(p, 10),
-        protocol: byte_at(p, 14),
-        platform: word16_at(p, 15),
+        segment: f.byte(),
+        force_immediate_reset: f.byte() != 0,
+        force_ignore_version: f.byte() != 0,
+        id: f.byte(),
+        token: f.byte(),
+        version: f.version(),
+        need: f.byte(),
+        least: f.word32(),
+        protocol: f.byte(),
+        platform: f.word16(),
     };
-    fields(out, names::NOTHING, o)?;
-    let b = wire_offer::offer::build_offer(o);
-    line::built(out, b.verdict, &b.packet)
+    fields(out, o)?;
+    line::built(out, wire_offer::offer::build_offer(o))
 }
 
-// The code and the token, behind a word.
-fn signal(out: &mut impl Write, k: u8, s: Signal) -> io::Result<()> {
-    line::word(out, k)?;
-    line::hex8(out, names::CODE, s.code)?;
-    line::hex8(out, names::TOKEN, s.token)
+fn signal(out: &mut impl Write, s: Signal) -> io::Result<()> {
+    write!(out, " code {:02x} token {:02x}", s.code, s.token)
 }
 
-pub fn build_signal(out: &mut impl Write, p: &[u8], extended: bool) -> io::Result<()> {
+// An information or extended packet, by what builds it.
+pub fn build_signal<F: FnOnce(Signal) -> [u8; SHORT_SIZE]>(
+    out: &mut impl Write,
+    p: &[u8],
+    build: F,
+) -> io::Result<()>
+    requires { F.IsAlwaysCallable build }
+{
+    let mut f = Fields(p);
     let s = Signal {
-        code: byte_at(p, 0),
-        token: byte_at(p, 1),
+        code: f.byte(),
+        token: f.byte(),
     };
-    signal(out, names::NOTHING, s)?;
-    if extended {
-        line::packet(out, wire_offer::signal::build_extended(s))
-    } else {
-        line::packet(out, wire_offer::signal::build_information(s))
-    }
+    signal(out, s)?;
+    line::packet(out, build(s))
 }
 
 // A packet of the offer channel, of any kind.
 pub fn read(out: &mut impl Write, p: &[u8]) -> io::Result<()> {
-    line::bytes(out, p)?;
-    line::gives(out, Verdict::Served)?;
+    write!(out, "{}", SpacedHex(p))?;
+    line::gives(out, None)?;
     match wire_offer::kind::read_offer_packet(p) {
-        OfferPacket::Refused => line::word(out, names::NO_FIELDS),
-        OfferPacket::Offer(o) => fields(out, names::OFFER, o),
-        OfferPacket::Information(s) => signal(out, names::INFORMATION, s),
-        OfferPacket::Extended(s) => signal(out, names::EXTENDED, s),
+        Err(_) => write!(out, " refused P1"),
+        Ok(OfferPacket::Offer(o)) => {
+            write!(out, " offer")?;
+            fields(out, o)
+        }
+        Ok(OfferPacket::Information(s)) => {
+            write!(out, " information")?;
+            signal(out, s)
+        }
+        Ok(OfferPacket::Extended(s)) => {
+            write!(out, " extended")?;
+            signal(out, s)
+        }
     }
 }
 
 fn reply(out: &mut impl Write, r: OfferReply) -> io::Result<()> {
-    line::hex8(out, names::TOKEN, r.token)?;
-    line::hex8(out, names::REASON, r.reason)?;
-    line::hex8(out, names::STATUS, r.status)
+    let OfferReply {
+        token,
+        reason,
+        status,
+    } = r;
+    write!(
+        out,
+        " token {token:02x} reason {reason:02x} status {status:02x}"
+    )
 }
 
 pub fn build_reply(out: &mut impl Write, p: &[u8]) -> io::Result<()> {
+    let mut f = Fields(p);
     let r = OfferReply {
-        token: byte_at(p, 0),
-        reason: byte_at(p, 1),
-        status: byte_at(p, 2),
+        token: f.byte(),
+        reason: f.byte(),
+        status: f.byte(),
     };
     reply(out, r)?;
     line::packet(out, wire_offer::reply::build_offer_reply(r))
 }
 
 pub fn read_reply(out: &mut impl Write, p: &[u8]) -> io::Result<()> {
-    line::bytes(out, p)?;
+    write!(out, "{}", SpacedHex(p))?;
     let r = wire_offer::reply::read_offer_reply(p);
-    line::gives(out, r.verdict)?;
-    reply(out, r.reply)
+    line::gives(out, r.err())?;
+    reply(out, r.unwrap_or_default())
 }

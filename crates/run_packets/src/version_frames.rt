@@ -1,48 +1,51 @@
 // The version reply. To build: count, protocol, and for each component version (4), id, platform (2), as C lends them.
-use c_version::{ID_AT, PLATFORM_AT, RUNNING_SIZE, components_bytes, read_components};
-use run_print::form::form;
-use run_print::{line, rest};
+use crate::line;
+use c_version::{components_bytes, read_components};
+use run_print::fields::Fields;
+use run_print::show::{Dotted, SpacedHex};
 use std::io;
 use std::io::Write;
 use wire::codes::COMPONENT_LIMIT;
-use wire::words::byte_at;
 use wire_version::VersionReply;
 
-fn head(out: &mut impl Write, s: &[u8]) -> io::Result<()> {
-    form(out, b" count %1 protocol %1", s)
+fn head(out: &mut impl Write, count: u8, protocol: u8) -> io::Result<()> {
+    write!(out, " count {count} protocol {protocol}")
 }
 
-fn component(out: &mut impl Write, s: &[u8]) -> io::Result<()> {
-    form(out, b"; version %v id ", s)?;
-    form(out, b"%a platform ", rest(s, ID_AT))?;
-    form(out, b"%b", rest(s, PLATFORM_AT as usize))
-}
-
-fn components(out: &mut impl Write, s: &[u8]) -> io::Result<()> {
-    for i in 0..COMPONENT_LIMIT {
-        component(out, rest(s, i * RUNNING_SIZE))?;
+// The components, as C lends them. A platform of which only one byte is there is shown as 0.
+fn components(out: &mut impl Write, lent: &[u8]) -> io::Result<()> {
+    let mut fields = Fields(lent);
+    for _ in 0..COMPONENT_LIMIT {
+        let version = Dotted(fields.version());
+        let id = fields.byte();
+        let platform = u16::from_le_bytes(fields.array());
+        write!(
+            out,
+            "; version {version} id {id:02x} platform {platform:04x}"
+        )?;
     }
     Ok(())
 }
 
 pub fn build(out: &mut impl Write, p: &[u8]) -> io::Result<()> {
-    head(out, p)?;
-    let q = rest(p, 2);
-    components(out, q)?;
+    let mut fields = Fields(p);
+    let count = fields.byte();
+    let protocol = fields.byte();
+    head(out, count, protocol)?;
+    components(out, fields.0)?;
     let r = VersionReply {
-        count: byte_at(p, 0),
-        protocol: byte_at(p, 1),
-        components: read_components(q),
+        count,
+        protocol,
+        components: read_components(fields.0),
     };
-    let b = wire_version::build_version_reply(r);
-    line::built(out, b.verdict, &b.packet)
+    line::built(out, wire_version::build_version_reply(r))
 }
 
 pub fn read(out: &mut impl Write, p: &[u8]) -> io::Result<()> {
-    line::bytes(out, p)?;
+    write!(out, "{}", SpacedHex(p))?;
     let r = wire_version::read_version_reply(p);
-    line::gives(out, r.verdict)?;
-    let told = r.reply;
-    head(out, &[told.count, told.protocol])?;
+    line::gives(out, r.err())?;
+    let told = r.unwrap_or_default();
+    head(out, told.count, told.protocol)?;
     components(out, &components_bytes(told.components))
 }

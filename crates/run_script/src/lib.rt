@@ -1,6 +1,5 @@
-// What is printed of a device by the programs that run scripts.
+// What is printed of a device by the programs that run scripts, and the cases of a whole run.
 #![tactic(auto)]
 
-pub mod tell; // tell.rt: of an answer and of a record
-pub mod bench; // bench.rt: frames that set or show
+pub mod tell; // tell.rt: what is printed of an answer and of a record
 pub mod case; // case.rt: a case of a whole run

@@ -1,104 +1,102 @@
 // What is printed of an answer and of a record.
 use device::answer::{Answer, Refusal, ready_reply};
-use device_bytes::{COMPONENTS_START, COUNT_AT, PLATFORM_AT, SESSION_START, STAGING_LEN_AT};
-use device_component::setup::SetupVerdict;
-use device_component_bytes::{
-    COMPONENT_SIZE, FLOOR_AT, REGION_AT, REGION_LEN_AT, RUNNING_AT, STAGED_AT, STAGED_VERSION_AT,
-};
+use device::record::Device;
+use device_bytes::{DEVICE_SIZE, SESSION_START, fields_in};
+use device_component::record::{Component, Fixed};
+use device_component::setup::SetupRow;
 use device_session::effect::Replies;
-use device_session::owed::Owed;
-use device_session_bytes::{NEXT_AT, OWED_AT, OWED_TOKEN_AT, PREVIOUS_AT, SLOT_AT, TOKEN_AT};
-use host_record::report::{Progress, Report};
-use run_print::form::{form, pick};
-use run_print::{line, names, part, rest, text};
+use device_session_bytes::{NEXT_AT, OWED_AT, OWED_TOKEN_AT, SLOT_AT, TOKEN_AT};
+use host_record::record::End;
+use host_record::report::Report;
+use run_print::show::{Dotted, Hex};
 use std::io;
 use std::io::Write;
 use wire::codes;
-use wire::codes::{COMPONENT_LIMIT, LONG_SIZE, SHORT_SIZE};
-use wire::words::{byte_at, least, same, word32_at};
+use wire::codes::{LONG_SIZE, SHORT_SIZE};
+use wire::words::{byte_at, word16_at};
+use wire_version::REPLY_SIZE;
 
-pub fn set_up(out: &mut impl Write, v: SetupVerdict) -> io::Result<()> {
-    form(
-        out,
-        b"set-up: {served|refused S1|refused S2|refused S3|refused S4|refused S5}\n",
-        &[v.number()],
-    )
+pub fn set_up(out: &mut impl Write, made: Result<Device, SetupRow>) -> io::Result<()> {
+    match made {
+        Ok(_) => writeln!(out, "set-up: served"),
+        Err(row) => writeln!(out, "set-up: refused S{}", row.number()),
+    }
 }
 
-pub fn reset(out: &mut impl Write, r: Refusal) -> io::Result<()> {
-    form(
-        out,
-        b"reset: {served|refused D1|refused D2|refused D3}\n",
-        &[r.number()],
-    )
+pub fn reset(out: &mut impl Write, next: Result<Device, Refusal>) -> io::Result<()> {
+    match next {
+        Ok(_) => writeln!(out, "reset: served"),
+        Err(refusal) => writeln!(out, "reset: refused D{}", refusal.number()),
+    }
 }
 
-pub fn version_reply(out: &mut impl Write, r: Refusal, packet: &[u8]) -> io::Result<()> {
-    pick(
-        out,
-        b"version reply: %*\n|version reply: refused D1, %*\n",
-        r.number(),
-        packet,
-    )
-}
-
-// The packet of a frame, before its answer.
-pub fn packet(out: &mut impl Write, kind: u8, p: &[u8]) -> io::Result<()> {
-    let k = match kind {
-        b'O' => 0,
-        b'C' => 1,
-        _ => 2,
-    };
-    pick(out, b"offer %*: |content %*: ", k, p)
+// Zeros where a row refuses the call.
+pub fn version_reply(
+    out: &mut impl Write,
+    packet: Result<[u8; REPLY_SIZE], Refusal>,
+) -> io::Result<()> {
+    match packet {
+        Ok(p) => writeln!(out, "version reply: {}", Hex(&p)),
+        Err(refusal) => writeln!(
+            out,
+            "version reply: refused D{}, {}",
+            refusal.number(),
+            Hex(&[0; REPLY_SIZE])
+        ),
+    }
 }
 
 // The READY that follows the reply, and the end of the line.
-fn follows(out: &mut impl Write, ready: Owed) -> io::Result<()> {
+fn follows(out: &mut impl Write, ready: Option<u8>) -> io::Result<()> {
     match ready {
-        Owed::Nothing => text(out, b"\n"),
-        Owed::Token(t) => form(out, b", then %*\n", &ready_reply(t)),
+        None => writeln!(out),
+        Some(t) => writeln!(out, ", then {}", Hex(&ready_reply(t))),
     }
 }
 
-// What a packet is answered by.
-pub fn replied(out: &mut impl Write, r: Refusal, replies: Replies) -> io::Result<()> {
-    let k = if replies.due { 4 } else { r.number() };
-    pick(
-        out,
-        b"no reply|refused D1, %*|refused D2, %*|refused D3, %*|reply %*",
-        k,
-        &replies.reply,
-    )?;
-    follows(out, replies.ready)
+// What a packet is answered by; zeros where a row refuses it.
+pub fn answer(out: &mut impl Write, a: Result<Answer, Refusal>) -> io::Result<()> {
+    match a {
+        Ok(Answer { replies, device: _ }) => {
+            if replies.due {
+                write!(out, "reply {}", Hex(&replies.reply))?;
+            } else {
+                write!(out, "no reply")?;
+            }
+            follows(out, replies.ready)
+        }
+        Err(refusal) => writeln!(
+            out,
+            "refused D{}, {}",
+            refusal.number(),
+            Hex(&[0; SHORT_SIZE])
+        ),
+    }
 }
 
-pub fn answer(out: &mut impl Write, a: Answer) -> io::Result<()> {
-    replied(out, a.refusal, a.replies)
-}
-
-// What stands before the answer to a packet of the host: its kind, and its code, id, or flags and sequence.
-fn kind_of(p: &[u8]) -> u8 {
+// A packet of the host: its kind, and its code, id, or flags and sequence.
+fn sent(out: &mut impl Write, p: &[u8]) -> io::Result<()> {
+    let first = byte_at(p, 0);
     if p.len() != SHORT_SIZE {
-        return 0;
+        let sequence = word16_at(p, 2);
+        return write!(out, "content flags {first:02x} sequence {sequence}");
     }
     match byte_at(p, 2) {
-        codes::KIND_INFORMATION => 1,
-        codes::KIND_EXTENDED => 2,
-        _ => 3,
+        codes::KIND_INFORMATION => write!(out, "information {first}"),
+        codes::KIND_EXTENDED => write!(out, "extended {first}"),
+        id => write!(out, "offer {id}"),
     }
 }
 
-// The first reply to a packet of n bytes, in the words of CFU.
-fn reply(out: &mut impl Write, n: usize, r: &[u8]) -> io::Result<()> {
-    if n == SHORT_SIZE {
-        pick(
-            out,
-            b"SKIP\n|ACCEPT\n|REJECT %1\n|BUSY\n|READY\n|unsupported\n",
-            least(byte_at(r, 12) as usize, 5) as u8,
-            rest(r, 8),
-        )
-    } else {
-        form(out, b"%Dstatus %1\n", r)
+// The reply to an offer, in the words of CFU.
+fn offer_reply(out: &mut impl Write, r: [u8; SHORT_SIZE]) -> io::Result<()> {
+    match r[12] {
+        codes::OFFER_SKIP => writeln!(out, "SKIP"),
+        codes::OFFER_ACCEPT => writeln!(out, "ACCEPT"),
+        codes::OFFER_REJECT => writeln!(out, "REJECT {}", r[8]),
+        codes::OFFER_BUSY => writeln!(out, "BUSY"),
+        codes::OFFER_READY => writeln!(out, "READY"),
+        _ => writeln!(out, "unsupported"),
     }
 }
 
@@ -107,111 +105,98 @@ pub fn exchange(
     out: &mut impl Write,
     p: &[u8],
     again: bool,
-    r: Refusal,
-    replies: Replies,
+    a: Result<Replies, Refusal>,
 ) -> io::Result<()> {
-    pick(
-        out,
-        b"content flags %a%A sequence %2|information %1|extended %1|offer %B%1",
-        kind_of(p),
-        p,
-    )?;
-    pick(out, b": |, again: ", again as u8, p)?;
-    if replies.due {
-        reply(out, p.len(), &replies.reply)
-    } else {
-        pick(
-            out,
-            b"no reply\n|refused D1\n|refused D2\n|refused D3\n",
-            r.number(),
-            p,
-        )
+    sent(out, p)?;
+    write!(out, "{}", if again { ", again: " } else { ": " })?;
+    match a {
+        Ok(replies) if !replies.due => writeln!(out, "no reply"),
+        Ok(replies) if p.len() == SHORT_SIZE => offer_reply(out, replies.reply),
+        Ok(replies) => writeln!(out, "status {}", replies.reply[4]),
+        Err(refusal) => writeln!(out, "refused D{}", refusal.number()),
     }
 }
 
-// The previous packet of a session, where it is not blank.
-fn previous(out: &mut impl Write, held: &[u8]) -> io::Result<()> {
-    let blank = [0u8; LONG_SIZE];
-    pick(out, b", previous %*|", same(held, &blank) as u8, held)
-}
-
-// A session: its stage, what is owed, and the previous packet.
+// The stage of a session and what is owed, from its bytes: a flag that no record has is not said.
 fn session(out: &mut impl Write, b: &[u8]) -> io::Result<()> {
-    let stage = byte_at(b, 0);
-    pick(
-        out,
-        b"idle|offered slot %1|receiving slot %1",
-        stage,
-        rest(b, SLOT_AT),
-    )?;
-    pick(out, b"| token %a| token %a", stage, rest(b, TOKEN_AT))?;
-    pick(out, b"|| next %2", stage, rest(b, NEXT_AT))?;
-    pick(
-        out,
-        b", owes nothing|, owes token %a",
-        byte_at(b, OWED_AT),
-        rest(b, OWED_TOKEN_AT),
-    )?;
-    previous(out, part(b, PREVIOUS_AT, LONG_SIZE))
+    let slot = byte_at(b, SLOT_AT);
+    let token = byte_at(b, TOKEN_AT);
+    let next = word16_at(b, NEXT_AT as u16);
+    match byte_at(b, 0) {
+        0 => write!(out, "idle")?,
+        1 => write!(out, "offered slot {slot} token {token:02x}")?,
+        2 => write!(out, "receiving slot {slot} token {token:02x} next {next}")?,
+        _ => {}
+    }
+    match byte_at(b, OWED_AT) {
+        0 => write!(out, ", owes nothing"),
+        1 => write!(out, ", owes token {:02x}", byte_at(b, OWED_TOKEN_AT)),
+        _ => Ok(()),
+    }
 }
 
 // A component: its id, running version, region, its floor unless that is 0, and what is staged.
-fn component(out: &mut impl Write, b: &[u8]) -> io::Result<()> {
-    form(out, b"; %1 at ", b)?;
-    form(out, b"%v in ", rest(b, RUNNING_AT))?;
-    form(out, b"%4+", rest(b, REGION_AT))?;
-    form(out, b"%4", rest(b, REGION_LEN_AT))?;
-    pick(
+fn component(out: &mut impl Write, c: Component) -> io::Result<()> {
+    let Component {
+        fixed: Fixed { id, region, floor },
+        running,
+        staged,
+    } = c;
+    let base = region.base.number();
+    write!(
         out,
-        b"|, floor %v",
-        (word32_at(b, FLOOR_AT as u16) != 0) as u8,
-        rest(b, FLOOR_AT),
+        "; {id} at {} in {base}+{}",
+        Dotted(running),
+        region.len
     )?;
-    pick(
-        out,
-        b"|, pending %v",
-        byte_at(b, STAGED_AT),
-        rest(b, STAGED_VERSION_AT),
-    )
-}
-
-// The bytes of a record: platform, staging, session, and as many components as it counts.
-pub fn record(out: &mut impl Write, b: &[u8]) -> io::Result<()> {
-    form(out, b"record: platform %b, staging ", rest(b, PLATFORM_AT))?;
-    form(out, b"%4, ", rest(b, STAGING_LEN_AT))?;
-    session(out, rest(b, SESSION_START))?;
-    let n = least(byte_at(b, COUNT_AT) as usize, COMPONENT_LIMIT);
-    for i in 0..n {
-        component(out, rest(b, COMPONENTS_START + i * COMPONENT_SIZE))?;
+    if floor.number() != 0 {
+        write!(out, ", floor {}", Dotted(floor))?;
     }
-    text(out, b"\n")
+    match staged {
+        None => Ok(()),
+        Some(v) => write!(out, ", pending {}", Dotted(v)),
+    }
 }
 
-// How far a host is, or how it ended.
-fn progress(out: &mut impl Write, p: Progress) -> io::Result<()> {
-    match p {
-        Progress::Running => text(out, b"running"),
-        Progress::Ended(e) => pick(
-            out,
-            b"done|H1 status %1|H2|H3|H4",
-            e.number(),
-            &[e.status()],
-        ),
+// The bytes of a record: platform, staging, session, its previous packet unless that is blank, and as many components as it counts.
+pub fn record(out: &mut impl Write, b: &[u8; DEVICE_SIZE]) -> io::Result<()> {
+    let d = fields_in(b);
+    write!(out, "record: platform {:04x}", d.platform)?;
+    write!(out, ", staging {}, ", d.staging_len)?;
+    session(out, &b[SESSION_START..])?;
+    let previous = d.session.previous;
+    if previous != [0; LONG_SIZE] {
+        write!(out, ", previous {}", Hex(&previous))?;
+    }
+    for c in d.components.iter().take(d.count as usize) {
+        component(out, *c)?;
+    }
+    writeln!(out)
+}
+
+// How a host's session ended.
+pub fn end(out: &mut impl Write, e: End) -> io::Result<()> {
+    match e {
+        End::Done => write!(out, "done"),
+        End::Status(status) => write!(out, "H1 status {status}"),
+        End::Foreign => write!(out, "H2"),
+        End::Unexpected => write!(out, "H3"),
+        End::Busy => write!(out, "H4"),
     }
 }
 
 // A host's report.
 pub fn report(out: &mut impl Write, r: Report) -> io::Result<()> {
-    progress(out, r.progress)?;
-    line::decimal32(out, names::PACKETS, r.packets)?;
-    line::decimal32(out, names::PASSES, r.passes)?;
-    line::decimal32(out, names::COMPLETED, r.completed)?;
-    line::hex32(out, names::MASK, r.mask, 2)?;
-    line::word(out, names::END)
+    match r.progress {
+        None => write!(out, "running")?,
+        Some(e) => end(out, e)?,
+    }
+    write!(out, ", packets {}, passes {}", r.packets, r.passes)?;
+    writeln!(out, ", completed {}, mask {:02x}", r.completed, r.mask)
 }
 
 // What a run leaves: the record, and the bytes of the staging buffer.
-pub fn left(out: &mut impl Write, device: &[u8], staging: &[u8]) -> io::Result<()> {
+pub fn left(out: &mut impl Write, device: &[u8; DEVICE_SIZE], staging: &[u8]) -> io::Result<()> {
     record(out, device)?;
-    form(out, b"staging %*\n", staging)
+    writeln!(out, "staging {}", Hex(staging))
 }

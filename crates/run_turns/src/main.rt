@@ -2,224 +2,122 @@
 // device, whose record is changed in place. In a case of kind T some packets arrive twice.
 #![tactic(auto)]
 
-use crate::way::{Way, put_reply};
 use device_bytes::{DEVICE_SIZE, staging_len_in};
-use device_in_place::Reply;
 use device_in_place::content::content_in_place;
 use device_in_place::offer::offer_in_place;
 use host::step::step;
-use host_packet::answer::StepAnswer;
 use host_record::record::Host;
-use host_record::report::Progress;
-use run_print::script::{FRAMES, PAYLOAD_SIZE, next};
-use run_print::{first, part, rest};
-use run_script::{case, tell};
+use run_print::script::run_script;
+use run_script::case::{Case, STAGING_SIZE};
+use run_script::tell;
+use std::alloc::Global;
+use std::collections::VecDeque;
 use std::io;
-use std::io::{BufReader, BufWriter, Read, Write};
+use std::io::Write;
 use wire::codes::SHORT_SIZE;
-use wire::words::{byte_at, copy, fill};
-
-mod way; // way.rt: the replies on their way to the host
 
 // How many turns a run has at the most.
 const TURNS: u32 = 100000;
 
-// The host's step on the first reply on its way, and on no bytes where there is none.
-fn ask(h: Host, bundle: &[u8], way: Way, replies: &[u8]) -> StepAnswer {
-    step(h, bundle, way.first(replies))
-}
-
-// What is printed of an answer, and its first reply is put behind those on their way.
-fn told(
-    out: &mut impl Write,
-    p: &[u8],
-    again: bool,
-    a: Reply,
-    way: Way,
-    replies: &mut [u8],
-) -> io::Result<Way> {
-    let sent = a.replies;
-    tell::exchange(out, p, again, a.refusal, sent)?;
-    if sent.due {
-        Ok(put_reply(way, replies, &sent.reply))
-    } else {
-        Ok(way)
-    }
-}
-
-// A packet of the host arrives.
-fn arrives(
-    out: &mut impl Write,
-    p: &[u8],
-    again: bool,
-    device: &mut [u8],
-    staging: &mut [u8],
-    way: Way,
-    replies: &mut [u8],
-) -> io::Result<Way> {
-    let a = if p.len() == SHORT_SIZE {
-        offer_in_place(device, staging, p)
-    } else {
-        content_in_place(device, staging, p)
-    };
-    told(out, p, again, a, way, replies)
-}
-
-// Packet j, counted from 0, arrives twice.
-fn is_doubled(pattern: &[u8], j: u32) -> bool {
-    let bits = byte_at(pattern, (j / 8) as usize);
-    (bits >> (j % 8)) % 2 == 1
-}
-
-fn has_ended(h: Host) -> bool {
-    match h.report().progress {
-        Progress::Running => false,
-        Progress::Ended(_) => true,
-    }
-}
-
-// Both ends between two turns: the host, the replies on their way to it, how many packets were sent, and whether the run is over.
+// Both ends between two turns.
 #[derive(Drop)]
-struct Ends {
+struct Run<'a> {
     host: Host,
-    way: Way,
+    bundle: &'a [u8],
+    device: [u8; DEVICE_SIZE],
+    staging: Vec<u8>,
+    // The replies on their way to the host, in the order in which they were sent.
+    replies: VecDeque<[u8; SHORT_SIZE]>,
+    // A bit for each packet that arrives twice, and how many packets were sent.
+    pattern: u64,
     sent: u32,
-    over: bool,
 }
 
-// What was sent arrives, twice where the pattern says so.
-fn deliver(
-    out: &mut impl Write,
-    e: Ends,
-    p: &[u8],
-    pattern: &[u8],
-    device: &mut [u8],
-    staging: &mut [u8],
-    replies: &mut [u8],
-) -> io::Result<Way> {
-    if p.len() == 0 {
-        return Ok(e.way);
+// The host has ended.
+fn has_ended(h: Host) -> bool {
+    h.report().progress.is_some()
+}
+
+impl Run<'_> {
+    // A packet of the host arrives, and its first reply is put behind those on their way.
+    fn arrives(&mut self, out: &mut impl Write, p: &[u8], again: bool) -> io::Result<()> {
+        let a = if p.len() == SHORT_SIZE {
+            offer_in_place(&mut self.device, &mut self.staging, p)
+        } else {
+            content_in_place(&mut self.device, &mut self.staging, p)
+        };
+        tell::exchange(out, p, again, a)?;
+        if let Ok(sent) = a {
+            if sent.due {
+                self.replies.push_back(sent.reply)?;
+            }
+        }
+        Ok(())
     }
-    let once = arrives(out, p, false, device, staging, e.way, replies)?;
-    if is_doubled(pattern, e.sent) {
-        return arrives(out, p, true, device, staging, once, replies);
+
+    // The packet that is sent next arrives twice.
+    fn is_doubled(&self) -> bool {
+        self.sent < u64::BITS && (self.pattern >> self.sent) % 2 == 1
     }
-    Ok(once)
+
+    // One turn: the host's step on the first reply on its way, or on no bytes where there is none, and what it sends arrives. True where the run is over: the
+    // host has ended, or its step is refused.
+    fn turn(&mut self, out: &mut impl Write) -> io::Result<bool> {
+        let told = match self.replies.pop_front() {
+            Some(reply) => step(self.host, self.bundle, &reply),
+            None => step(self.host, self.bundle, &[]),
+        };
+        let Ok(a) = told else {
+            return Ok(true);
+        };
+        self.host = a.host;
+        let packet = &a.packet[..a.sent.size()];
+        if !packet.is_empty() {
+            self.arrives(out, packet, false)?;
+            if self.is_doubled() {
+                self.arrives(out, packet, true)?;
+            }
+            self.sent = self.sent.wrapping_add(1);
+        }
+        Ok(has_ended(a.host))
+    }
+
+    // The host and the device in turn.
+    fn run_turns(&mut self, out: &mut impl Write) -> io::Result<()> {
+        for _ in 0..TURNS {
+            if self.turn(out)? {
+                break;
+            }
+        }
+        Ok(())
+    }
 }
 
-// One turn: the host's step, and what it sends arrives; the run is over where the host has ended or its step is refused.
-fn turn(
-    out: &mut impl Write,
-    e: Ends,
-    bundle: &[u8],
-    pattern: &[u8],
-    device: &mut [u8],
-    staging: &mut [u8],
-    replies: &mut [u8],
-) -> io::Result<Ends> {
-    let a = ask(e.host, bundle, e.way, replies);
-    let n = a.sent.size();
-    let asked = Ends {
-        host: a.host,
-        way: e.way.taken(),
-        sent: e.sent,
-        over: false,
-    };
-    let packet = first(&a.packet, n);
-    let way = deliver(out, asked, packet, pattern, device, staging, replies)?;
-    Ok(Ends {
-        host: a.host,
-        way,
-        sent: e.sent.wrapping_add((0 < n) as u32),
-        over: a.refusal.is_refused() | has_ended(a.host),
-    })
-}
-
-// The host and the device in turn.
-fn run_turns(
-    out: &mut impl Write,
-    bundle: &[u8],
-    token: u8,
-    pattern: &[u8],
-    device: &mut [u8],
-    staging: &mut [u8],
-) -> io::Result<Host> {
-    let mut replies = [0u8; way::SIZE];
-    let mut e = Ends {
-        host: Host::fresh(token),
-        way: Way::empty(),
+// A case with a pattern has the report too.
+fn run_case(out: &mut impl Write, alloc: Global, case: Case<'_>) -> io::Result<()> {
+    let staging_len = staging_len_in(&case.record) as usize;
+    if STAGING_SIZE < staging_len {
+        return Ok(());
+    }
+    tell::record(out, &case.record)?;
+    let mut run = Run {
+        host: Host::fresh(case.token),
+        bundle: case.bundle,
+        device: case.record,
+        staging: vec![in alloc; case.fill; staging_len]?,
+        replies: VecDeque::new(alloc),
+        pattern: case.pattern.unwrap_or(0),
         sent: 0,
-        over: false,
     };
-    for _ in 0..TURNS {
-        e = turn(out, e, bundle, pattern, device, staging, &mut replies)?;
-        if e.over {
-            break;
-        }
+    run.run_turns(out)?;
+    if case.pattern.is_some() {
+        tell::report(out, run.host.report())?;
     }
-    Ok(e.host)
-}
-
-// The bundle and the pattern of a case; a frame T has the report too.
-fn run_lent(
-    out: &mut impl Write,
-    p: &[u8],
-    twice: bool,
-    device: &mut [u8],
-    staging: &mut [u8],
-) -> io::Result<()> {
-    let skip = pattern_size(twice);
-    fill(staging, byte_at(p, case::FILL_AT));
-    tell::record(out, device)?;
-    let host = run_turns(
-        out,
-        rest(rest(p, skip), case::BUNDLE_AT),
-        byte_at(p, case::TOKEN_AT),
-        part(p, case::PATTERN_AT, skip),
-        device,
-        staging,
-    )?;
-    if twice {
-        tell::report(out, host.report())?;
-    }
-    tell::left(out, device, staging)
-}
-
-// How many bytes of a case are its pattern.
-fn pattern_size(twice: bool) -> usize {
-    if twice { case::PATTERN_SIZE } else { 0 }
-}
-
-fn run_case(out: &mut impl Write, p: &[u8], twice: bool) -> io::Result<()> {
-    let mut device = [0u8; DEVICE_SIZE];
-    let mut staging = [0u8; case::STAGING_SIZE];
-    let shifted = rest(p, pattern_size(twice));
-    copy(&mut device, part(shifted, case::RECORD_AT, DEVICE_SIZE));
-    let n = staging_len_in(&device) as usize;
-    if n <= case::STAGING_SIZE {
-        run_lent(out, p, twice, &mut device, &mut staging[..n])?;
-    }
-    Ok(())
-}
-
-// The frames of the script, one after the other.
-fn run(input: &mut impl Read, out: &mut impl Write) -> io::Result<()> {
-    for _ in 0..FRAMES {
-        let mut payload = [0u8; PAYLOAD_SIZE];
-        let f = next(input, out, &mut payload)?;
-        if !f.whole {
-            break;
-        }
-        if f.kind != b'#' {
-            run_case(out, first(&payload, f.len), f.kind == b'T')?;
-        }
-    }
-    Ok(())
+    tell::left(out, &run.device, &run.staging)
 }
 
 fn main(rt: HostRuntime) -> io::Result<()> {
-    let mut input = BufReader::new(rt.alloc(), rt.reader())?;
-    let mut out = BufWriter::new(rt.alloc(), io::writer(&rt))?;
-    run(&mut input, &mut out)?;
-    out.flush()
+    run_script(&rt, |out, frame| {
+        run_case(out, rt.alloc(), Case::read(frame))
+    })
 }

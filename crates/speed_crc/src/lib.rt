@@ -22,10 +22,8 @@ fn byte_step(r: u16, b: u8) -> u16
     ensures { result ≡ byte_step r b }
 {
     let mut x = r ^ ((b as u16) << 8);
-    let mut k: usize = 0;
-    while k < 8 {
+    for _ in 0..8u8 {
         x = bit_step(x);
-        k += 1;
     }
     x
 }
@@ -35,10 +33,8 @@ pub extern "C" fn crc16_by_bits(bytes: &[u8]) -> u16
     ensures { result ≡ crc_of bytes.now }
 {
     let mut r: u16 = 0;
-    let mut i = 0;
-    while i < bytes.len() {
-        r = byte_step(r, bytes[i]);
-        i += 1;
+    for b in bytes {
+        r = byte_step(r, *b);
     }
     r
 }

@@ -14,7 +14,7 @@ use Rattle.bundle_records.specs.Record.{head_in}
 use Rattle.bundle_records.specs.Parse.{parse, written}
 use Rattle.image.specs.Region.{within, region_bytes, blank, put, erase_of, write_of}
 use Rattle.image.specs.Judge.{image_in}
-use Rattle.device_component.specs.declared.record.Staged.TheVariants.{Nothing}
+use Rattle.std.specs.Prelude.{None}
 use Rattle.device_component.specs.Lists.{first_from, find}
 use Rattle.device_component.specs.Setup.{bad_ids, bad_regions, setup_verdict}
 use Rattle.bundle_layout.specs.Layout.{entries_from, entries_in, body_in}
@@ -57,9 +57,9 @@ bench_fits = record {
   slots = refl;
   each =
       all_fit (bench Idle).components (
-        component_fits 0 1 0x01000200 0 64 Nothing (omega arith) (omega arith) (omega arith) (omega arith) (omega arith) tt,
+        component_fits 0 1 0x01000200 0 64 None (omega arith) (omega arith) (omega arith) (omega arith) (omega arith) tt,
         (
-          component_fits 0 2 0x01000100 64 64 Nothing (omega arith) (omega arith) (omega arith) (omega arith) (omega arith) tt,
+          component_fits 0 2 0x01000100 64 64 None (omega arith) (omega arith) (omega arith) (omega arith) (omega arith) tt,
           (blank_fits, (blank_fits, (blank_fits, (blank_fits, (blank_fits, tt))))),
         ),
       );

@@ -8,7 +8,7 @@ use lib.ListN.{replicate}
 use Rattle.wire.specs.Codes.{component_limit}
 use Rattle.wire.proofs.Tests.{all_bytes}
 use Rattle.device_component.specs.Record.{FitsComponent}
-use Rattle.device_component.specs.declared.record.Staged.TheVariants.{Nothing}
+use Rattle.std.specs.Prelude.{Some, None}
 use Rattle.device.specs.Record.{FitsDevice}
 use Rattle.device_session.proofs.effect.Laws.{idle_fits}
 use Rattle.update.specs.Run.{once}
@@ -18,12 +18,11 @@ use Rattle.update.proofs.Bench.{computing}
 use Rattle.update.proofs.Goodness.{bodies_good}
 use Rattle.update.proofs.Fitting.{blank_fits, all_fit, component_fits}
 use Rattle.wire.specs.Version.{version_of}
-use Rattle.device_component.specs.declared.record.Staged.TheVariants.{Pending}
 use Rattle.update.specs.Cases.{floor100, at100, image16, seven, chain, mixed, mixed_bundle, raised, raised_bundle, ChainReaches, MixedDevice, MixedStaging, MixedRuns, RaisedDevice, RaisedStaging, FloorRuns, CycleStops, quartered, RunsWith, DoubledRuns, BoundReached}
 
 -- a component of the cases
 floor100_fits : (floor id : ℕ) → floor < 256 ^ 4 → id ≤ component_limit → FitsComponent (floor100 floor id)
-floor100_fits floor id f h = component_fits floor id 16777216 (16 * (id - 1)) 16 Nothing f (omega arith) (omega arith) (omega arith) (omega arith) tt
+floor100_fits floor id f h = component_fits floor id 16777216 (16 * (id - 1)) 16 None f (omega arith) (omega arith) (omega arith) (omega arith) tt
 
 at100_fits : (id : ℕ) → id ≤ component_limit → FitsComponent (at100 id)
 at100_fits id h = floor100_fits 0 id (omega arith) h
@@ -62,7 +61,7 @@ mixed_fits = record {
       all_fit mixed.components (
         at100_fits 1 (omega arith),
         (
-          component_fits 0 2 16777216 16 16 (Pending (version_of 1 1 0)) (omega arith) (omega arith) (omega arith) (omega arith) (omega arith) (omega arith),
+          component_fits 0 2 16777216 16 16 (Some (version_of 1 1 0)) (omega arith) (omega arith) (omega arith) (omega arith) (omega arith) (omega arith),
           (at100_fits 3 (omega arith), (at100_fits 4 (omega arith), (blank_fits, (blank_fits, (blank_fits, tt))))),
         ),
       );

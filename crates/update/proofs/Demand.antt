@@ -10,7 +10,7 @@ use Rattle.wire.specs.Bytes.{Bytes}
 use Rattle.wire_offer.specs.declared.offer.OfferFields.{OfferFields}
 use Rattle.device_component.specs.Record.{is_pending}
 use Rattle.device_component.specs.declared.record.Component.{Component}
-use Rattle.device_component.specs.declared.list.Found.TheVariants.{At}
+use Rattle.std.specs.Prelude.{Some}
 use Rattle.update_passes.specs.Sets.{Set}
 use Rattle.update_passes.proofs.Tests.{bool_cases, both, and_l, and_r}
 use Rattle.bundle_layout.specs.Layout.{count_in}
@@ -47,7 +47,7 @@ landed_eligible d b X s i l t = and_r (X i) (is_eligible (to_idle d) (offer_at b
         (s.closed j m e (inr (record { by = f.by; listed = f.listed; other = f.other; member = and_l (X f.by) _ f.member; meets = f.meets }))) e
 
 -- staged in this run: not pending before, and pending after
-state_form : (b : List ℕ) → Accepted b → (d : Device) (X : Set) (d' : Device) → Smallest d b X → Leaves d b X d' → (i k : ℕ) → i < count_in b → find d (offer_at b i).id ≡ At k
+state_form : (b : List ℕ) → Accepted b → (d : Device) (X : Set) (d' : Device) → Smallest d b X → Leaves d b X d' → (i k : ℕ) → i < count_in b → find d (offer_at b i).id ≡ Some k
     → T (X i) ↔ ((is_pending (component d k).staged ≡ false) × (is_pending (component d' k).staged ≡ true))
 state_form b α d X d' s h i k l f = (forth, back)
   where

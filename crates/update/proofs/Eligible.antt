@@ -13,9 +13,7 @@ use Rattle.device_component.specs.Lists.{component_at}
 use Rattle.device_component.specs.Record.{is_pending}
 use Rattle.device_component.specs.Versions.{offer_version_fits}
 use Rattle.device_component.specs.declared.record.Component.{Component}
-use Rattle.device_component.specs.declared.record.Staged.TheVariants as staged
-use Rattle.device_component.specs.declared.list.Found.{Found}
-use Rattle.device_component.specs.declared.list.Found.TheVariants as found
+use Rattle.std.specs.Prelude.{Option, Some, None}
 use Rattle.update_passes.proofs.Tests.{is_false}
 use Rattle.bundle_layout.specs.Layout.{count_in, id_in}
 use Rattle.bundle.proofs.Accepted.{Accepted}
@@ -42,7 +40,7 @@ pub ids_apart : (b : List ℕ) → Accepted b → (i j : ℕ) → i < count_in b
 ids_apart b α i j l m e = α.ids i j l m (sym (offer_id b i) ∙ e ∙ offer_id b j)
 
 -- a check of 2 to 7 applies, of a slot and the component there
-abbrev pub rejected : (platform : ℕ) → OfferFields → Found → Component → Bool
+abbrev pub rejected : (platform : ℕ) → OfferFields → Option ℕ → Component → Bool
 rejected platform o f c = applies (rejections_at platform (record { at = f; component = c }) o)
 
 -- eligible is not rejected
@@ -52,7 +50,7 @@ unfolding offering.rejections
 rejected_is d components o = refl
 
 -- an offer that cannot be eligible is rejected
-rejects : (platform : ℕ) (o : OfferFields) (f : Found) (c : Component) → (Eligible platform (record { at = f; component = c }) o → ⊥) → rejected platform o f c ≡ true
+rejects : (platform : ℕ) (o : OfferFields) (f : Option ℕ) (c : Component) → (Eligible platform (record { at = f; component = c }) o → ⊥) → rejected platform o f c ≡ true
 rejects platform o f c h = go (rejected platform o f c) refl
   where
     go : (x : Bool) → rejected platform o f c ≡ x → rejected platform o f c ≡ true
@@ -60,22 +58,22 @@ rejects platform o f c h = go (rejected platform o f c) refl
     go false e = absurd (h ((eligible_is platform (record { at = f; component = c }) o).0 e))
 
 -- nothing is no slot
-pub no_slot : (k : ℕ) → found.Nothing ≡ found.At k → ⊥
+pub no_slot : (k : ℕ) → None ≡ Some k → ⊥
 no_slot k e = true≢false (ap is_absent e)
 
 -- an absent component is rejected
-pub absent_rejected : (platform : ℕ) (o : OfferFields) (c : Component) → rejected platform o found.Nothing c ≡ true
-absent_rejected platform o c = rejects platform o found.Nothing c (λ e. no_slot e.slot e.listed)
+pub absent_rejected : (platform : ℕ) (o : OfferFields) (c : Component) → rejected platform o None c ≡ true
+absent_rejected platform o c = rejects platform o None c (λ e. no_slot e.slot e.listed)
 
 -- so is a pending one
-pub pending_rejected : (platform : ℕ) (o : OfferFields) (k : ℕ) (c : Component) → is_pending c.staged ≡ true → rejected platform o (found.At k) c ≡ true
-pending_rejected platform o k c h = rejects platform o (found.At k) c (λ e. true≢false (sym h ∙ ap is_pending e.free))
+pub pending_rejected : (platform : ℕ) (o : OfferFields) (k : ℕ) (c : Component) → is_pending c.staged ≡ true → rejected platform o (Some k) c ≡ true
+pending_rejected platform o k c h = rejects platform o (Some k) c (λ e. true≢false (sym h ∙ ap is_pending e.free))
 
 -- an eligible offer: its component is there, has nothing staged, and runs an older version
 pub record Fresher (d : Device) (o : OfferFields) : Type 0 where
   pub slot : ℕ
-  pub here : find d o.id ≡ found.At slot
-  pub free : (component d slot).staged ≡ staged.Nothing
+  pub here : find d o.id ≡ Some slot
+  pub free : (component d slot).staged ≡ None
   pub newer : offer_version_fits (component d slot) o.version ≡ true
 
 -- the component in the slot that was found
@@ -83,8 +81,8 @@ in_slot : (d : Device) (o : OfferFields) → Eligible d.platform (standing_of o.
 in_slot d o e = record {
   slot = e.slot;
   here = e.listed;
-  free = subst (λ (f : Found). (component d (slot_of f)).staged ≡ staged.Nothing) e.listed e.free;
-  newer = subst (λ (f : Found). offer_version_fits (component d (slot_of f)) o.version ≡ true) e.listed e.version;
+  free = subst (λ (f : Option ℕ). (component d (slot_of f)).staged ≡ None) e.listed e.free;
+  newer = subst (λ (f : Option ℕ). offer_version_fits (component d (slot_of f)) o.version ≡ true) e.listed e.version;
 }
 
 -- what eligibility says

@@ -16,13 +16,12 @@ use Rattle.image.specs.Region.{within, region_bytes, blank, put}
 use Rattle.image.specs.declared.region.Region.{Region}
 use Rattle.image.proofs.region.Within.{region_byte, blank_length, put_length, within_length, within_own, within_out, within_apart}
 use Rattle.device_component.specs.Setup.{setup_verdict}
-use Rattle.device_component.specs.declared.setup.SetupVerdict.TheVariants.{Fine}
-use Rattle.device_component.specs.declared.list.Found.{Found}
-use Rattle.device_component.specs.declared.list.Found.TheVariants as found
+use Rattle.std.specs.Prelude.{Option, None, Some, Ok}
 use Rattle.device_component.proofs.setup.Laws.{fine_region, fine_apart}
 use Rattle.update_passes.specs.Sets.{Set, ins, none, from}
 use Rattle.update_passes.proofs.Tests.{bool_cases, or_cases, and_l, and_r, nand}
-use Rattle.update_passes.proofs.Sets.{ins_old, ins_new, Some, some_out, some_in}
+use Rattle.update_passes.proofs.Sets.{ins_old, ins_new, some_out, some_in}
+use Rattle.update_passes.proofs.Sets as sets
 use Rattle.bundle_layout.specs.Layout.{count_in}
 use Rattle.bundle.proofs.Accepted.{Accepted}
 use Rattle.device.specs.Record.{find, component}
@@ -34,7 +33,7 @@ use Rattle.update.specs.Claim.{offer_at, writes, image_of, Inside, Untouched, Fi
 use Rattle.update.proofs.Landed.{same_slot, numbered, below_count, at_slot, one_offer}
 
 -- what D1 lets pass, set-up finds fine
-pub fine_setup : (d : Device) → breaks_d1 d ≡ false → setup_verdict d.staging_len d.count d.components ≡ Fine
+pub fine_setup : (d : Device) → breaks_d1 d ≡ false → setup_verdict d.staging_len d.count d.components ≡ Ok tt
 fine_setup d h = fine _ (passes h).setup
 
 -- records that lie inside leave the length
@@ -48,7 +47,7 @@ pub image_length : (len : ℕ) (rs : List Block) → Inside len rs → length (i
 unfolding image_of
 image_length len rs h = writes_length len (blank len) rs (blank_length len) h
 
-module _ (b : List ℕ) (α : Accepted b) (d : Device) (slots : length d.components ≡ component_limit) (fine : setup_verdict d.staging_len d.count d.components ≡ Fine)
+module _ (b : List ℕ) (α : Accepted b) (d : Device) (slots : length d.components ≡ component_limit) (fine : setup_verdict d.staging_len d.count d.components ≡ Ok tt)
     (s : List ℕ) (d2 : length s ≡ d.staging_len) where
   -- the region of a slot lies in the buffer
   pub region_inside : (k : ℕ) → k < d.count → (component d k).fixed.region.base.0 + (component d k).fixed.region.len ≤ d.staging_len
@@ -59,7 +58,7 @@ module _ (b : List ℕ) (α : Accepted b) (d : Device) (slots : length d.compone
   fills_none = record { long = refl; images = λ i k l t. absurd t; rest = λ j u. refl }
 
   -- one landing more
-  pub fills_more : (S : Set) (r : List ℕ) (e k : ℕ) → Fills d b S s r → e < count_in b → find d (offer_at b e).id ≡ found.At k
+  pub fills_more : (S : Set) (r : List ℕ) (e k : ℕ) → Fills d b S s r → e < count_in b → find d (offer_at b e).id ≡ Some k
       → Inside (component d k).fixed.region.len (blocks_at b e)
       → Fills d b (ins S e) s (within (component d k).fixed.region.base.0 (component d k).fixed.region.len (λ (old : List ℕ). image_of (component d k).fixed.region.len (blocks_at b e)) r)
   fills_more S r e k h l f inside =
@@ -81,20 +80,20 @@ module _ (b : List ℕ) (α : Accepted b) (d : Device) (slots : length d.compone
       kept : length (image_of (component d k).fixed.region.len (blocks_at b e)) ≡ (component d k).fixed.region.len
       kept = image_length (component d k).fixed.region.len (blocks_at b e) inside
 
-      by : (i j : ℕ) → i < count_in b → T (ins S e i) → find d (offer_at b i).id ≡ found.At j → Dec (i ≡ e)
+      by : (i j : ℕ) → i < count_in b → T (ins S e i) → find d (offer_at b i).id ≡ Some j → Dec (i ≡ e)
           → region_bytes (component d j).fixed.region (within q.base.0 q.len image r) ≡ image_of (component d j).fixed.region.len (blocks_at b i)
       by i j m t g (yes z) =
-          let w : j ≡ k = same_slot (find d (offer_at b e).id) j k (subst (λ (n : ℕ). find d (offer_at b n).id ≡ found.At j) z g) f in
+          let w : j ≡ k = same_slot (find d (offer_at b e).id) j k (subst (λ (n : ℕ). find d (offer_at b n).id ≡ Some j) z g) f in
           rw (w, z) (within_own q image r room kept)
       by i j m t g (no z) =
           within_apart q image r room kept (component d j).fixed.region (omega (arith, region_inside j (at_slot b α d i j g).0, h.long))
-          (fine_apart d.staging_len d.count d.components fine slots k j (at_slot b α d e k f).0 (at_slot b α d i j g).0 (λ w. z (one_offer b α d i e k m l (g ∙ ap found.At (sym w)) f)))
+          (fine_apart d.staging_len d.count d.components fine slots k j (at_slot b α d e k f).0 (at_slot b α d i j g).0 (λ w. z (one_offer b α d i e k m l (g ∙ ap Some (sym w)) f)))
           ∙ h.images i j m (or_cases (eqb i e) (S i) (λ w. absurd (z (eqb→eq i e w))) (λ w. w) t) g
 
   -- a byte lies in the region of a slot
-  covers : Found → ℕ → Bool
-  covers found.Nothing j = false
-  covers (found.At k) j = leb (component d k).fixed.region.base.0 j && ltb j ((component d k).fixed.region.base.0 + (component d k).fixed.region.len)
+  covers : Option ℕ → ℕ → Bool
+  covers None j = false
+  covers (Some k) j = leb (component d k).fixed.region.base.0 j && ltb j ((component d k).fixed.region.base.0 + (component d k).fixed.region.len)
 
   -- a member has that byte in its region
   abbrev touched : Set → (j i : ℕ) → Bool
@@ -106,9 +105,9 @@ module _ (b : List ℕ) (α : Accepted b) (d : Device) (slots : length d.compone
   fills_same S r r' h h' =
       ext_get_or 0 r r' (h.long ∙ sym h'.long) (λ j q. bool_cases (any (touched S j) (from 0 (count_in b))) (in_one j) (in_none j))
     where
-      in_slot : (j i : ℕ) → i < count_in b → T (S i) → (f : Found) → find d (offer_at b i).id ≡ f → T (covers f j) → get_or r j 0 ≡ get_or r' j 0
-      in_slot j i l t found.Nothing q c = absurd c
-      in_slot j i l t (found.At k) q c =
+      in_slot : (j i : ℕ) → i < count_in b → T (S i) → (f : Option ℕ) → find d (offer_at b i).id ≡ f → T (covers f j) → get_or r j 0 ≡ get_or r' j 0
+      in_slot j i l t None q c = absurd c
+      in_slot j i l t (Some k) q c =
           let base = (component d k).fixed.region.base.0 in
           let len = (component d k).fixed.region.len in
           let lo : base ≤ j = leb→le base j (and_l (leb base j) (ltb j (base + len)) c) in
@@ -121,13 +120,13 @@ module _ (b : List ℕ) (α : Accepted b) (d : Device) (slots : length d.compone
 
       in_one : (j : ℕ) → T (any (touched S j) (from 0 (count_in b))) → get_or r j 0 ≡ get_or r' j 0
       in_one j t =
-          let x : Some (from 0 (count_in b)) (touched S j) = some_out (from 0 (count_in b)) (touched S j) t in
+          let x : sets.Some (from 0 (count_in b)) (touched S j) = some_out (from 0 (count_in b)) (touched S j) t in
           in_slot j x.j (below_count b x.j x.listed) (and_l (S x.j) _ x.has) (find d (offer_at b x.j).id) refl (and_r (S x.j) _ x.has)
 
       in_none : (j : ℕ) → T (not (any (touched S j) (from 0 (count_in b)))) → get_or r j 0 ≡ get_or r' j 0
       in_none j z = h.rest j out ∙ sym (h'.rest j out)
         where
-          far : (k : ℕ) → T (not (covers (found.At k) j)) → (j < (component d k).fixed.region.base.0) ⊎ ((component d k).fixed.region.base.0 + (component d k).fixed.region.len ≤ j)
+          far : (k : ℕ) → T (not (covers (Some k) j)) → (j < (component d k).fixed.region.base.0) ⊎ ((component d k).fixed.region.base.0 + (component d k).fixed.region.len ≤ j)
           far k =
               nand (leb (component d k).fixed.region.base.0 j) (ltb j ((component d k).fixed.region.base.0 + (component d k).fixed.region.len)) (λ w. inl (nleb→lt _ _ w)) (λ w. inr (nltb→le _ _ w))
 
@@ -138,6 +137,6 @@ module _ (b : List ℕ) (α : Accepted b) (d : Device) (slots : length d.compone
 
           out : Untouched d b S j
           out i k l t q =
-              far k (not_both (S i) (covers (found.At k) j) t
+              far k (not_both (S i) (covers (Some k) j) t
               (λ w. T_not (any (touched S j) (from 0 (count_in b))) z
-              (some_in (from 0 (count_in b)) (touched S j) i (numbered b i l) (subst (λ (f : Found). T (S i && covers f j)) (sym q) w))))
+              (some_in (from 0 (count_in b)) (touched S j) i (numbered b i l) (subst (λ (f : Option ℕ). T (S i && covers f j)) (sym q) w))))

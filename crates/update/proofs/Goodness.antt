@@ -14,8 +14,7 @@ use Rattle.wire_offer.specs.declared.offer.OfferFields.{OfferFields}
 use Rattle.bundle_records.specs.Record.{Block}
 use Rattle.image.specs.Judge.{is_right, image_id, image_version}
 use Rattle.device_component.specs.declared.record.Component.{Component}
-use Rattle.device_component.specs.declared.list.Found.{Found}
-use Rattle.device_component.specs.declared.list.Found.TheVariants.{Nothing, At}
+use Rattle.std.specs.Prelude.{Option, Some, None}
 use Rattle.bundle_layout.specs.Layout.{count_in}
 use Rattle.device.specs.Record.{find, component}
 use Rattle.device.specs.declared.record.Device.{Device}
@@ -54,9 +53,9 @@ good_of c o rs h =
     }
 
 -- the body of an entry is good, where the device has its component
-abbrev pub good_in : (b : List ℕ) → Device → ℕ → Found → Bool
-good_in b d i Nothing = true
-good_in b d i (At k) = good_test (component d k) (offer_at b i) (blocks_at b i)
+abbrev pub good_in : (b : List ℕ) → Device → ℕ → Option ℕ → Bool
+good_in b d i None = true
+good_in b d i (Some k) = good_test (component d k) (offer_at b i) (blocks_at b i)
 
 -- so is that of each of the first n entries
 abbrev pub all_good : (b : List ℕ) → Device → (n : ℕ) → Bool
@@ -74,5 +73,5 @@ one_good b d (suc n) i h l = go (ℕ_discrete i n) (both (good_in b d n (find d 
 
 -- every body of a bundle is good, by the test
 pub bodies_good : (b : List ℕ) (d : Device) → all_good b d (count_in b) ≡ true
-    → (i k : ℕ) → i < count_in b → find d (offer_at b i).id ≡ At k → Good (component d k) (offer_at b i) (blocks_at b i)
+    → (i k : ℕ) → i < count_in b → find d (offer_at b i).id ≡ Some k → Good (component d k) (offer_at b i) (blocks_at b i)
 bodies_good b d h i k l e = good_of (component d k) (offer_at b i) (blocks_at b i) (rw e at (one_good b d (count_in b) i h l))

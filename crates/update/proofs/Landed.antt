@@ -17,9 +17,7 @@ use Rattle.device_component.specs.Lists.{component_at}
 use Rattle.device_component.specs.Record.{is_pending, with_staged, blank_component}
 use Rattle.device_component.specs.Versions.{image_version_fits}
 use Rattle.device_component.specs.declared.record.Component.{Component}
-use Rattle.device_component.specs.declared.record.Staged.TheVariants as staged
-use Rattle.device_component.specs.declared.list.Found.{Found}
-use Rattle.device_component.specs.declared.list.Found.TheVariants as found
+use Rattle.std.specs.Prelude.{Option, Some, None}
 use Rattle.device_component.proofs.list.Laws.{find_at, find_same}
 use Rattle.device_component.proofs.rule.Laws.{offer_release}
 use Rattle.update_passes.specs.Sets.{Set, In, ins, none, from}
@@ -40,17 +38,17 @@ use Rattle.update.specs.Claim.{offer_at, is_eligible, is_met, feeds, NotTargeted
 use Rattle.update.proofs.Eligible.{ids_apart, rejected, rejected_is, no_slot, absent_rejected, pending_rejected, Fresher, eligible_says}
 
 -- a slot was found there
-abbrev is_slot : Found → ℕ → Bool
-is_slot found.Nothing k = false
-is_slot (found.At l) k = eqb l k
+abbrev is_slot : Option ℕ → ℕ → Bool
+is_slot None k = false
+is_slot (Some l) k = eqb l k
 
 -- the slot that the test names
-slot_is : (f : Found) (k : ℕ) → T (is_slot f k) → f ≡ found.At k
-slot_is found.Nothing k t = absurd t
-slot_is (found.At l) k t = ap found.At (eqb→eq l k t)
+slot_is : (f : Option ℕ) (k : ℕ) → T (is_slot f k) → f ≡ Some k
+slot_is None k t = absurd t
+slot_is (Some l) k t = ap Some (eqb→eq l k t)
 
 -- the test of a slot that was found
-is_slot_lem : (f : Found) (k : ℕ) → f ≡ found.At k → T (is_slot f k)
+is_slot_lem : (f : Option ℕ) (k : ℕ) → f ≡ Some k → T (is_slot f k)
 is_slot_lem f k e = rw e (eqb_refl k)
 
 -- a number that is not below
@@ -58,7 +56,7 @@ at_least : (x l : ℕ) → l ≤ x → T (not (ltb x l))
 at_least x l h = not_T (ltb x l) (λ v. omega (arith, ltb→lt x l v))
 
 -- two equal slots
-pub same_slot : (f : Found) (k l : ℕ) → f ≡ found.At k → f ≡ found.At l → k ≡ l
+pub same_slot : (f : Option ℕ) (k l : ℕ) → f ≡ Some k → f ≡ Some l → k ≡ l
 same_slot f k l e e' = cc
 
 -- an offer of a bundle is one of its numbers
@@ -83,7 +81,7 @@ module _ (b : List ℕ) (α : Accepted b) (d : Device) where
     pub j : ℕ
     pub listed : j < count_in b
     pub member : T (S j)
-    pub here : find d (offer_at b j).id ≡ found.At k
+    pub here : find d (offer_at b j).id ≡ Some k
 
   -- there is one, or none
   pub decide : (S : Set) (k : ℕ) → Source S k ⊎ NotTargeted d b S k
@@ -103,18 +101,18 @@ module _ (b : List ℕ) (α : Accepted b) (d : Device) where
       for j = S j && is_slot (find d (offer_at b j).id) k
 
   -- what is found of an offer's component
-  pub at_slot : (i k : ℕ) → find d (offer_at b i).id ≡ found.At k → (k < d.count) × (k < length d.components) × ((component d k).fixed.id ≡ (offer_at b i).id)
+  pub at_slot : (i k : ℕ) → find d (offer_at b i).id ≡ Some k → (k < d.count) × (k < length d.components) × ((component d k).fixed.id ≡ (offer_at b i).id)
   at_slot i k e = find_at (offer_at b i).id d.count d.components k e
 
   -- two offers for one slot are one
-  pub one_offer : (i j k : ℕ) → i < count_in b → j < count_in b → find d (offer_at b i).id ≡ found.At k → find d (offer_at b j).id ≡ found.At k → i ≡ j
+  pub one_offer : (i j k : ℕ) → i < count_in b → j < count_in b → find d (offer_at b i).id ≡ Some k → find d (offer_at b j).id ≡ Some k → i ≡ j
   one_offer i j k l m e e' = ids_apart b α i j l m (sym (at_slot i k e).2 ∙ (at_slot j k e').2)
 
   -- the components of a device on which a set has landed
   pub record Holding (S : Set) (ps : List Component) : Type 0 where
     pub slots : length ps ≡ length d.components
     pub ids : map (λ c. c.fixed.id) ps ≡ map (λ c. c.fixed.id) d.components
-    pub members : (i k : ℕ) → i < count_in b → T (S i) → find d (offer_at b i).id ≡ found.At k → component_at ps k ≡ with_staged (component d k) (offer_at b i).version
+    pub members : (i k : ℕ) → i < count_in b → T (S i) → find d (offer_at b i).id ≡ Some k → component_at ps k ≡ with_staged (component d k) (offer_at b i).version
     pub others : (k : ℕ) → NotTargeted d b S k → component_at ps k ≡ component d k
     pub d1 : breaks_d1 (idle_with d ps) ≡ false
 
@@ -129,11 +127,11 @@ module _ (b : List ℕ) (α : Accepted b) (d : Device) where
 
     module _ (e : ℕ) (l : e < count_in b) where
       -- the slot of an offer that has not landed is spared
-      pub spared : (k : ℕ) → S e ≡ false → find d (offer_at b e).id ≡ found.At k → NotTargeted d b S k
+      pub spared : (k : ℕ) → S e ≡ false → find d (offer_at b e).id ≡ Some k → NotTargeted d b S k
       spared k out f i m t g = true≢false (sym (is_true (S i) t) ∙ ap S (one_offer i e k m l g f) ∙ out)
 
       -- one landing more
-      pub holding_more : (k : ℕ) → S e ≡ false → find d (offer_at b e).id ≡ found.At k
+      pub holding_more : (k : ℕ) → S e ≡ false → find d (offer_at b e).id ≡ Some k
           → image_version_fits (component d k) (offer_at b e).version ≡ true
           → Holding (ins S e) (set ps k (with_staged (component_at ps k) (offer_at b e).version))
       holding_more k out f new =
@@ -141,26 +139,26 @@ module _ (b : List ℕ) (α : Accepted b) (d : Device) where
             slots = length-set ps k _ ∙ h.slots;
             ids = map-set_same (λ (c : Component). c.fixed.id) ps k _ blank_component refl ∙ h.ids;
             members = λ i j m t g. by i j m t g (ℕ_discrete i e);
-            others = λ j s. get_or-set_other ps k j _ blank_component (λ z. s e l (ins_new S e) (f ∙ ap found.At (sym z))) ∙ h.others j (λ i m t. s i m (ins_old S e i t));
+            others = λ j s. get_or-set_other ps k j _ blank_component (λ z. s e l (ins_new S e) (f ∙ ap Some (sym z))) ∙ h.others j (λ i m t. s i m (ins_old S e i t));
             d1 = staged_passes d ps k (at_slot e k f).0 h.d1 (offer_at b e).version (rw was new);
           }
         where
           was : component_at ps k ≡ component d k
           was = h.others k (spared k out f)
 
-          by : (i j : ℕ) → i < count_in b → T (ins S e i) → find d (offer_at b i).id ≡ found.At j → Dec (i ≡ e)
+          by : (i j : ℕ) → i < count_in b → T (ins S e i) → find d (offer_at b i).id ≡ Some j → Dec (i ≡ e)
               → component_at (set ps k (with_staged (component_at ps k) (offer_at b e).version)) j ≡ with_staged (component d j) (offer_at b i).version
           by i j m t g (yes q) =
-              let z : j ≡ k = same_slot (find d (offer_at b e).id) j k (subst (λ (n : ℕ). find d (offer_at b n).id ≡ found.At j) q g) f in
+              let z : j ≡ k = same_slot (find d (offer_at b e).id) j k (subst (λ (n : ℕ). find d (offer_at b n).id ≡ Some j) q g) f in
               rw (q, z) (get_or-set_same ps k _ blank_component (omega (arith, (at_slot e k f).1, h.slots)) ∙ ap (λ (c : Component). with_staged c (offer_at b e).version) was)
           by i j m t g (no q) =
-              get_or-set_other ps k j _ blank_component (λ z. q (one_offer i e k m l (g ∙ ap found.At z) f))
+              get_or-set_other ps k j _ blank_component (λ z. q (one_offer i e k m l (g ∙ ap Some z) f))
               ∙ h.members i j m (or_cases (eqb i e) (S i) (λ z. absurd (q (eqb→eq i e z))) (λ z. z) t) g
 
       -- an offer is eligible where it was at the start and has not landed
       pub eligible_now : is_eligible (idle_with d ps) (offer_at b e) ≡ (not (S e) && is_eligible (to_idle d) (offer_at b e))
       eligible_now =
-          rejected_is d ps o ∙ ap (λ (f : Found). not (rejected d.platform o f (component_at ps (slot_of f)))) (same_find o.id)
+          rejected_is d ps o ∙ ap (λ (f : Option ℕ). not (rejected d.platform o f (component_at ps (slot_of f)))) (same_find o.id)
           ∙ go (find d o.id) refl (S e) refl
           ∙ ap (λ (x : Bool). not (S e) && x) (sym (rejected_is d d.components o))
         where
@@ -168,12 +166,12 @@ module _ (b : List ℕ) (α : Accepted b) (d : Device) where
           o : OfferFields
           o = offer_at b e
 
-          go : (f : Found) → find d o.id ≡ f → (x : Bool) → S e ≡ x
+          go : (f : Option ℕ) → find d o.id ≡ f → (x : Bool) → S e ≡ x
               → not (rejected d.platform o f (component_at ps (slot_of f))) ≡ (not (S e) && not (rejected d.platform o f (component d (slot_of f))))
-          go found.Nothing f x z = rw (absent_rejected d.platform o (component_at ps 0), absent_rejected d.platform o (component d 0)) (sym (and_false (not (S e))))
-          go (found.At k) f true z =
+          go None f x z = rw (absent_rejected d.platform o (component_at ps 0), absent_rejected d.platform o (component d 0)) (sym (and_false (not (S e))))
+          go (Some k) f true z =
               rw (pending_rejected d.platform o k (component_at ps k) (ap (λ (c : Component). is_pending c.staged) (h.members e k l (holds (S e) z) f)), z)
-          go (found.At k) f false z = rw (h.others k (spared k z f), z)
+          go (Some k) f false z = rw (h.others k (spared k z f), z)
 
       -- a member that meets the need
       record Feeding (j : ℕ) : Type 0 where
@@ -210,13 +208,13 @@ module _ (b : List ℕ) (α : Accepted b) (d : Device) where
         fed_slot j m y = eligible_says d (offer_at b j) (fair j m y.member)
 
         -- where there is a need, the two ways to meet it agree
-        meets_slot : (f : Found) → find d o.need ≡ f → eqb o.need 0 ≡ false
+        meets_slot : (f : Option ℕ) → find d o.need ≡ f → eqb o.need 0 ≡ false
             → not (is_absent f || below (component_at ps (slot_of f)) o.least) ≡ (not (is_absent f || below (component d (slot_of f)) o.least) || any fed os)
-        meets_slot found.Nothing g z =
+        meets_slot None g z =
             sym (fails (any fed os)
             (λ t. let x = some_out os fed t in let y = feeding x.j x.has in let w = fed_slot x.j (below_count b x.j x.listed) y in
             no_slot w.slot (sym g ∙ ap (find d) (sym y.for) ∙ w.here)))
-        meets_slot (found.At k) g z = go (decide S k)
+        meets_slot (Some k) g z = go (decide S k)
           where
             was : Bool
             was = not (below (component d k) o.least)
@@ -225,7 +223,7 @@ module _ (b : List ℕ) (α : Accepted b) (d : Device) where
             its_id = (find_at o.need d.count d.components k g).2
 
             -- a member that feeds is for slot k
-            fed_here : (j : ℕ) → j < count_in b → (y : Feeding j) → find d (offer_at b j).id ≡ found.At k
+            fed_here : (j : ℕ) → j < count_in b → (y : Feeding j) → find d (offer_at b j).id ≡ Some k
             fed_here j m y = ap (find d) y.for ∙ g
 
             go : Source S k ⊎ NotTargeted d b S k → not (below (component_at ps k) o.least) ≡ (not (below (component d k) o.least) || any fed os)
@@ -250,8 +248,8 @@ module _ (b : List ℕ) (α : Accepted b) (d : Device) where
                 here : w.slot ≡ k
                 here = same_slot (find d (offer_at b x.j).id) w.slot k w.here x.here
 
-                free : (component d k).staged ≡ staged.Nothing
-                free = subst (λ (n : ℕ). (component d n).staged ≡ staged.Nothing) here w.free
+                free : (component d k).staged ≡ None
+                free = subst (λ (n : ℕ). (component d n).staged ≡ None) here w.free
 
                 older : release_of (component d k).running < release_of (offer_at b x.j).version
                 older = subst (λ (n : ℕ). release_of (component d n).running < release_of (offer_at b x.j).version) here (offer_release (component d w.slot) (offer_at b x.j).version w.newer)
@@ -283,6 +281,6 @@ module _ (b : List ℕ) (α : Accepted b) (d : Device) where
             go true z = rw z
             go false z =
                 ap (λ (x : Bool). not (not x && (is_absent (find (idle_with d ps) o.need) || below (component_at ps (slot_of (find (idle_with d ps) o.need))) o.least))) z
-                ∙ ap (λ (f : Found). not (is_absent f || below (component_at ps (slot_of f)) o.least)) (same_find o.need)
+                ∙ ap (λ (f : Option ℕ). not (is_absent f || below (component_at ps (slot_of f)) o.least)) (same_find o.need)
                 ∙ meets_slot (find d o.need) refl z
                 ∙ ap (λ (x : Bool). not (not x && (is_absent (find d o.need) || below (component d (slot_of (find d o.need))) o.least)) || any fed os) (sym z)

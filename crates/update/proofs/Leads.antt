@@ -10,7 +10,7 @@ use lib.ListN.{length, length-append}
 use Rattle.bundle_layout.specs.Layout.{count_in}
 use Rattle.device.proofs.Calls.{answered_with}
 use Rattle.device.specs.declared.record.Device.{Device}
-use Rattle.device_session.specs.declared.owed.Owed.TheVariants as owed
+use Rattle.std.specs.Prelude.{None}
 use Rattle.device.proofs.Calls.{Answered}
 use Rattle.host_record.specs.Record.{has_ended}
 use Rattle.host_decide.specs.Decide.{decide_of}
@@ -44,18 +44,18 @@ copies false reply = []
 
 -- a packet is answered by one reply, and a copy of it, where one arrives, by the same, which changes nothing
 pub record Arrives (twice : Bool) (p : List ℕ) (d d' : Device) (s s' reply : List ℕ) : Type 0 where
-  pub answer : answer_to p d s ≡ answered_with reply owed.Nothing d'
+  pub answer : answer_to p d s ≡ answered_with reply None d'
   pub bytes : left_by p d s ≡ s'
-  pub copy : twice ≡ true → (answer_to p d' s' ≡ answered_with reply owed.Nothing d') × (left_by p d' s' ≡ s')
+  pub copy : twice ≡ true → (answer_to p d' s' ≡ answered_with reply None d') × (left_by p d' s' ≡ s')
 
 -- one that arrives once
-pub arrives_once : {p : List ℕ} {d d' : Device} {s s' reply : List ℕ} → answer_to p d s ≡ answered_with reply owed.Nothing d' → left_by p d s ≡ s'
+pub arrives_once : {p : List ℕ} {d d' : Device} {s s' reply : List ℕ} → answer_to p d s ≡ answered_with reply None d' → left_by p d s ≡ s'
     → Arrives false p d d' s s' reply
 arrives_once a e = record { answer = a; bytes = e; copy = λ z. absurd (false≢true z) }
 
 -- what has arrived
 arrived_once : (p : List ℕ) (h : Host) (d d' : Device) (s s' r : List ℕ) (q : List (List ℕ)) (trace : List Exchange)
-    → answer_to p d s ≡ answered_with r owed.Nothing d' → left_by p d s ≡ s'
+    → answer_to p d s ≡ answered_with r None d' → left_by p d s ≡ s'
     → arrives p (sending p h d s q trace) ≡ sending p h d' s' (q ++ (r ∷ [])) trace
 arrived_once p h d d' s s' r q trace a e = rw (a, e)
 

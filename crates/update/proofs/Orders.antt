@@ -10,7 +10,7 @@ use Rattle.wire_offer.specs.declared.offer.OfferFields.{OfferFields}
 use Rattle.bundle_records.specs.Parse.{records_of, blocks_of}
 use Rattle.device_component.specs.Lists.{component_at}
 use Rattle.device_component.specs.Record.{blank_component, with_staged}
-use Rattle.device_component.specs.declared.list.Found.TheVariants.{At}
+use Rattle.std.specs.Prelude.{Some}
 use Rattle.update_passes.specs.Sets.{Set}
 use Rattle.update_passes.proofs.Tests.{true_ext}
 use Rattle.bundle_layout.specs.Layout.{count_in, offer_in, body_in}
@@ -83,11 +83,11 @@ module _ (b b' : List ℕ) (π : Reordered b b') (d : Device) (X X' : Set) (same
   here j l t = subst T (same (π.back j) (π.back_listed j l)) (subst (λ (k : ℕ). T (X' k)) (sym (π.to_back j l)) t)
 
   -- its component is found in the same slot
-  finds : (i k : ℕ) → i < count_in b → find d (offer_at b i).id ≡ At k → find d (offer_at b' (π.to i)).id ≡ At k
+  finds : (i k : ℕ) → i < count_in b → find d (offer_at b i).id ≡ Some k → find d (offer_at b' (π.to i)).id ≡ Some k
   finds i k l f = ap (λ (o : OfferFields). find d o.id) (same_offer b b' π i l) ∙ f
 
   -- and the other way round
-  finds_back : (j k : ℕ) → j < count_in b → find d (offer_at b' j).id ≡ At k → find d (offer_at b (π.back j)).id ≡ At k
+  finds_back : (j k : ℕ) → j < count_in b → find d (offer_at b' j).id ≡ Some k → find d (offer_at b (π.back j)).id ≡ Some k
   finds_back j k l f =
       ap (λ (o : OfferFields). find d o.id) (sym (same_offer b b' π (π.back j) (π.back_listed j l))) ∙ ap (λ (i : ℕ). find d (offer_at b' i).id) (π.to_back j l) ∙ f
 

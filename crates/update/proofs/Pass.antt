@@ -14,8 +14,7 @@ use Rattle.device_component.specs.Record.{is_pending, with_staged}
 use Rattle.device_component.specs.Setup.{setup_verdict}
 use Rattle.device_component.specs.Versions.{offer_version_fits}
 use Rattle.device_component.specs.declared.record.Component.{Component}
-use Rattle.device_component.specs.declared.setup.SetupVerdict.TheVariants.{Fine}
-use Rattle.device_component.specs.declared.list.Found.TheVariants as found
+use Rattle.std.specs.Prelude.{Some, Ok}
 use Rattle.device_component.proofs.rule.Laws.{offer_image_lem}
 use Rattle.update_passes.specs.Sets.{Set, ins, from}
 use Rattle.update_passes.specs.Passes.{Pass, answered, pass_over}
@@ -54,11 +53,11 @@ pub record Given (b : List ℕ) (t : ℕ) (d : Device) (s : List ℕ) : Type 0 w
   pub small : t < 256
   pub accepted : Accepted b
   pub slots : length d.components ≡ component_limit
-  pub fine : setup_verdict d.staging_len d.count d.components ≡ Fine
+  pub fine : setup_verdict d.staging_len d.count d.components ≡ Ok tt
   pub d1 : breaks_d1 d ≡ false
   pub d2 : length s ≡ d.staging_len
   pub len : (k : ℕ) → (component d k).fixed.region.len < 256 ^ 4
-  pub good : (i k : ℕ) → i < count_in b → find d (offer_at b i).id ≡ found.At k → Good (component d k) (offer_at b i) (blocks_at b i)
+  pub good : (i k : ℕ) → i < count_in b → find d (offer_at b i).id ≡ Some k → Good (component d k) (offer_at b i) (blocks_at b i)
 
 module _ (b : List ℕ) (twice : Schedule) (t : ℕ) (d : Device) (s : List ℕ) (G : Given b t d s) where
   -- what is known of the bundle
@@ -99,7 +98,7 @@ module _ (b : List ℕ) (twice : Schedule) (t : ℕ) (d : Device) (s : List ℕ)
   offered e reason status = said (offer_packet b α t e) (replied t reason status)
 
   module _ (e : ℕ) (l : e < count_in b) (S : Set) (m : ℕ) (ps : List Component) (r : List ℕ) (h : Landed S m ps r) where
-    module _ (k : ℕ) (out : S e ≡ false) (f : find d (offer_at b e).id ≡ found.At k) (w : Fresher d (offer_at b e)) where
+    module _ (k : ℕ) (out : S e ≡ false) (f : find d (offer_at b e).id ≡ Some k) (w : Fresher d (offer_at b e)) where
       -- the slot is as it was at the start
       was : component_at ps k ≡ component d k
       was = h.components.others k (spared b α d S ps h.components e l k out f)
@@ -239,7 +238,7 @@ module _ (b : List ℕ) (twice : Schedule) (t : ℕ) (d : Device) (s : List ℕ)
           let z = is_eligible_lem (p.set e) (is_eligible (to_idle d) (offer_at b e)) (ap not (sym w.0 ∙ token_rejections (idle_with d ps) (offer_at b e) t) ∙ elig) in
           let met : (offers b α d).met p.set e ≡ true
           = sym (meets_now b α d p.set ps h.components e l fair z.0) ∙ ap not (sym (token_need (idle_with d ps) (offer_at b e) t) ∙ w.1) in
-          let f : find d (offer_at b e).id ≡ found.At k = sym (same_find b α d p.set ps h.components (offer_at b e).id) ∙ w.2 in
+          let f : find d (offer_at b e).id ≡ Some k = sym (same_find b α d p.set ps h.components (offer_at b e).id) ∙ w.2 in
           let x = eligible_says d (offer_at b e) (holds _ z.1) in
           let blocks = contents b twice α t G.small d ps k e l 0 (length (blocks_at b e)) in
           rw (z.0, z.1, met)

@@ -27,7 +27,7 @@ use Rattle.bundle_layout.specs.Layout.{count_in}
 use Rattle.bundle.proofs.Accepted.{Accepted, Carried}
 use Rattle.update_passes.proofs.Tests.{or_true}
 use Rattle.device_session.specs.Effect.{blank_packet}
-use Rattle.device_session.specs.declared.owed.Owed.TheVariants as owed
+use Rattle.std.specs.Prelude.{None}
 use Rattle.device_receiving.specs.Content.{take_block}
 use Rattle.device.specs.Record.{idle_with}
 use Rattle.device.specs.Refusals.{breaks_d1}
@@ -187,7 +187,7 @@ module _ (b : List ℕ) (twice : Schedule) (α : Accepted b) (t : ℕ) (small : 
             (block_staging d ps slot t (head_at b (spot k)) (before k) s (block_packet b (spot k)) size reads k fits sound ∙ puts_it)
 
         -- a block that is not the last is answered, and the session waits for the next
-        answer_is : is_last b (spot k) ≡ false → answer_to (block_packet b (spot k)) (waits k) s ≡ answered_with (taken k) owed.Nothing (waits (suc k))
+        answer_is : is_last b (spot k) ≡ false → answer_to (block_packet b (spot k)) (waits k) s ≡ answered_with (taken k) None (waits (suc k))
         answer_is z =
             rw to_content
             (block_next d ps slot t (head_at b (spot k)) (before k) s (block_packet b (spot k)) size reads k fits sound (block_is_last b (spot k) ∙ z))
@@ -200,7 +200,7 @@ module _ (b : List ℕ) (twice : Schedule) (α : Accepted b) (t : ℕ) (small : 
 
           -- its copy gets the same reply, and changes nothing
           copy_is : is_middle (block_packet b (spot k)) ≡ true
-              → (answer_to (block_packet b (spot k)) (waits (suc k)) s' ≡ answered_with (taken k) owed.Nothing (waits (suc k)))
+              → (answer_to (block_packet b (spot k)) (waits (suc k)) s' ≡ answered_with (taken k) None (waits (suc k)))
               × (left_by (block_packet b (spot k)) (waits (suc k)) s' ≡ s')
           copy_is z =
               let a = apart z in

@@ -24,7 +24,7 @@ use Rattle.device.proofs.Calls.{answered_with}
 use Rattle.device_offering.specs.declared.verdict.OfferVerdict.{OfferVerdict}
 use Rattle.device_offering.specs.declared.verdict.OfferVerdict.TheVariants.{Reject, Skip, Accept}
 use Rattle.device.specs.declared.record.Device.{Device}
-use Rattle.device_session.specs.declared.owed.Owed.TheVariants as owed
+use Rattle.std.specs.Prelude.{None}
 use Rattle.device.proofs.Calls.{Sound, Answered, code_opens, code_accepted, answers_offer, answers_code}
 use Rattle.device.proofs.Offering.{offer_verdict, after_offer, answers}
 use Rattle.device.proofs.Blocks.{held, awaits}
@@ -199,13 +199,13 @@ module _ (b : List ℕ) (twice : Schedule) (α : Accepted b) (t : ℕ) (small : 
 
         -- the answer of a verdict
         told : (v : OfferVerdict) → offer_verdict (idle_with d ps) (with_token (offer_at b e) t) ≡ v
-            → answer_to (offer_packet b α t e) (idle_with d ps) s ≡ answered_with (replied t (reason_of v) (status_of v)) owed.Nothing (after_offer (idle_with d ps) t v)
+            → answer_to (offer_packet b α t e) (idle_with d ps) s ≡ answered_with (replied t (reason_of v) (status_of v)) None (after_offer (idle_with d ps) t v)
         told v z =
             offer_channel e l (idle_with d ps) s
             ∙ answers (idle_with d ps) s (offer_packet b α t e) (with_token (offer_at b e) t) v sound (offer_packet_lem b α t e small l).size (offer_reads b α t e small l) z
 
         -- REJECT and SKIP: the next offer
-        next : (r : List ℕ) (noted : Bool) → answer_to (offer_packet b α t e) (idle_with d ps) s ≡ answered_with r owed.Nothing (idle_with d ps)
+        next : (r : List ℕ) (noted : Bool) → answer_to (offer_packet b α t e) (idle_with d ps) s ≡ answered_with r None (idle_with d ps)
             → decide_of (count_in b) false h r ≡ offer_from (count_in b) (e + 1) (host_as t waits m p q noted la)
             → Goes b twice (turning e m p q sk la ps s trace) (turning (suc e) m (p + 1) q noted la ps s (trace ++ (said (offer_packet b α t e) r ∷ [])))
         next r noted a k =

@@ -1,5 +1,5 @@
 -- What `run` answers: the rows that refuse it, or the end of the run.
-use Rattle.std.specs.Prelude.{ℕ, Bool, true, false, not, List, [], ◌∷◌, eqb, length}
+use Rattle.std.specs.Prelude.{ℕ, not, List, [], ◌∷◌, Result, Ok, Err, eqb, length}
 use Rattle.wire.specs.Checks.{first_of}
 use Rattle.bundle_layout.specs.Rows as bundle
 use Rattle.device.specs.Refusals.{breaks_d1}
@@ -17,12 +17,11 @@ pub data Row : Type 0 where
   row_d : ℕ → Row
 
 abbrev pub row_of : RunRefusal → Row
-row_of refusal.Served = served
-row_of (refusal.Bundle verdict place) = row_b (bundle.number_of verdict) place
+row_of (refusal.Bundle r) = row_b (bundle.number_of r.row) r.place
 row_of refusal.D1 = row_d 1
 row_of refusal.D2 = row_d 2
 
--- the number of a row, 0 where none refuses; the entry that it names, or 0; and whether it refuses
+-- the number of a row, 0 where none refuses; and the entry that it names, or 0
 abbrev pub number_of : Row → ℕ
 number_of served = 0
 number_of (row_b k entry) = k
@@ -32,11 +31,6 @@ abbrev pub entry_of : Row → ℕ
 entry_of served = 0
 entry_of (row_b k entry) = entry
 entry_of (row_d k) = 0
-
-abbrev pub is_refused : Row → Bool
-is_refused served = false
-is_refused (row_b k entry) = true
-is_refused (row_d k) = true
 
 -- what a run answers: its row, the report, the next record, and every byte of the staging buffer
 pub record Ran : Type 0 where
@@ -73,6 +67,7 @@ first_row (bundle.row_b k entry) d staging = row_b k entry
 unfoldable pub run_of : (b : List ℕ) → (token : ℕ) → Device → (staging : List ℕ) → Ran
 run_of b token d staging = ran_by (first_row (bundle.bundle_row b) d staging) b token d staging
 
--- an answer of the code in these terms, with the staging buffer as it was left
-abbrev pub told : RunAnswer → (staging : List ℕ) → Ran
-told a staging = record { row = row_of a.refusal; report = told_report a.report; device = a.device; staging = staging }
+-- what the run of a host with a token against a device answers, in these terms, with the staging buffer as it was left
+abbrev pub told : (token : ℕ) → Device → Result RunAnswer RunRefusal → (staging : List ℕ) → Ran
+told token d (Ok a) staging = record { row = served; report = told_report a.report; device = a.device; staging = staging }
+told token d (Err r) staging = refused_by (row_of r) token d staging

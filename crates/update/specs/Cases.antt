@@ -1,7 +1,7 @@
 -- More runs that meet demand 3's premise: a chain of seven needs, which reaches both bounds; one with an open session that owes a READY, a component pending at
 -- the start, a need cycle and an offer for a component that the device has not; one with floors (document 02, A5); and runs in which blocks arrive twice (A4). And a
 -- host that takes as many steps as any may.
-use Rattle.std.specs.Prelude.{ℕ, zero, suc, ◌+◌, ◌*◌, ◌-◌, ◌≡◌, true, false, List, [], ◌∷◌, ◌++◌, map, eqb, length, get_or, take, drop, replicate}
+use Rattle.std.specs.Prelude.{ℕ, zero, suc, ◌+◌, ◌*◌, ◌-◌, ◌≡◌, true, false, List, [], ◌∷◌, ◌++◌, map, eqb, length, get_or, take, drop, replicate, Some}
 use Rattle.wire.specs.Codes.{component_limit, offer_skip, offer_accept, offer_reject, offer_busy, offer_ready, reject_old_fw, reject_inv_component, reject_swap_pending, success_status}
 use Rattle.wire.specs.Version.{version_bytes, version_of}
 use Rattle.wire_offer.specs.Reply as offer_reply
@@ -14,7 +14,6 @@ use Rattle.bundle.specs.Contents.{Part, bundle_bytes}
 use Rattle.device.specs.declared.record.Device.{Device}
 use Rattle.device_session.specs.Effect.{idle}
 use Rattle.device_session.specs.declared.stage.Stage.TheVariants.{Receiving}
-use Rattle.device_session.specs.declared.owed.Owed.TheVariants as owed
 use Rattle.host_record.specs.Record.{has_ended}
 use Rattle.host_record.specs.declared.record.HostStage.TheVariants.{Ended}
 use Rattle.host_record.specs.declared.record.End.TheVariants.{Done}
@@ -83,7 +82,7 @@ mixed = record {
   staging_len = 64;
   count = 4;
   components = at100 1 ∷ with_staged (at100 2) (version_of 1 1 0) ∷ at100 3 ∷ at100 4 ∷ replicate (component_limit - 4) blank_component;
-  session = record { stage = Receiving (record { slot = 0; token = 3; next = 5 }); owed = owed.Token 9; previous = 0 ∷ 1 ∷ 4 ∷ replicate 57 0 };
+  session = record { stage = Receiving (record { slot = 0; token = 3; next = 5 }); owed = Some 9; previous = 0 ∷ 1 ∷ 4 ∷ replicate 57 0 };
 }
 
 abbrev pub mixed_bundle : List ℕ

@@ -1,6 +1,6 @@
 -- What is claimed of a run (document 01, "The host": demand 3): good bodies, closed sets of offers and the smallest, and the device and the staging buffer
 -- that a set leaves. No run is named here.
-use Rattle.std.specs.Prelude.{ℕ, ◌+◌, ◌≤◌, ◌<◌, ◌≡◌, ◌⊎◌, Bool, true, not, ◌&&◌, List, [], ◌∷◌, T, leb, eqb, length, get_or}
+use Rattle.std.specs.Prelude.{ℕ, ◌+◌, ◌≤◌, ◌<◌, ◌≡◌, ◌⊎◌, Bool, true, not, ◌&&◌, List, [], ◌∷◌, T, leb, eqb, length, get_or, Some}
 use Rattle.wire.specs.Checks.{All, applies}
 use Rattle.wire.specs.Version.{release_of}
 use Rattle.wire_offer.specs.Offer.{fields_in}
@@ -10,7 +10,6 @@ use Rattle.image.specs.Region.{blank, put, region_bytes}
 use Rattle.image.specs.Judge.{is_right, image_id, image_version}
 use Rattle.device_component.specs.Record.{with_staged}
 use Rattle.device_component.specs.declared.record.Component.{Component}
-use Rattle.device_component.specs.declared.list.Found.TheVariants.{At}
 use Rattle.bundle_layout.specs.Layout.{count_in, offer_in}
 use Rattle.device.specs.Record.{find, component, to_idle, idle_with}
 use Rattle.device.specs.Offer.{rejections, need_unmet}
@@ -78,24 +77,24 @@ pub record Smallest (d : Device) (b : List ℕ) (X : Set) : Type 0 where
 
 -- no member of X is for the component in slot k
 abbrev pub NotTargeted : Device → (b : List ℕ) → Set → (k : ℕ) → Type 0
-NotTargeted d b X k = (i : ℕ) → i < count_in b → T (X i) → find d (offer_at b i).id ≡ At k → ⊥
+NotTargeted d b X k = (i : ℕ) → i < count_in b → T (X i) → find d (offer_at b i).id ≡ Some k → ⊥
 
 -- the device that a set leaves: each member's component is pending with the offered version, no other differs; idle, nothing owed, no packet held, all else as
 -- before
 pub record Leaves (d : Device) (b : List ℕ) (X : Set) (d' : Device) : Type 0 where
   pub same : d' ≡ idle_with d d'.components
   pub slots : length d'.components ≡ length d.components
-  pub members : (i k : ℕ) → i < count_in b → T (X i) → find d (offer_at b i).id ≡ At k → component d' k ≡ with_staged (component d k) (offer_at b i).version
+  pub members : (i k : ℕ) → i < count_in b → T (X i) → find d (offer_at b i).id ≡ Some k → component d' k ≡ with_staged (component d k) (offer_at b i).version
   pub others : (k : ℕ) → NotTargeted d b X k → component d' k ≡ component d k
 
 -- place j lies outside the regions of the members
 abbrev pub Untouched : Device → (b : List ℕ) → Set → (j : ℕ) → Type 0
-Untouched d b X j = (i k : ℕ) → i < count_in b → T (X i) → find d (offer_at b i).id ≡ At k
+Untouched d b X j = (i k : ℕ) → i < count_in b → T (X i) → find d (offer_at b i).id ≡ Some k
     → (j < (component d k).fixed.region.base.0) ⊎ ((component d k).fixed.region.base.0 + (component d k).fixed.region.len ≤ j)
 
 -- the staging buffer that a set leaves: each member's region is its image, and every other byte is as it was
 pub record Fills (d : Device) (b : List ℕ) (X : Set) (s s' : List ℕ) : Type 0 where
   pub long : length s' ≡ length s
-  pub images : (i k : ℕ) → i < count_in b → T (X i) → find d (offer_at b i).id ≡ At k
+  pub images : (i k : ℕ) → i < count_in b → T (X i) → find d (offer_at b i).id ≡ Some k
       → region_bytes (component d k).fixed.region s' ≡ image_of (component d k).fixed.region.len (blocks_at b i)
   pub rest : (j : ℕ) → Untouched d b X j → get_or s' j 0 ≡ get_or s j 0

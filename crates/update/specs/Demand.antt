@@ -1,8 +1,7 @@
 -- Demand 3, a single claim about a whole run (document 00, question 3; document 01, "The host"; document 02, A4).
-use Rattle.std.specs.Prelude.{ℕ, ◌+◌, ◌*◌, ◌≤◌, ◌<◌, ◌≡◌, ◌⊎◌, ◌↔◌, true, false, List, [], ◌∷◌, T, length}
+use Rattle.std.specs.Prelude.{ℕ, ◌+◌, ◌*◌, ◌≤◌, ◌<◌, ◌≡◌, ◌⊎◌, ◌↔◌, true, false, List, [], ◌∷◌, T, length, Some}
 use Rattle.wire.specs.Bytes.{Bytes}
 use Rattle.device_component.specs.Record.{is_pending}
-use Rattle.device_component.specs.declared.list.Found.TheVariants.{At}
 use Rattle.bundle_layout.specs.Layout.{count_in, offer_in, id_in, body_in}
 use Rattle.bundle_layout.specs.Rows as rows
 use Rattle.device.specs.Record.{FitsDevice, find, component}
@@ -26,7 +25,7 @@ use Rattle.update.specs.Claim.{offer_at, Good, Smallest, Leaves, Fills}
 
 -- every body for a component that the device has is good
 abbrev pub GoodBodies : (b : List ℕ) → Device → Type 0
-GoodBodies b d = (i k : ℕ) → i < count_in b → find d (offer_at b i).id ≡ At k → Good (component d k) (offer_at b i) (blocks_at b i)
+GoodBodies b d = (i k : ℕ) → i < count_in b → find d (offer_at b i).id ≡ Some k → Good (component d k) (offer_at b i) (blocks_at b i)
 
 -- the premise: a device state and a staging buffer that pass D1 and D2, a bundle that the check accepts, and a good body for each component that the
 -- device has
@@ -106,7 +105,7 @@ pub record Demand (b : List ℕ) (twice : Schedule) (token : ℕ) (d : Device) (
   pub device : Leaves d b (staged_in b s) s.device
   pub bytes : Fills d b (staged_in b s) staging s.staging
   -- the state shows the same: staged in this run means not pending before and pending after
-  pub pending : (i k : ℕ) → i < count_in b → find d (offer_at b i).id ≡ At k
+  pub pending : (i k : ℕ) → i < count_in b → find d (offer_at b i).id ≡ Some k
       → T (staged_in b s i) ↔ ((is_pending (component d k).staged ≡ false) × (is_pending (component s.device k).staged ≡ true))
   -- another order of the same offers comes to the same, whichever blocks arrive twice
   pub order : (b' : List ℕ) (twice' : Schedule) (token' : ℕ) (reply' : List ℕ) → Bytes b' → token' < 256 → rows.bundle_row b' ≡ rows.served

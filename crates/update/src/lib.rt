@@ -2,37 +2,43 @@
 #![tactic(auto)]
 
 ghost use Rattle.std.specs.Prelude.{◌≡◌};
-ghost use Rattle.update.specs.Answer.{row_of, number_of, entry_of, is_refused, refused_by, run_of, told};
+ghost use Rattle.update.specs.declared.RunRefusal.TheVariants.{Bundle};
+ghost use Rattle.update.specs.Answer.{row_of, number_of, entry_of, run_of, told};
 ghost use Rattle.update.specs.Demand.{DemandOf};
 
 use crate::turn::run_to_end;
 use bundle::check;
-use bundle_layout::BundleVerdict;
+use bundle_layout::BundleRefusal;
 use device::record::Device;
-use host_record::record::Host;
 use host_record::report::Report;
 
 pub mod turn; // turn.rt: one turn, and the turns until the host has ended
 
-// Served, or the row that refuses the run.
+// The row that refuses a run.
 #[derive(Clone, Copy)]
 pub enum RunRefusal {
-    Served,
     // The bundle's row, with its entry.
-    Bundle { verdict: BundleVerdict, place: u8 },
+    Bundle(BundleRefusal),
     // The device's rows.
     D1,
     D2,
 }
 
+impl From<BundleRefusal> for RunRefusal {
+    ghost from_gives = { λ r s. s ≡ Bundle r };
+
+    fn from(r: BundleRefusal) -> RunRefusal {
+        RunRefusal::Bundle(r)
+    }
+}
+
 impl RunRefusal {
-    // The number of the row that refuses, 0 for none.
+    // The row's number.
     pub fn number(self) -> u8
         ensures { result ≡ number_of (row_of self) }
     {
         match self {
-            RunRefusal::Served => 0,
-            RunRefusal::Bundle { verdict, place: _ } => verdict.number(),
+            RunRefusal::Bundle(r) => r.row.number(),
             RunRefusal::D1 => 1,
             RunRefusal::D2 => 2,
         }
@@ -43,74 +49,39 @@ impl RunRefusal {
         ensures { result ≡ entry_of (row_of self) }
     {
         match self {
-            RunRefusal::Served => 0,
-            RunRefusal::Bundle { verdict: _, place } => place,
-            RunRefusal::D1 => 0,
-            RunRefusal::D2 => 0,
-        }
-    }
-
-    // A row refuses.
-    pub fn is_refused(self) -> bool
-        ensures { result ≡ is_refused (row_of self) }
-    {
-        match self {
-            RunRefusal::Served => false,
-            RunRefusal::Bundle {
-                verdict: _,
-                place: _,
-            } => true,
-            RunRefusal::D1 => true,
-            RunRefusal::D2 => true,
+            RunRefusal::Bundle(r) => r.place,
+            _ => 0,
         }
     }
 }
 
-// A refused run sends nothing and changes nothing.
+// What a run that no row refuses answers.
 #[derive(Clone, Copy)]
 pub struct RunAnswer {
-    pub refusal: RunRefusal,
     pub report: Report,
     pub device: Device,
 }
 
-// A refused run sends nothing and changes nothing.
-fn refused(refusal: RunRefusal, token: u8, device: Device) -> RunAnswer
-    ensures { told result ≡ refused_by (row_of refusal) token device }
+// The bundle's rows, D1 and D2; or the run, and demand 3 of its answer. A refused run sends nothing and changes nothing.
+pub fn run(
+    bundle: &[u8],
+    token: u8,
+    device: Device,
+    staging: &mut [u8],
+) -> Result<RunAnswer, RunRefusal>
+    ensures { (told token device result staging.new ≡ run_of bundle.now token device staging.old)
+        × DemandOf bundle.now token device staging.old (told token device result staging.new) }
 {
-    let host = Host::fresh(token);
-    let report = host.report();
-    RunAnswer {
-        refusal,
-        report,
-        device,
-    }
-}
-
-// The bundle's rows, D1 and D2; or the run, and demand 3 of its answer.
-pub fn run(bundle: &[u8], token: u8, device: Device, staging: &mut [u8]) -> RunAnswer
-    ensures { (told result staging.new ≡ run_of bundle.now token device staging.old)
-        × DemandOf bundle.now token device staging.old (told result staging.new) }
-{
-    let checked = check(bundle);
-    let verdict = checked.verdict;
-    if verdict.is_refused() {
-        let place = checked.place;
-        return refused(RunRefusal::Bundle { verdict, place }, token, device);
-    }
+    let checked = check(bundle)?;
     if device.breaks_d1() {
-        return refused(RunRefusal::D1, token, device);
+        return Err(RunRefusal::D1);
     }
     if staging.len() != (device.staging_len as usize) {
-        return refused(RunRefusal::D2, token, device);
+        return Err(RunRefusal::D2);
     }
     let e = run_to_end(checked, bundle, token, device, staging);
-    let host = e.host;
-    let last = e.device;
-    let report = host.report();
-    RunAnswer {
-        refusal: RunRefusal::Served,
-        report,
-        device: last,
-    }
+    Ok(RunAnswer {
+        report: e.host.report(),
+        device: e.device,
+    })
 }

@@ -1,20 +1,19 @@
 // A fresh host and a device in turn, over the contents of a bundle that was checked once, so that the work is linear in the packets.
-ghost use Rattle.std.specs.Prelude.{◌≡◌, cond, [], length};
+ghost use Rattle.std.specs.Prelude.{◌≡◌, cond, []};
 ghost use Rattle.wire.specs.Codes.{short_size};
 ghost use Rattle.bundle_layout.specs.Rows as rows;
 ghost use Rattle.bundle.specs.Contents.{told_checked, check_of};
 ghost use Rattle.host_record.specs.Record.{has_ended};
-ghost use Rattle.host_packet.specs.Packet.{packet_size};
 ghost use Rattle.host_packet.specs.Answer.{sent_by};
 ghost use Rattle.update.specs.Run.{once, last_of};
 ghost use Rattle.update.specs.Turn.{Comes, Delivered, Turned};
 
-use bundle_layout::{BundleVerdict, Checked};
-use device::answer::{Answer, Refusal};
+use bundle_layout::Checked;
+use device::answer::Answer;
 use device::record::Device;
 use device_session::effect::Replies;
 use host::inner::inner_step;
-use host_packet::answer::Sent;
+use host_packet::answer::{Sent, Stepped};
 use host_packet::packet::PACKET_SIZE;
 use host_record::fits::{Body, body_of, in_hand};
 use host_record::record::{Host, HostStage};
@@ -35,16 +34,7 @@ pub struct BothEnds {
 fn has_ended(stage: HostStage) -> bool
     ensures { result ≡ has_ended stage }
 {
-    match stage {
-        HostStage::Fresh => false,
-        HostStage::Opening => false,
-        HostStage::Listing => false,
-        HostStage::Offering(_) => false,
-        HostStage::Waiting(_) => false,
-        HostStage::Sending(_) => false,
-        HostStage::Closing => false,
-        HostStage::Ended(_) => true,
-    }
+    matches!(stage, HostStage::Ended(_))
 }
 
 // How many bytes of the last reply the host receives: all where one was due, otherwise none.
@@ -54,55 +44,49 @@ fn heard(due: bool) -> usize
     if due { SHORT_SIZE } else { 0 }
 }
 
-// What the host sent is answered; where it sent nothing, the device stays, and no reply is on its way.
-fn deliver(sent: Sent, packet: &[u8], e: BothEnds, staging: &mut [u8]) -> Answer
-    requires { length packet.now ≡ packet_size }
+// What the host sent is answered; where it sent nothing, or a row refuses it, the device stays, and no reply is on its way.
+fn deliver(sent: Sent, packet: &[u8; PACKET_SIZE], e: BothEnds, staging: &mut [u8]) -> Answer
     ensures { Delivered (sent_by sent packet.now) e staging.old result staging.new }
 {
     let device = e.device;
+    let replies = Replies::none();
+    let still = Answer { replies, device };
     match sent {
-        Sent::Nothing => {
-            let replies = Replies::none();
-            Answer {
-                refusal: Refusal::Served,
-                replies,
-                device,
-            }
-        }
-        Sent::Offer => device.offer(staging, &packet[..SHORT_SIZE]),
-        Sent::Content => device.content(staging, packet),
+        Sent::Nothing => still,
+        Sent::Offer => device
+            .offer(staging, &packet[..SHORT_SIZE])
+            .unwrap_or(still),
+        Sent::Content => device.content(staging, packet).unwrap_or(still),
     }
 }
 
-// One turn: the host's step on the reply on its way, over an accepted bundle of `count` offers, and what it sends is answered.
+// One turn: the host's step on the reply on its way, over an accepted bundle of `count` offers, and what it sends is answered. A refused step sends nothing, and
+// leaves the record and the cursor.
 fn turn(count: u8, hand: Body, bundle: &[u8], e: BothEnds, staging: &mut [u8]) -> BothEnds
     ensures { Turned bundle.now count hand e staging.old result staging.new }
 {
-    let host = e.host;
-    let replies = e.replies;
-    let reply = replies.reply;
-    let n = heard(replies.due);
+    let reply = e.replies.reply;
+    let n = heard(e.replies.due);
     let mut packet = [0u8; PACKET_SIZE];
     let s = inner_step(
         &mut packet,
-        BundleVerdict::Fine,
-        0,
-        count,
+        Ok(count),
         hand,
         e.cursor,
-        host,
+        e.host,
         bundle,
         &reply[..n],
-    );
-    let sent = s.sent;
-    let next = s.host;
-    let a = deliver(sent, &packet, e, staging);
-    let device = a.device;
-    let after = a.replies;
+    )
+    .unwrap_or(Stepped {
+        sent: Sent::Nothing,
+        host: e.host,
+        cursor: e.cursor,
+    });
+    let a = deliver(s.sent, &packet, e, staging);
     BothEnds {
-        host: next,
-        device,
-        replies: after,
+        host: s.host,
+        device: a.device,
+        replies: a.replies,
         cursor: s.cursor,
     }
 }
@@ -115,12 +99,11 @@ pub(crate) fn run_to_end(
     device: Device,
     staging: &mut [u8],
 ) -> BothEnds
-    requires { (told_checked checked ≡ check_of bundle.now) × (rows.bundle_row bundle.now ≡ rows.served) }
+    requires { (told_checked (Ok checked) ≡ check_of bundle.now) × (rows.bundle_row bundle.now ≡ rows.served) }
     ensures { Comes (last_of bundle.now once token device staging.old []) result staging.new }
 {
     let host = Host::fresh(token);
     let replies = Replies::none();
-    let count = checked.count;
     let table = checked.table;
     let mut e = BothEnds {
         host,
@@ -128,12 +111,9 @@ pub(crate) fn run_to_end(
         replies,
         cursor: 0,
     };
-    let mut stage = HostStage::Fresh;
-    while !has_ended(stage) {
-        let entry = table[in_hand(stage) as usize];
-        e = turn(count, body_of(entry), bundle, e, staging);
-        let next = e.host;
-        stage = next.stage;
+    while !has_ended(e.host.stage) {
+        let entry = table[in_hand(e.host.stage) as usize];
+        e = turn(checked.count, body_of(entry), bundle, e, staging);
     }
     e
 }

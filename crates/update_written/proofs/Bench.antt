@@ -3,8 +3,7 @@ use mathlib.Core.Path.{◌≡◌, refl, ap}
 use Prim.Native.Nat.{ℕ, zero, suc}
 use native.Mathlib.Omega.{arith}
 use lib.ListN.{replicate}
-use Rattle.device_component.specs.declared.list.Found.{Found}
-use Rattle.device_component.specs.declared.list.Found.TheVariants.{Nothing, At}
+use Rattle.std.specs.Prelude.{Option, Some, None}
 use Rattle.bundle_cut.specs.Cut.{leading, reach, piece_at, cut_from}
 use Rattle.bundle_given.specs.Given.{entries_of, image_at}
 use Rattle.bundle_writer.specs.Bundle.{made_bundle}
@@ -18,9 +17,9 @@ use Rattle.update_written.specs.Stages.{SameLengths}
 use Rattle.update_written.specs.Bench.{e13_list, e13_images, BenchStages}
 
 -- the slot that was found
-slot_of : Found → ℕ
-slot_of Nothing = 0
-slot_of (At k) = k
+slot_of : Option ℕ → ℕ
+slot_of None = 0
+slot_of (Some k) = k
 
 -- both regions have 64 bytes
 same_lengths : SameLengths e13_list (bench Idle)

@@ -21,7 +21,7 @@ use Rattle.bundle_writer.specs.Promises.{MadeBack}
 use Rattle.bundle_cut.proofs.Order.{image_inside}
 use Rattle.bundle_writer.proofs.Promises.{made_reads_back}
 use Rattle.bundle_writer.proofs.Taken.{length_entries, Listed, rows_say}
-use Rattle.device_component.specs.declared.list.Found.TheVariants.{At}
+use Rattle.std.specs.Prelude.{Some}
 use Rattle.device.specs.Record.{find, component}
 use Rattle.device.specs.declared.record.Device.{Device}
 use Rattle.host.specs.Step.{entry_at, blocks_at}
@@ -89,7 +89,7 @@ module _ (list images : List ℕ) (room token : ℕ) (d : Device) (staging : Lis
   said : Listed list images
   said = rows_say list images room f.made
 
-  module _ (i k : ℕ) (h : i < count_of list) (here : find d (id_in (listed list i)) ≡ At k) where
+  module _ (i k : ℕ) (h : i < count_of list) (here : find d (id_in (listed list i)) ≡ Some k) where
     -- the region is as long as the image
     region_length : (component d k).fixed.region.len ≡ length (image_at images (listed list i))
     region_length = f.lengths i k h here ∙ sym (said.entry i h).size

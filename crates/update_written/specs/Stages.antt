@@ -1,9 +1,8 @@
 -- What the updater does with a bundle that the writer made (document 02, A3): its bodies give the images back after an erase, it meets demand 3's premise on a
 -- device with the same region lengths, and there the updater stages exactly the smallest closed set of its offers, each image byte for byte.
-use Rattle.std.specs.Prelude.{ℕ, ◌≤◌, ◌<◌, ◌≡◌, false, List, [], T, length, get_or}
+use Rattle.std.specs.Prelude.{ℕ, ◌≤◌, ◌<◌, ◌≡◌, false, List, [], T, length, get_or, Some}
 use Rattle.wire.specs.Bytes.{Bytes}
 use Rattle.image.specs.Region.{region_bytes}
-use Rattle.device_component.specs.declared.list.Found.TheVariants.{At}
 use Rattle.bundle_layout.specs.Layout.{id_in, length_in}
 use Rattle.bundle_cut.specs.Cut.{crc_size, image_records}
 use Rattle.bundle_given.specs.Given.{count_of, entries_of, image_at}
@@ -36,7 +35,7 @@ MadeImages = (list images : List ℕ) (room i : ℕ) → Bytes list → Bytes im
 
 -- the same region lengths: where the device has the component of an offer, its region is as long as the offer's image
 abbrev pub SameLengths : (list : List ℕ) → Device → Type 0
-SameLengths list d = (i k : ℕ) → i < count_of list → find d (id_in (listed list i)) ≡ At k → (component d k).fixed.region.len ≡ length_in (listed list i)
+SameLengths list d = (i k : ℕ) → i < count_of list → find d (id_in (listed list i)) ≡ Some k → (component d k).fixed.region.len ≡ length_in (listed list i)
 
 -- a list and images that no row of the writer refuses, and a device and a staging buffer that pass D1 and D2, with the same region lengths; and the ranges of the
 -- types
@@ -60,7 +59,7 @@ MadePremise = (list images : List ℕ) (room token : ℕ) (d : Device) (staging 
 -- is staged holds the very image that was given with it
 pub record Stages (list images : List ℕ) (twice : Schedule) (token : ℕ) (d : Device) (staging reply : List ℕ) (s : System) : Type 0 where
   pub demand : Demand (made_bundle list images) twice token d staging reply s
-  pub regions : (i k : ℕ) → i < count_of list → T (staged_in (made_bundle list images) s i) → find d (id_in (listed list i)) ≡ At k
+  pub regions : (i k : ℕ) → i < count_of list → T (staged_in (made_bundle list images) s i) → find d (id_in (listed list i)) ≡ Some k
       → region_bytes (component d k).fixed.region s.staging ≡ image_at images (listed list i)
 
 -- of what the writer makes, the updater stages exactly the smallest closed set, byte for byte, on a device with those region lengths, whichever blocks that are

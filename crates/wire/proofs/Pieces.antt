@@ -10,12 +10,16 @@ use lib.Seq.{take_all, take_at, take-suc-set, length-take-le, drop-drop}
 use Rattle.wire.specs.Bytes.{copy_of}
 use Rattle.wire.proofs.words.Copies.{copy_same}
 
+-- n bytes in the part from `at` on
+pub placed : (out s last : List ℕ) (at n k : ℕ) → k ≡ n → last ≡ s → take at out ++ (last ++ drop k (drop at out)) ≡ take at out ++ (s ++ drop (at + n) out)
+placed out s last at n k p e = ap₂ (λ (u v : List ℕ). take at out ++ (u ++ v)) e (drop-drop k at out ∙ ap (λ (i : ℕ). drop (at + i) out) p)
+
 -- a copy of n bytes into the part from `at` on leaves them there
 pub copied : (out s last : List ℕ) (at n k : ℕ) → k ≡ n → length s ≡ n → at + n ≤ length out → last ≡ copy_of (take k (drop at out)) s
     → take at out ++ (last ++ drop k (drop at out)) ≡ take at out ++ (s ++ drop (at + n) out)
 copied out s last at n k p e h f =
     let m : length (take k (drop at out)) ≡ length s = simp (length-take, length-drop) (omega arith) in
-    ap₂ (λ (u v : List ℕ). take at out ++ (u ++ v)) (f ∙ copy_same (take k (drop at out)) s m) (drop-drop k at out ∙ ap (λ (i : ℕ). drop (at + i) out) p)
+    placed out s last at n k p (f ∙ copy_same (take k (drop at out)) s m)
 
 -- the bytes stay as many, and what stands up to the end of what is stored
 pub stored : (out s : List ℕ) (at n : ℕ) → length s ≡ n → at + n ≤ length out
@@ -54,14 +58,14 @@ module _ {A : Type 0} (piece : A → List ℕ) (pieces : List A → List ℕ) (n
   piece_next out z front l d i at next h before e =
       e ∙ ap (λ (q : List ℕ). q ++ piece (get_or l i d)) before ∙ append_assoc front (pieces (take i l)) (piece (get_or l i d)) ∙ ap (λ (q : List ℕ). front ++ q) (sym (piece_more i l d h))
 
-  -- the piece of member i is copied after those of the members before it
+  -- the piece of member i is put after those of the members before it
   pub piece_written : (out front s last : List ℕ) (l : List A) (d : A) (i at n next k : ℕ) → i < length l → k ≡ n → next ≡ at + n → length s ≡ n → next ≤ length out
-      → s ≡ piece (get_or l i d) → last ≡ copy_of (take k (drop at out)) s → take at out ≡ front ++ pieces (take i l)
+      → s ≡ piece (get_or l i d) → last ≡ s → take at out ≡ front ++ pieces (take i l)
       → (length (take at out ++ (last ++ drop k (drop at out))) ≡ length out)
       × (take next (take at out ++ (last ++ drop k (drop at out))) ≡ front ++ pieces (take (i + 1) l))
   piece_written out front s last l d i at n next k h p q e r f g before =
-      let put = put_more out s last at n k p e (omega arith) g in
-      (put.0, piece_next out _ front l d i at next h before (rw q (put.1 ∙ ap (λ (u : List ℕ). take at out ++ u) f)))
+      let put = stored out s at n e (omega arith) in
+      rw (placed out s last at n k p g) (put.0, piece_next out _ front l d i at next h before (rw q (put.1 ∙ ap (λ (u : List ℕ). take at out ++ u) f)))
 
 -- a list of n that is read from bytes, each from `size` of them: one more
 module _ {A : Type 0} (size : ℕ) (one : List ℕ → A) (read : ℕ → List ℕ → List A) (none : (q : List ℕ) → read 0 q ≡ [])

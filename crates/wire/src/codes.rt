@@ -1,4 +1,5 @@
-// Every code, status and reject reason that this updater uses, by CFU's names where it has one, and the sizes and limits of packets.
+// Every code, status and reject reason that this updater uses, by CFU's names where it has one, and the sizes and limits of packets. The codes stay numbers
+// and no enums: an enum would be no plainer, since a byte that arrives may be any of 256, and `fields_in` and `reply_in` hand each on as it stands.
 
 // The protocol's number; no other is supported.
 pub const PROTOCOL: u8 = 2;

@@ -1,25 +1,23 @@
-// The verdict of building or reading a packet (document 01, "Numbered refusals").
+// Why a packet is not built or not read (document 01, "Numbered refusals").
 ghost use Rattle.std.specs.Prelude.{◌≡◌};
 ghost use Rattle.wire.specs.Rows.{number_of};
 
-#[derive(Clone, Copy)]
-pub enum Verdict {
-    Served,
+#[derive(Clone, Copy, Debug, PartialEq, Eq)]
+pub enum PacketRefusal {
     // Reading: the packet is not of its kind's length.
     P1,
     // Building: a value that its field cannot hold. Version reply, either way: a count over the limit, another protocol.
     P2,
 }
 
-impl Verdict {
-    // The number of the row that refuses, 0 for none.
+impl PacketRefusal {
+    // The number of the row that refuses.
     pub fn number(self) -> u8
         ensures { result ≡ number_of self }
     {
         match self {
-            Verdict::Served => 0,
-            Verdict::P1 => 1,
-            Verdict::P2 => 2,
+            PacketRefusal::P1 => 1,
+            PacketRefusal::P2 => 2,
         }
     }
 }

@@ -4,7 +4,7 @@ ghost use Rattle.wire.specs.Version.{version_of, read_version, version_at, major
 
 use crate::words::byte_at;
 
-#[derive(Clone, Copy)]
+#[derive(Clone, Copy, Debug, Default, PartialEq, Eq)]
 pub struct Version(u32);
 
 impl Version {
@@ -29,11 +29,7 @@ impl Version {
     pub fn read(variant: u8, minor_low: u8, minor_high: u8, major: u8) -> Self
         ensures { result ≡ read_version variant minor_low minor_high major }
     {
-        Version::new(
-            major,
-            (minor_low as u16) + 256 * (minor_high as u16),
-            variant,
-        )
+        Version::new(major, u16::from_le_bytes([minor_low, minor_high]), variant)
     }
 
     // The version in the four bytes from a place on; past the end a byte is 0.
@@ -71,10 +67,8 @@ impl Version {
     pub fn bytes(self) -> [u8; 4]
         ensures { result ≡ version_bytes self }
     {
-        let variant = self.variant();
-        let minor = self.minor();
-        let major = self.major();
-        [variant, (minor % 256) as u8, (minor / 256) as u8, major]
+        let [low, high] = self.minor().to_le_bytes();
+        [self.variant(), low, high, self.major()]
     }
 
     // The 32-bit number.

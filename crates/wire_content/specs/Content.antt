@@ -1,12 +1,11 @@
 -- Content (document 01, "Packets"; CFU 5.5): its fields, its 60 bytes, and when building or reading it is refused.
-use Rattle.std.specs.Prelude.{ℕ, ◌-◌, ◌%◌, ◌^◌, ◌<◌, ◌≡◌, Bool, cond, ◌&&◌, List, ◌∷◌, ◌++◌, eqb, leb, length, get_or, take, drop, replicate}
+use Rattle.std.specs.Prelude.{ℕ, ◌-◌, ◌%◌, ◌^◌, ◌<◌, ◌≡◌, Bool, cond, ◌&&◌, List, ◌∷◌, ◌++◌, eqb, leb, length, get_or, take, drop, replicate, Result}
 use Rattle.wire.specs.Bytes.{Bytes, number, bytes_of, bytes_at}
-use Rattle.wire.specs.Rows.{served, row_p, row_of, Told}
+use Rattle.wire.specs.Rows.{served, row_p, Told, told}
 use Rattle.wire.specs.declared.address.RegionAddress.{RegionAddress}
 use Rattle.wire.specs.Codes.{flag_last_block, packet_data_size, long_size, data_at}
 use Rattle.wire_content.specs.declared.content.ContentFields.{ContentFields}
-use Rattle.wire_content.specs.declared.content.BuiltContent.{BuiltContent}
-use Rattle.wire_content.specs.declared.content.ReadContent.{ReadContent}
+use Rattle.wire.specs.declared.verdict.PacketRefusal.{PacketRefusal}
 
 -- the values of the type
 pub record FitsContent (c : ContentFields) : Type 0 where
@@ -43,8 +42,8 @@ build_of c =
     cond (allowed c.flags c.length) (record { row = served; value = content_bytes c }) (record { row = row_p 2; value = replicate long_size 0 })
 
 -- the row and the bytes of a built packet
-abbrev pub told_built : BuiltContent → Told (List ℕ)
-told_built r = record { row = row_of r.verdict; value = r.packet }
+abbrev pub told_built : Result (List ℕ) PacketRefusal → Told (List ℕ)
+told_built = told (replicate long_size 0)
 
 -- the fields of 60 bytes, flags and length as they stand, unused data as zero
 unfoldable pub fields_in : List ℕ → ContentFields
@@ -65,8 +64,8 @@ unfoldable pub read_of : List ℕ → Told ContentFields
 read_of p = cond (eqb (length p) long_size) (record { row = served; value = fields_in p }) (record { row = row_p 1; value = blank_content })
 
 -- the row and the fields of a reader's answer
-abbrev pub told_read : ReadContent → Told ContentFields
-told_read r = record { row = row_of r.verdict; value = r.content }
+abbrev pub told_read : Result ContentFields PacketRefusal → Told ContentFields
+told_read = told blank_content
 
 -- the fields with unused data as zero
 abbrev pub norm : ContentFields → ContentFields

@@ -1,11 +1,11 @@
 // Content (CFU 5.5), 60 bytes: a block of an image.
-ghost use Rattle.std.specs.Prelude.{◌≡◌, length};
-ghost use Rattle.wire.specs.Codes.{long_size};
-ghost use Rattle.wire_content.specs.Content.{allowed, used_of, head_of, content_bytes, told_built, build_of, fields_in, told_read, read_of};
+ghost use Rattle.std.specs.Prelude.{◌≡◌, ◌≤◌, length};
+ghost use Rattle.wire.specs.Codes.{long_size, packet_data_size};
+ghost use Rattle.wire_content.specs.Content.{allowed, used_of, head_of, content_bytes, told_built, build_of, blank_content, fields_in, told_read, read_of};
 
 use wire::address::RegionAddress;
 use wire::codes::{DATA_AT, DATA_SIZE, FLAG_LAST_BLOCK, LONG_SIZE};
-use wire::verdict::Verdict;
+use wire::verdict::PacketRefusal;
 use wire::words;
 
 // The most bytes of data, as the length of a packet says it.
@@ -25,16 +25,19 @@ pub struct ContentFields {
     pub data: [u8; DATA_SIZE],
 }
 
-#[derive(Clone, Copy)]
-pub struct BuiltContent {
-    pub verdict: Verdict,
-    pub packet: [u8; LONG_SIZE],
-}
+// All fields zero.
+impl Default for ContentFields {
+    ghost is_default = { λ c. c ≡ blank_content };
 
-#[derive(Clone, Copy)]
-pub struct ReadContent {
-    pub verdict: Verdict,
-    pub content: ContentFields,
+    fn default() -> Self {
+        ContentFields {
+            flags: 0,
+            length: 0,
+            sequence: 0,
+            address: RegionAddress::new(0),
+            data: [0; DATA_SIZE],
+        }
+    }
 }
 
 // Not P2: no flag but the two, and a length from 1 to the limit.
@@ -55,42 +58,30 @@ pub fn head(flags: u8, length: u8, sequence: u16, address: RegionAddress) -> [u8
 
 // How many bytes of data count: the length, of all that there are.
 fn used(length: u8) -> usize
-    ensures { result ≡ used_of length }
+    ensures count { result ≡ used_of length }
+    ensures most { result ≤ packet_data_size }
 {
-    if length <= DATA_LIMIT {
-        length as usize
-    } else {
-        DATA_SIZE
-    }
+    (length as usize).min(DATA_SIZE)
 }
 
 fn packet(c: ContentFields) -> [u8; LONG_SIZE]
     ensures { result ≡ content_bytes c }
 {
-    let data = c.data;
-    let address = c.address;
     let n = used(c.length);
-    let h = head(c.flags, c.length, c.sequence, address);
     let mut p = [0u8; LONG_SIZE];
-    words::copy(&mut p[0..DATA_AT], &h);
-    words::copy(&mut p[DATA_AT..DATA_AT + n], &data[0..n]);
+    p[..DATA_AT].copy_from_slice(&head(c.flags, c.length, c.sequence, c.address));
+    p[DATA_AT..DATA_AT + n].copy_from_slice(&c.data[..n]);
     p
 }
 
-pub fn build_content(c: ContentFields) -> BuiltContent
+#[tactic(auto, unfolding(crate::specs::Content::build_of))]
+pub fn build_content(c: ContentFields) -> Result<[u8; LONG_SIZE], PacketRefusal>
     ensures { told_built result ≡ build_of c }
 {
     if is_allowed(c.flags, c.length) {
-        let p = packet(c);
-        BuiltContent {
-            verdict: Verdict::Served,
-            packet: p,
-        }
+        Ok(packet(c))
     } else {
-        BuiltContent {
-            verdict: Verdict::P2,
-            packet: [0u8; LONG_SIZE],
-        }
+        Err(PacketRefusal::P2)
     }
 }
 
@@ -101,36 +92,23 @@ fn fields(p: &[u8]) -> ContentFields
 {
     let n = used(p[1]);
     let mut data = [0u8; DATA_SIZE];
-    words::copy(&mut data[0..n], &p[DATA_AT..DATA_AT + n]);
+    data[..n].copy_from_slice(&p[DATA_AT..DATA_AT + n]);
     ContentFields {
         flags: p[0],
         length: p[1],
         sequence: words::word16(p[2], p[3]),
         address: RegionAddress::new(words::word32(p[4], p[5], p[6], p[7])),
-        data: data,
+        data,
     }
 }
 
-pub fn read_content(p: &[u8]) -> ReadContent
+#[tactic(auto, unfolding(crate::specs::Content::read_of))]
+pub fn read_content(p: &[u8]) -> Result<ContentFields, PacketRefusal>
     ensures { told_read result ≡ read_of p.now }
 {
     if p.len() == LONG_SIZE {
-        let c = fields(p);
-        ReadContent {
-            verdict: Verdict::Served,
-            content: c,
-        }
+        Ok(fields(p))
     } else {
-        let none = [0u8; DATA_SIZE];
-        ReadContent {
-            verdict: Verdict::P1,
-            content: ContentFields {
-                flags: 0,
-                length: 0,
-                sequence: 0,
-                address: RegionAddress::new(0),
-                data: none,
-            },
-        }
+        Err(PacketRefusal::P1)
     }
 }

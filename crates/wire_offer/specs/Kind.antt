@@ -1,13 +1,14 @@
 -- The kinds of 16-byte packets on the offer channel, by byte 2 (document 01, "Packets"), and what reading one answers.
-use Rattle.std.specs.Prelude.{ℕ, cond, List, eqb, length, get_or}
+use Rattle.std.specs.Prelude.{ℕ, cond, List, eqb, length, get_or, Result, Ok, Err}
 use Rattle.wire.specs.Codes.{kind_information, kind_extended, short_size}
-use Rattle.wire.specs.Rows.{served, row_p, Told}
+use Rattle.wire.specs.Rows.{served, row_p, row_of, Told}
+use Rattle.wire.specs.declared.verdict.PacketRefusal.{PacketRefusal}
 use Rattle.wire_offer.specs.Offer.{fields_in, blank_offer}
 use Rattle.wire_offer.specs.Signal.{signal_in}
 use Rattle.wire_offer.specs.declared.offer.OfferFields.{OfferFields}
 use Rattle.wire_offer.specs.declared.signal.Signal.{Signal}
 use Rattle.wire_offer.specs.declared.kind.OfferPacket.{OfferPacket}
-use Rattle.wire_offer.specs.declared.kind.OfferPacket.TheVariants.{Refused, Offer, Information, Extended}
+use Rattle.wire_offer.specs.declared.kind.OfferPacket.TheVariants.{Offer, Information, Extended}
 
 -- a packet by its kind
 pub data Kind : Type 0 where
@@ -26,9 +27,13 @@ kind_in p =
 unfoldable pub read_of : List ℕ → Told Kind
 read_of p = cond (eqb (length p) short_size) (record { row = served; value = kind_in p }) (record { row = row_p 1; value = offer blank_offer })
 
+-- the kind of a packet that was read
+abbrev pub kind_of : OfferPacket → Kind
+kind_of (Offer o) = offer o
+kind_of (Information s) = information s
+kind_of (Extended s) = extended s
+
 -- the row and the packet of a reader's answer
-abbrev pub told_read : OfferPacket → Told Kind
-told_read Refused = record { row = row_p 1; value = offer blank_offer }
-told_read (Offer o) = record { row = served; value = offer o }
-told_read (Information s) = record { row = served; value = information s }
-told_read (Extended s) = record { row = served; value = extended s }
+abbrev pub told_read : Result OfferPacket PacketRefusal → Told Kind
+told_read (Ok p) = record { row = served; value = kind_of p }
+told_read (Err e) = record { row = row_of e; value = offer blank_offer }

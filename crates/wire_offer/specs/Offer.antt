@@ -1,11 +1,11 @@
 -- An offer (document 01, "Packets"; CFU 5.2): its fields, its 16 bytes, and when building it is refused.
-use Rattle.std.specs.Prelude.{ℕ, ◌*◌, ◌/◌, ◌%◌, ◌^◌, ◌<◌, Bool, true, false, cond, ◌&&◌, List, ◌∷◌, ◌++◌, eqb, leb, ltb, get_or, replicate}
+use Rattle.std.specs.Prelude.{ℕ, ◌*◌, ◌/◌, ◌%◌, ◌^◌, ◌<◌, Bool, true, false, cond, ◌&&◌, List, ◌∷◌, ◌++◌, eqb, leb, ltb, get_or, replicate, Result}
 use Rattle.wire.specs.Bytes.{number, bytes_of, bytes_at}
 use Rattle.wire.specs.Version.{FitsVersion, version_at, version_bytes}
-use Rattle.wire.specs.Rows.{served, row_p, row_of, Told}
+use Rattle.wire.specs.Rows.{served, row_p, Told, told}
 use Rattle.wire.specs.Codes.{short_size}
 use Rattle.wire_offer.specs.declared.offer.OfferFields.{OfferFields}
-use Rattle.wire_offer.specs.declared.offer.BuiltOffer.{BuiltOffer}
+use Rattle.wire.specs.declared.verdict.PacketRefusal.{PacketRefusal}
 
 -- the values of the type
 pub record FitsOffer (o : OfferFields) : Type 0 where
@@ -42,8 +42,8 @@ unfoldable pub build_of : OfferFields → Told (List ℕ)
 build_of o = cond (allowed o) (record { row = served; value = offer_bytes o }) (record { row = row_p 2; value = replicate short_size 0 })
 
 -- the row and the bytes of a built offer
-abbrev pub told_built : BuiltOffer → Told (List ℕ)
-told_built r = record { row = row_of r.verdict; value = r.packet }
+abbrev pub told_built : Result (List ℕ) PacketRefusal → Told (List ℕ)
+told_built = told (replicate short_size 0)
 
 -- the fields of 16 bytes, reserved bits left out: protocol is the four bits, unjudged
 unfoldable pub fields_in : List ℕ → OfferFields

@@ -7,18 +7,18 @@ ghost use Rattle.wire_offer.specs.Kind.{told_read, read_of};
 use crate::offer::OfferFields;
 use crate::signal::Signal;
 use wire::codes::SHORT_SIZE;
+use wire::verdict::PacketRefusal;
 use wire::version::Version;
 use wire::{codes, words};
 
 #[derive(Clone, Copy)]
 pub enum OfferPacket {
-    // P1: another length than a packet on the offer channel has.
-    Refused,
     Offer(OfferFields),
     Information(Signal),
     Extended(Signal),
 }
 
+#[tactic(auto, unfolding(crate::specs::Offer::fields_in))]
 fn fields(p: &[u8]) -> OfferFields
     requires { length p.now ≡ short_size }
     ensures { result ≡ fields_in p.now }
@@ -37,23 +37,21 @@ fn fields(p: &[u8]) -> OfferFields
     }
 }
 
-pub fn read_offer_packet(p: &[u8]) -> OfferPacket
+// P1 where it has another length than a packet on the offer channel.
+#[tactic(auto, unfolding(crate::specs::Kind::read_of, crate::specs::Kind::kind_in))]
+pub fn read_offer_packet(p: &[u8]) -> Result<OfferPacket, PacketRefusal>
     ensures { told_read result ≡ read_of p.now }
 {
     if p.len() != SHORT_SIZE {
-        return OfferPacket::Refused;
+        return Err(PacketRefusal::P1);
     }
-    let kind = p[2];
     let signal = Signal {
         code: p[0],
         token: p[3],
     };
-    if kind == codes::KIND_INFORMATION {
-        return OfferPacket::Information(signal);
-    }
-    if kind == codes::KIND_EXTENDED {
-        return OfferPacket::Extended(signal);
-    }
-    let o = fields(p);
-    OfferPacket::Offer(o)
+    Ok(match p[2] {
+        codes::KIND_INFORMATION => OfferPacket::Information(signal),
+        codes::KIND_EXTENDED => OfferPacket::Extended(signal),
+        _ => OfferPacket::Offer(fields(p)),
+    })
 }

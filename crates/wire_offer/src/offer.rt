@@ -3,7 +3,7 @@ ghost use Rattle.std.specs.Prelude.{◌≡◌};
 ghost use Rattle.wire_offer.specs.Offer.{allowed, flags_of, offer_bytes, told_built, build_of};
 
 use wire::codes::SHORT_SIZE;
-use wire::verdict::Verdict;
+use wire::verdict::PacketRefusal;
 use wire::version::Version;
 use wire::words;
 
@@ -31,12 +31,6 @@ pub struct OfferFields {
     pub platform: u16,
 }
 
-#[derive(Clone, Copy)]
-pub struct BuiltOffer {
-    pub verdict: Verdict,
-    pub packet: [u8; SHORT_SIZE],
-}
-
 // Not P2: an id up to 0xFD, a least version of 24 bits, a protocol of four.
 fn is_allowed(o: OfferFields) -> bool
     ensures { result ≡ allowed o }
@@ -48,19 +42,15 @@ fn is_allowed(o: OfferFields) -> bool
 fn flags(force_immediate_reset: bool, force_ignore_version: bool) -> u8
     ensures { result ≡ flags_of force_immediate_reset force_ignore_version }
 {
-    if force_immediate_reset {
-        if force_ignore_version { 0xC0 } else { 0x40 }
-    } else {
-        if force_ignore_version { 0x80 } else { 0 }
-    }
+    u8::from(force_immediate_reset) * 0x40 + u8::from(force_ignore_version) * 0x80
 }
 
+#[tactic(auto, unfolding(crate::specs::Offer::offer_bytes))]
 fn packet(o: OfferFields) -> [u8; SHORT_SIZE]
     ensures { result ≡ offer_bytes o }
 {
     let f = flags(o.force_immediate_reset, o.force_ignore_version);
-    let version = o.version;
-    let v = version.bytes();
+    let v = o.version.bytes();
     let l = words::bytes24(o.least);
     let p = words::bytes16(o.platform);
     [
@@ -69,19 +59,13 @@ fn packet(o: OfferFields) -> [u8; SHORT_SIZE]
     ]
 }
 
-pub fn build_offer(o: OfferFields) -> BuiltOffer
+#[tactic(auto, unfolding(crate::specs::Offer::build_of))]
+pub fn build_offer(o: OfferFields) -> Result<[u8; SHORT_SIZE], PacketRefusal>
     ensures { told_built result ≡ build_of o }
 {
     if is_allowed(o) {
-        let p = packet(o);
-        BuiltOffer {
-            verdict: Verdict::Served,
-            packet: p,
-        }
+        Ok(packet(o))
     } else {
-        BuiltOffer {
-            verdict: Verdict::P2,
-            packet: [0u8; SHORT_SIZE],
-        }
+        Err(PacketRefusal::P2)
     }
 }

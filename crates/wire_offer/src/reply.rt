@@ -3,9 +3,9 @@ ghost use Rattle.std.specs.Prelude.{◌≡◌};
 ghost use Rattle.wire_offer.specs.Reply.{reply_bytes, told_reply, read_reply_of};
 
 use wire::codes::SHORT_SIZE;
-use wire::verdict::Verdict;
+use wire::verdict::PacketRefusal;
 
-#[derive(Clone, Copy)]
+#[derive(Clone, Copy, Default)]
 pub struct OfferReply {
     // Byte 3.
     pub token: u8,
@@ -13,12 +13,6 @@ pub struct OfferReply {
     pub reason: u8,
     // Byte 12.
     pub status: u8,
-}
-
-#[derive(Clone, Copy)]
-pub struct ReadOfferReply {
-    pub verdict: Verdict,
-    pub reply: OfferReply,
 }
 
 // Any reason with any status: the device's own rule is that the reason is zero unless REJECT.
@@ -30,26 +24,16 @@ pub fn build_offer_reply(r: OfferReply) -> [u8; SHORT_SIZE]
     ]
 }
 
-pub fn read_offer_reply(p: &[u8]) -> ReadOfferReply
+#[tactic(auto, unfolding(crate::specs::Reply::read_reply_of))]
+pub fn read_offer_reply(p: &[u8]) -> Result<OfferReply, PacketRefusal>
     ensures { told_reply result ≡ read_reply_of p.now }
 {
-    if p.len() == SHORT_SIZE {
-        ReadOfferReply {
-            verdict: Verdict::Served,
-            reply: OfferReply {
-                token: p[3],
-                reason: p[8],
-                status: p[12],
-            },
-        }
-    } else {
-        ReadOfferReply {
-            verdict: Verdict::P1,
-            reply: OfferReply {
-                token: 0,
-                reason: 0,
-                status: 0,
-            },
-        }
+    if p.len() != SHORT_SIZE {
+        return Err(PacketRefusal::P1);
     }
+    Ok(OfferReply {
+        token: p[3],
+        reason: p[8],
+        status: p[12],
+    })
 }

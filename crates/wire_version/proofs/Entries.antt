@@ -1,17 +1,20 @@
 -- The components of a version reply, written and read one after the other. Assumes nothing.
 use mathlib.Core.Path.{◌≡◌, refl, sym, ap, ◌∙◌}
-use mathlib.Core.List.{List, [], ◌∷◌, ◌++◌, append_assoc}
+use mathlib.Core.Bool.{Bool, true, false, cond}
+use mathlib.Core.List.{List, ◌∷◌, ◌++◌, append_assoc}
 use Prim.Native.Nat.{ℕ, zero, suc, ◌+◌, ◌*◌, ◌-◌, ◌<◌, ◌≤◌}
-use native.Mathlib.Numerals.{add-one, unary_clauses}
+use native.Mathlib.Numerals.{unary_clauses}
 use native.Mathlib.Omega.{arith}
+use borrow.Author.Tests.{ltb-true, ltb-false}
 use borrow.Rule.Slice.PartMut.{put_mid}
-use lib.ListN.{length, get_or, set, take, drop, replicate, length-append, length-drop, length-replicate}
-use lib.Seq.{take_at, drop_at, set_at, drop-drop, length-take-le}
+use lib.ListN.{length, get_or, take, drop, replicate, length-append, length-replicate}
+use lib.Seq.{take_at, drop_at, length-take-le}
+use lib.Dec.{ltb}
+use Rattle.std.proofs.lemmas.List.{same_lists, get_or_default, get_or_append_left, get_or-append_right, get_or-replicate}
 use Rattle.wire.specs.Codes.{component_limit}
-use Rattle.wire.proofs.Pieces.{piece_more, pieces_sized, read_suc, read_sized}
-use Rattle.wire.proofs.words.Laws.{split}
+use Rattle.wire.proofs.Pieces.{piece_more, pieces_sized, read_sized, read_at}
 use Rattle.wire_version.specs.declared.Running.{Running}
-use Rattle.wire_version.specs.Reply.{reply_size, none, entry_bytes, entry_in, flat, entries}
+use Rattle.wire_version.specs.Reply.{reply_size, none, entry_bytes, entry_in, flat, entries, entry_of, table_in}
 
 -- eight bytes for each component
 length_flat : (es : List Running) → length (flat es) ≡ 8 * length es
@@ -66,27 +69,38 @@ pub length_entries : (n : ℕ) (q : List ℕ) → length (entries n q) ≡ n
 unfolding entries
 length_entries n q = read_sized 8 entry_in entries (λ q. refl) (λ n q. refl) n q
 
--- one component more is read
-entries_suc : (i : ℕ) (q : List ℕ) → entries (suc i) q ≡ entries i q ++ (entry_in (drop (8 * i) q) ∷ [])
+-- component k of the first n
+entries_at : (n k : ℕ) (q : List ℕ) (d : Running) → k < n → get_or (entries n q) k d ≡ entry_in (drop (8 * k) q)
 unfolding entries
-entries_suc i q =
-    let e : i * 8 ≡ 8 * i = omega arith in
-    read_suc 8 entry_in entries (λ q. refl) (λ n q. refl) i q ∙ ap (λ (n : ℕ). entries i q ++ (entry_in (drop n q) ∷ [])) e
+entries_at n k q d h =
+    let e : k * 8 ≡ 8 * k = omega arith in
+    read_at 8 entry_in entries (λ q. refl) (λ n q. refl) n k q d h ∙ ap (λ (i : ℕ). entry_in (drop i q)) e
 
--- a turn of the reading
-pub entries_more : (q : List ℕ) (es : List Running) (i : ℕ) (v : Running) → i < component_limit → es ≡ entries i q ++ replicate (component_limit - i) none
-    → v ≡ entry_in (drop (8 * i) q) → set es i v ≡ entries (i + 1) q ++ replicate (component_limit - (i + 1)) none
-entries_more q es i v h e f =
-    let r : component_limit - i ≡ suc (component_limit - (i + 1)) = omega arith in
-    rw (e, f, r)
-    (set_at (entries i q) none (replicate (component_limit - (i + 1)) none) (entry_in (drop (8 * i) q)) i (length_entries i q)
-    ∙ rw (add-one i, entries_suc i q) (sym (append_assoc (entries i q) (entry_in (drop (8 * i) q) ∷ []) _)))
+-- component k of a reply's bytes
+module _ (p : List ℕ) (count : ℕ) (b : count ≤ component_limit) where
+  table_at : (k : ℕ) (d : Running) → k < component_limit → get_or (table_in p count) k d ≡ entry_of p count k
+  unfolding table_in
+  table_at k d h = go (ltb k count) refl
+    where
+      q : List ℕ
+      q = drop 4 p
 
--- the eight bytes that are lent have the component of the place where they start
-pub entry_part : (p : List ℕ) (i : ℕ) → 4 + 8 * i + 8 ≤ length p
-    → entry_in (take (4 + 8 * i + 8 - (4 + 8 * i)) (drop (4 + 8 * i) p)) ≡ entry_in (drop (8 * i) (drop 4 p))
-entry_part p i h =
-    let k : 4 + 8 * i + 8 - (4 + 8 * i) ≡ 8 = omega arith in
-    let q = drop (4 + 8 * i) p in
-    let l : 8 ≤ length q = simp length-drop (omega arith) in
-    rw (k, drop-drop (8 * i) 4 p) (ap (λ (t : List ℕ). entry_in (take 8 t)) (split 8 q l))
+      z : List Running
+      z = replicate (component_limit - count) none
+
+      go : (t : Bool) → ltb k count ≡ t → get_or (entries count q ++ z) k d ≡ cond t (entry_in (drop (8 * k) q)) none
+      go true e =
+          let l : k < count = ltb-true k count e in
+          get_or_append_left (entries count q) z d k (omega (arith, length_entries count q)) ∙ entries_at count k q d l
+      go false e =
+          let l : count ≤ k = ltb-false k count e in
+          get_or-append_right (entries count q) z count k d (length_entries count q) l ∙ get_or-replicate (component_limit - count) (k - count) none d (omega arith)
+
+  -- all of them are read
+  pub table_read : (es : List Running) → length es ≡ component_limit → ((k : ℕ) → k < component_limit → get_or es k none ≡ entry_of p count k) → es ≡ table_in p count
+  unfolding table_in
+  table_read es h at =
+      let m : length (table_in p count) ≡ component_limit = simp (length-append, length_entries, length-replicate) (omega arith) in
+      same_lists es (table_in p count) (h ∙ sym m) (λ k d l.
+      let l' : k < component_limit = omega (arith, h) in
+      get_or_default es k d none l ∙ at k l' ∙ sym (table_at k d l'))

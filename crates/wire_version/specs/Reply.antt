@@ -1,13 +1,12 @@
 -- The version reply (document 01, "Packets"; CFU 5.1): its fields, its bytes, and when building or reading it is refused.
-use Rattle.std.specs.Prelude.{ℕ, zero, suc, ◌+◌, ◌*◌, ◌-◌, ◌%◌, ◌^◌, ◌<◌, ◌≡◌, Bool, cond, ◌&&◌, List, [], ◌∷◌, ◌++◌, eqb, leb, length, get_or, take, drop, replicate}
+use Rattle.std.specs.Prelude.{ℕ, zero, suc, ◌+◌, ◌*◌, ◌-◌, ◌%◌, ◌^◌, ◌<◌, ◌≡◌, Bool, cond, ◌&&◌, List, [], ◌∷◌, ◌++◌, eqb, leb, ltb, length, get_or, take, drop, replicate, Result}
 use Rattle.wire.specs.Bytes.{number, bytes_of, bytes_at}
 use Rattle.wire.specs.Codes.{protocol_number, component_limit}
 use Rattle.wire.specs.Version.{FitsVersion, version_at, version_bytes}
-use Rattle.wire.specs.Rows.{Row, served, row_p, row_of, Told}
+use Rattle.wire.specs.Rows.{Row, served, row_p, Told, told}
 use Rattle.wire_version.specs.declared.Running.{Running}
 use Rattle.wire_version.specs.declared.VersionReply.{VersionReply}
-use Rattle.wire_version.specs.declared.BuiltVersionReply.{BuiltVersionReply}
-use Rattle.wire_version.specs.declared.ReadVersionReply.{ReadVersionReply}
+use Rattle.wire.specs.declared.verdict.PacketRefusal.{PacketRefusal}
 
 -- a head of four bytes, and eight for each component
 abbrev pub reply_size : ℕ
@@ -62,8 +61,12 @@ build_of r =
     (record { row = row_p 2; value = replicate reply_size 0 })
 
 -- the row and the bytes of a built reply
-abbrev pub told_built : BuiltVersionReply → Told (List ℕ)
-told_built r = record { row = row_of r.verdict; value = r.packet }
+abbrev pub told_built : Result (List ℕ) PacketRefusal → Told (List ℕ)
+told_built = told (replicate reply_size 0)
+
+-- component i in a reply's bytes, and an empty one from the count on
+abbrev pub entry_of : List ℕ → (count i : ℕ) → Running
+entry_of p count i = cond (ltb i count) (entry_in (drop (8 * i) (drop 4 p))) none
 
 -- the components in a reply's bytes up to the count, then empty ones
 unfoldable pub table_in : List ℕ → ℕ → List Running
@@ -73,9 +76,13 @@ table_in p count = entries count (drop 4 p) ++ replicate (component_limit - coun
 unfoldable pub fields_in : List ℕ → VersionReply
 fields_in p = record { count = get_or p 0 0; protocol = get_or p 3 0 % 16; components = table_in p (get_or p 0 0) }
 
+-- all fields zero
+abbrev pub blank_reply : VersionReply
+blank_reply = record { count = 0; protocol = 0; components = replicate component_limit none }
+
 -- what a refused reading answers: all fields zero
 abbrev pub refused_of : Row → Told VersionReply
-refused_of row = record { row = row; value = record { count = 0; protocol = 0; components = replicate component_limit none } }
+refused_of row = record { row = row; value = blank_reply }
 
 -- what reading answers: P1, P2, or the fields
 unfoldable pub read_of : List ℕ → Told VersionReply
@@ -85,8 +92,8 @@ read_of p =
     (refused_of (row_p 1))
 
 -- the row and the fields of a reader's answer
-abbrev pub told_read : ReadVersionReply → Told VersionReply
-told_read r = record { row = row_of r.verdict; value = r.reply }
+abbrev pub told_read : Result VersionReply PacketRefusal → Told VersionReply
+told_read = told blank_reply
 
 -- the fields with components at and past the count empty
 abbrev pub norm : VersionReply → VersionReply

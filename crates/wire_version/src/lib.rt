@@ -3,11 +3,11 @@
 
 ghost use Rattle.std.specs.Prelude.{◌≡◌, ◌≤◌, length};
 ghost use Rattle.wire.specs.Codes.{component_limit};
-ghost use Rattle.wire.specs.Rows.{row_of};
-ghost use Rattle.wire_version.specs.Reply.{reply_size, none, allowed, entry_bytes, entry_in, reply_bytes, table_in, told_built, build_of, told_read, read_of, refused_of};
+ghost use Rattle.wire_version.specs.Reply.{reply_size, none, allowed, entry_bytes, entry_in, reply_bytes, entry_of, table_in, told_built, build_of, told_read, read_of};
 
+use std::array;
 use wire::codes::COMPONENT_LIMIT;
-use wire::verdict::Verdict;
+use wire::verdict::PacketRefusal;
 use wire::version::Version;
 use wire::{codes, words};
 
@@ -15,7 +15,7 @@ use wire::{codes, words};
 pub const REPLY_SIZE: usize = 4 + 8 * COMPONENT_LIMIT;
 
 // A component in the reply, eight bytes.
-#[derive(Clone, Copy)]
+#[derive(Clone, Copy, Default)]
 pub struct Running {
     // Bytes 0-3; byte 4 is reserved.
     pub version: Version,
@@ -25,7 +25,7 @@ pub struct Running {
     pub platform: u16,
 }
 
-#[derive(Clone, Copy)]
+#[derive(Clone, Copy, Default)]
 pub struct VersionReply {
     // Byte 0.
     pub count: u8,
@@ -35,27 +35,11 @@ pub struct VersionReply {
     pub components: [Running; COMPONENT_LIMIT],
 }
 
-#[derive(Clone, Copy)]
-pub struct BuiltVersionReply {
-    pub verdict: Verdict,
-    pub packet: [u8; REPLY_SIZE],
-}
-
-#[derive(Clone, Copy)]
-pub struct ReadVersionReply {
-    pub verdict: Verdict,
-    pub reply: VersionReply,
-}
-
 // Stands where there is no component.
 pub fn no_component() -> Running
     ensures { result ≡ none }
 {
-    Running {
-        version: Version::new(0, 0, 0),
-        id: 0,
-        platform: 0,
-    }
+    Running::default()
 }
 
 // Not P2, either way: a count up to the limit, and protocol 2.
@@ -68,10 +52,9 @@ fn is_allowed(count: u8, protocol: u8) -> bool
 fn entry_bytes(e: Running) -> [u8; 8]
     ensures { result ≡ entry_bytes e }
 {
-    let version = e.version;
-    let v = version.bytes();
-    let p = words::bytes16(e.platform);
-    [v[0], v[1], v[2], v[3], 0, e.id, p[0], p[1]]
+    let [variant, minor_low, minor_high, major] = e.version.bytes();
+    let [low, high] = words::bytes16(e.platform);
+    [variant, minor_low, minor_high, major, 0, e.id, low, high]
 }
 
 fn entry_in(s: &[u8]) -> Running
@@ -86,40 +69,41 @@ fn entry_in(s: &[u8]) -> Running
 }
 
 // The bytes, where the count is at most the limit.
-fn packet(count: u8, protocol: u8, components: [Running; COMPONENT_LIMIT]) -> [u8; REPLY_SIZE]
-    requires { count ≤ component_limit }
-    ensures { result ≡ reply_bytes count protocol components }
+fn packet(r: VersionReply) -> [u8; REPLY_SIZE]
+    requires { r.count ≤ component_limit }
+    ensures { result ≡ reply_bytes r.count r.protocol r.components }
 {
-    let n = count as usize;
     let mut p = [0u8; REPLY_SIZE];
-    p[0] = count;
-    p[3] = protocol;
-    let mut i = 0;
-    while i < n {
-        let e = components[i];
-        let b = entry_bytes(e);
+    p[0] = r.count;
+    p[3] = r.protocol;
+    for (i, e) in r.components[..r.count as usize].iter().enumerate() {
         let at = 4 + 8 * i;
-        words::copy(&mut p[at..at + 8], &b);
-        i += 1;
+        p[at..at + 8].copy_from_slice(&entry_bytes(*e));
     }
     p
 }
 
-pub fn build_version_reply(r: VersionReply) -> BuiltVersionReply
+#[tactic(auto, unfolding(crate::specs::Reply::build_of))]
+pub fn build_version_reply(r: VersionReply) -> Result<[u8; REPLY_SIZE], PacketRefusal>
     ensures { told_built result ≡ build_of r }
 {
-    let components = r.components;
     if is_allowed(r.count, r.protocol) {
-        let p = packet(r.count, r.protocol, components);
-        BuiltVersionReply {
-            verdict: Verdict::Served,
-            packet: p,
-        }
+        Ok(packet(r))
     } else {
-        BuiltVersionReply {
-            verdict: Verdict::P2,
-            packet: [0u8; REPLY_SIZE],
-        }
+        Err(PacketRefusal::P2)
+    }
+}
+
+// The component at a place in a reply's bytes, below the count, which is at most the limit, and an empty one from the count on.
+fn entry_at(p: &[u8], count: u8, i: usize) -> Running
+    requires { (length p.now ≡ reply_size) × (count ≤ component_limit) }
+    ensures { result ≡ entry_of p.now count i }
+{
+    if i < count as usize {
+        let at = 4 + 8 * i;
+        entry_in(&p[at..at + 8])
+    } else {
+        no_component()
     }
 }
 
@@ -128,53 +112,24 @@ fn table(p: &[u8], count: u8) -> [Running; COMPONENT_LIMIT]
     requires { (length p.now ≡ reply_size) × (count ≤ component_limit) }
     ensures { result ≡ table_in p.now count }
 {
-    let n = count as usize;
-    let none = no_component();
-    let mut es = [none; COMPONENT_LIMIT];
-    let mut i = 0;
-    while i < n {
-        let at = 4 + 8 * i;
-        es[i] = entry_in(&p[at..at + 8]);
-        i += 1;
-    }
-    es
+    array::from_fn(|i| entry_at(p, count, i))
 }
 
-fn refused(verdict: Verdict) -> ReadVersionReply
-    ensures { told_read result ≡ refused_of (row_of verdict) }
-{
-    let none = no_component();
-    let es = [none; COMPONENT_LIMIT];
-    ReadVersionReply {
-        verdict: verdict,
-        reply: VersionReply {
-            count: 0,
-            protocol: 0,
-            components: es,
-        },
-    }
-}
-
-pub fn read_version_reply(p: &[u8]) -> ReadVersionReply
+#[tactic(auto, unfolding(crate::specs::Reply::read_of, crate::specs::Reply::fields_in))]
+pub fn read_version_reply(p: &[u8]) -> Result<VersionReply, PacketRefusal>
     ensures { told_read result ≡ read_of p.now }
 {
-    if p.len() == REPLY_SIZE {
-        let count = p[0];
-        let protocol = p[3] % 16;
-        if is_allowed(count, protocol) {
-            let es = table(p, count);
-            ReadVersionReply {
-                verdict: Verdict::Served,
-                reply: VersionReply {
-                    count: count,
-                    protocol: protocol,
-                    components: es,
-                },
-            }
-        } else {
-            refused(Verdict::P2)
-        }
-    } else {
-        refused(Verdict::P1)
+    if p.len() != REPLY_SIZE {
+        return Err(PacketRefusal::P1);
     }
+    let count = p[0];
+    let protocol = p[3] % 16;
+    if !is_allowed(count, protocol) {
+        return Err(PacketRefusal::P2);
+    }
+    Ok(VersionReply {
+        count,
+        protocol,
+        components: table(p, count),
+    })
 }

@@ -2,28 +2,26 @@
 //! writer and the calls for one part of lent bytes are the crate's own calls.
 
 use cfu_updater::bundle;
-use cfu_updater::bundle_layout::{self, verdict_of, BundleVerdict, Checked};
+use cfu_updater::bundle_layout::{self, verdict_of, BundleRefusal, BundleRow, Checked};
 use cfu_updater::c_access::{cfu_contents_entry, cfu_device_component, cfu_list_put};
 use cfu_updater::c_types::types::{CListed, CVersion};
 use cfu_updater::c_writer::cfu_bundle_write;
 use cfu_updater::device::answer::{Answer, Refusal};
 use cfu_updater::device::record::Device;
 use cfu_updater::device::setup::set_up;
-use cfu_updater::device_component::record::{Component as MadeComponent, Fixed, Listed as MadeListed, Staged};
-use cfu_updater::device_component::setup::SetupVerdict;
+use cfu_updater::device_component::record::{Component as MadeComponent, Fixed, Listed as MadeListed};
+use cfu_updater::device_component::setup::SetupRow;
 use cfu_updater::device_session::effect::Session as DeviceSession;
-use cfu_updater::device_session::owed::Owed;
 use cfu_updater::device_session::stage::{Offered, Receiving, Stage as DeviceStage};
 use cfu_updater::host::inner::inner_step;
 use cfu_updater::host::step::{cursor_for, step};
 use cfu_updater::host_packet::answer::{Sent, StepRefusal};
 use cfu_updater::host_record::fits::{in_hand, Body as HandBody};
 use cfu_updater::host_record::record::{Awaited, End, Host, HostStage, Place, Turn};
-use cfu_updater::host_record::report::Progress;
 use cfu_updater::image::region::{Region, StagingOffset};
 use cfu_updater::wire::address::RegionAddress;
 use cfu_updater::wire::codes;
-use cfu_updater::wire::verdict::Verdict;
+use cfu_updater::wire::verdict::PacketRefusal;
 use cfu_updater::wire::version::Version as MadeVersion;
 use cfu_updater::wire_content::content::{build_content, read_content, ContentFields};
 use cfu_updater::wire_content::reply::{build_content_reply, read_content_reply, ContentReply as MadeContentReply};
@@ -53,7 +51,7 @@ pub fn device_of(record: &DeviceRecord) -> Device {
     let component = |component: &Component| MadeComponent {
         fixed: fixed(component.id, component.base, component.length, component.floor),
         running: version(component.running),
-        staged: component.staged.map_or(Staged::Nothing, |staged| Staged::Pending(version(staged))),
+        staged: component.staged.map(version),
     };
     Device {
         platform: record.platform,
@@ -66,7 +64,7 @@ pub fn device_of(record: &DeviceRecord) -> Device {
                 Session::Offered { slot, token } => DeviceStage::Offered(Offered { slot, token }),
                 Session::Receiving { slot, token, next } => DeviceStage::Receiving(Receiving { slot, token, next }),
             },
-            owed: record.owed.map_or(Owed::Nothing, Owed::Token),
+            owed: record.owed,
             previous: record.previous,
         },
     }
@@ -80,10 +78,7 @@ pub fn record_of(device: &Device) -> DeviceRecord {
         base: component.fixed.region.base.number(),
         length: component.fixed.region.len,
         floor: component.fixed.floor.number(),
-        staged: match component.staged {
-            Staged::Nothing => None,
-            Staged::Pending(staged) => Some(staged.number()),
-        },
+        staged: component.staged.map(|staged| staged.number()),
     };
     DeviceRecord {
         platform: device.platform,
@@ -94,10 +89,7 @@ pub fn record_of(device: &Device) -> DeviceRecord {
             DeviceStage::Offered(Offered { slot, token }) => Session::Offered { slot, token },
             DeviceStage::Receiving(Receiving { slot, token, next }) => Session::Receiving { slot, token, next },
         },
-        owed: match device.session.owed {
-            Owed::Nothing => None,
-            Owed::Token(token) => Some(token),
-        },
+        owed: device.session.owed,
         previous: device.session.previous,
         components: device.components.each_ref().map(component),
     }
@@ -115,50 +107,54 @@ fn read_device(bytes: &[u8]) -> Device {
 
 fn device_number(refusal: Refusal) -> u32 {
     match refusal {
-        Refusal::Served => SERVED,
         Refusal::D1 => D1,
         Refusal::D2 => D2,
         Refusal::D3 => D3,
     }
 }
 
-/// An answer of the crate in the form of a call of include/cfu.h, the replies that are due, and the record.
-pub fn told(answer: &Answer) -> (Replies, [u8; REPLIES_SIZE], DeviceRecord) {
+/// How many replies of an answer of the crate are due, and their bytes.
+pub fn told(answer: &Answer) -> (u32, [u8; REPLIES_SIZE]) {
     let mut replies = [0; REPLIES_SIZE];
     let mut count = 0;
     if answer.replies.due {
         put(&mut replies, 0, &answer.replies.reply);
         count = 1;
     }
-    if let Owed::Token(token) = answer.replies.ready {
+    if let Some(token) = answer.replies.ready {
         let ready = build_offer_reply(MadeOfferReply { token, reason: 0, status: codes::OFFER_READY });
         put(&mut replies, SHORT_SIZE * count as usize, &ready);
         count += 1;
     }
-    (Replies { number: device_number(answer.refusal), count }, replies, record_of(&answer.device))
+    (count, replies)
 }
 
 /// What an answer leaves; `leave` says what of the record a served call writes.
-fn replied(answer: Answer, device: &mut [u8], replies: &mut [u8], leave: fn(&DeviceRecord, &mut [u8])) -> Replies {
-    let (told, packets, record) = told(&answer);
-    replies.copy_from_slice(&packets);
-    if told.number == SERVED {
-        leave(&record, device);
+fn replied(answer: Result<Answer, Refusal>, device: &mut [u8], replies: &mut [u8], leave: fn(&DeviceRecord, &mut [u8])) -> Replies {
+    match answer {
+        Ok(answer) => {
+            let (count, packets) = told(&answer);
+            replies.copy_from_slice(&packets);
+            leave(&record_of(&answer.device), device);
+            Replies { number: SERVED, count }
+        }
+        Err(refusal) => {
+            replies.fill(0);
+            Replies { number: device_number(refusal), count: 0 }
+        }
     }
-    told
 }
 
-pub fn bundle_number(verdict: BundleVerdict) -> u32 {
-    match verdict {
-        BundleVerdict::Fine => SERVED,
-        BundleVerdict::B1 => B1,
-        BundleVerdict::B2 => B2,
-        BundleVerdict::B3 => B3,
-        BundleVerdict::B4 => B4,
-        BundleVerdict::B5 => B5,
-        BundleVerdict::B6 => B6,
-        BundleVerdict::B7 => B7,
-        BundleVerdict::B8 => B8,
+pub fn bundle_number(row: BundleRow) -> u32 {
+    match row {
+        BundleRow::B1 => B1,
+        BundleRow::B2 => B2,
+        BundleRow::B3 => B3,
+        BundleRow::B4 => B4,
+        BundleRow::B5 => B5,
+        BundleRow::B6 => B6,
+        BundleRow::B7 => B7,
+        BundleRow::B8 => B8,
     }
 }
 
@@ -219,14 +215,11 @@ fn read_host(bytes: &[u8]) -> Host {
 }
 
 /// The contents of the crate's answer to a check.
-fn contents_of(checked: &Checked) -> Contents {
+fn contents_of(told: &Result<Checked, BundleRefusal>) -> Contents {
     let body = |entry: &bundle_layout::Entry| Body { offset: entry.offset, length: entry.length, records: entry.records };
-    Contents {
-        row: checked.verdict.number(),
-        place: checked.place,
-        count: checked.count,
-        bodies: checked.table.each_ref().map(body),
-        ..Contents::default()
+    match told {
+        Ok(checked) => Contents { count: checked.count, bodies: checked.table.each_ref().map(body), ..Contents::default() },
+        Err(refusal) => Contents { row: refusal.row.number(), place: refusal.place, ..Contents::default() },
     }
 }
 
@@ -236,29 +229,31 @@ fn body_in(contents: &Contents, entry: u32) -> HandBody {
     HandBody { start: body.offset as usize, end: body.offset as u64 + body.length as u64, records: body.records }
 }
 
-/// What a step answers; the next record is left where no row refuses.
-fn stepped(refusal: StepRefusal, sent: Sent, next: &Host, host: &mut [u8]) -> Step {
-    let (number, entry) = match refusal {
-        StepRefusal::Served => (SERVED, 0),
-        StepRefusal::Bundle { verdict, place } => (bundle_number(verdict), place as u32),
-        StepRefusal::N1 => (N1, 0),
-    };
-    if number == SERVED {
-        host.copy_from_slice(&host_record(next).bytes());
-    }
+/// What a served step answers; the next record is left.
+fn stepped(sent: Sent, next: &Host, host: &mut [u8]) -> Step {
+    host.copy_from_slice(&host_record(next).bytes());
     let length = match sent {
         Sent::Nothing => 0,
         Sent::Offer => SHORT_SIZE,
         Sent::Content => LONG_SIZE,
     } as u32;
-    Step { number, entry, length }
+    Step { number: SERVED, entry: 0, length }
 }
 
-fn packet_number(verdict: Verdict) -> u32 {
-    match verdict {
-        Verdict::Served => SERVED,
-        Verdict::P1 => P1,
-        Verdict::P2 => P2,
+/// What a refused step answers.
+fn step_refused(refusal: StepRefusal) -> Step {
+    let (number, entry) = match refusal {
+        StepRefusal::Bundle(BundleRefusal { row, place }) => (bundle_number(row), place as u32),
+        StepRefusal::N1 => (N1, 0),
+    };
+    Step { number, entry, length: 0 }
+}
+
+fn packet_number<T>(answer: &Result<T, PacketRefusal>) -> u32 {
+    match answer {
+        Ok(_) => SERVED,
+        Err(PacketRefusal::P1) => P1,
+        Err(PacketRefusal::P2) => P2,
     }
 }
 
@@ -292,17 +287,16 @@ impl Calls for Made {
             return C2;
         }
         let listed = read_list(list).each_ref().map(listed_of);
-        let answer = set_up(platform, listed, count, staging);
-        match answer.verdict {
-            SetupVerdict::Fine => {
-                device.copy_from_slice(&record_of(&answer.device).bytes());
+        match set_up(platform, listed, count, staging) {
+            Ok(made) => {
+                device.copy_from_slice(&record_of(&made).bytes());
                 SERVED
             }
-            SetupVerdict::S1 => S1,
-            SetupVerdict::S2 => S2,
-            SetupVerdict::S3 => S3,
-            SetupVerdict::S4 => S4,
-            SetupVerdict::S5 => S5,
+            Err(SetupRow::S1) => S1,
+            Err(SetupRow::S2) => S2,
+            Err(SetupRow::S3) => S3,
+            Err(SetupRow::S4) => S4,
+            Err(SetupRow::S5) => S5,
         }
     }
 
@@ -328,8 +322,8 @@ impl Calls for Made {
             return C3;
         }
         let answer = read_device(device).version_reply();
-        packet.copy_from_slice(&answer.packet);
-        device_number(answer.refusal)
+        packet.copy_from_slice(&answer.unwrap_or([0; LONG_SIZE]));
+        answer.map_or_else(device_number, |_| SERVED)
     }
 
     fn offer(&self, device: &mut [u8], staging: &[u8], report: &[u8], replies: &mut [u8]) -> Replies {
@@ -358,12 +352,13 @@ impl Calls for Made {
         if device.len() != DEVICE_SIZE {
             return C1;
         }
-        let answer = read_device(device).reset();
-        let number = device_number(answer.refusal);
-        if number == SERVED {
-            device.copy_from_slice(&record_of(&answer.device).bytes());
+        match read_device(device).reset() {
+            Ok(next) => {
+                device.copy_from_slice(&record_of(&next).bytes());
+                SERVED
+            }
+            Err(refusal) => device_number(refusal),
         }
-        number
     }
 
     fn check(&self, bytes: &[u8], contents: &mut [u8]) -> Check {
@@ -372,7 +367,10 @@ impl Calls for Made {
         }
         let checked = bundle::check(bytes);
         contents.copy_from_slice(&contents_of(&checked).bytes());
-        Check { number: bundle_number(checked.verdict), entry: checked.place as u32, count: checked.count as u32 }
+        match checked {
+            Ok(checked) => Check { number: SERVED, entry: 0, count: checked.count as u32 },
+            Err(refusal) => Check { number: bundle_number(refusal.row), entry: refusal.place as u32, count: 0 },
+        }
     }
 
     fn contents_entry(&self, contents: &[u8], place: u32) -> ToldEntry {
@@ -400,9 +398,16 @@ impl Calls for Made {
         if packet.len() != LONG_SIZE {
             return Step { number: C3, entry: 0, length: 0 };
         }
-        let answer = step(read_host(host), bundle, reply);
-        packet.copy_from_slice(&answer.packet);
-        stepped(answer.refusal, answer.sent, &answer.host, host)
+        match step(read_host(host), bundle, reply) {
+            Ok(answer) => {
+                packet.copy_from_slice(&answer.packet);
+                stepped(answer.sent, &answer.host, host)
+            }
+            Err(refusal) => {
+                packet.fill(0);
+                step_refused(refusal)
+            }
+        }
     }
 
     fn step_checked(&self, host: &mut [u8], contents: &mut [u8], bundle: &[u8], reply: &[u8], packet: &mut [u8]) -> Step {
@@ -420,11 +425,18 @@ impl Calls for Made {
             HostStage::Sending(Awaited { place: p, .. }) if (p.entry, p.block) == (kept.entry, kept.block) => kept.cursor as usize,
             stage => cursor_for(bundle, hand, stage),
         };
-        let answer = inner_step(packet, verdict_of(kept.row), kept.place, kept.count, hand, cursor, known, bundle, reply);
-        if let (StepRefusal::Served, HostStage::Sending(Awaited { place: p, .. })) = (answer.refusal, answer.host.stage) {
+        let checked = match verdict_of(kept.row) {
+            Some(row) => Err(BundleRefusal { row, place: kept.place }),
+            None => Ok(kept.count),
+        };
+        let answer = match inner_step(packet, checked, hand, cursor, known, bundle, reply) {
+            Ok(answer) => answer,
+            Err(refusal) => return step_refused(refusal),
+        };
+        if let HostStage::Sending(Awaited { place: p, .. }) = answer.host.stage {
             contents.copy_from_slice(&Contents { entry: p.entry, block: p.block, cursor: answer.cursor as u64, ..kept }.bytes());
         }
-        stepped(answer.refusal, answer.sent, &answer.host, host)
+        stepped(answer.sent, &answer.host, host)
     }
 
     fn report(&self, host: &[u8]) -> Report {
@@ -433,12 +445,12 @@ impl Calls for Made {
         }
         let told = read_host(host).report();
         let (ending, status) = match told.progress {
-            Progress::Running => (RUNNING, 0),
-            Progress::Ended(End::Done) => (DONE, 0),
-            Progress::Ended(End::Status(status)) => (H1, status as u32),
-            Progress::Ended(End::Foreign) => (H2, 0),
-            Progress::Ended(End::Unexpected) => (H3, 0),
-            Progress::Ended(End::Busy) => (H4, 0),
+            None => (RUNNING, 0),
+            Some(End::Done) => (DONE, 0),
+            Some(End::Status(status)) => (H1, status as u32),
+            Some(End::Foreign) => (H2, 0),
+            Some(End::Unexpected) => (H3, 0),
+            Some(End::Busy) => (H4, 0),
         };
         Report {
             number: report_number(told.packets),
@@ -460,8 +472,8 @@ impl Calls for Made {
         }
         let components = read_components(components).map(|(number, id, platform)| Running { version: version(number), id, platform });
         let built = build_version_reply(MadeVersionReply { count, protocol, components });
-        packet.copy_from_slice(&built.packet);
-        packet_number(built.verdict)
+        packet.copy_from_slice(&built.unwrap_or([0; LONG_SIZE]));
+        packet_number(&built)
     }
 
     fn build_offer(&self, offer: Offer, packet: &mut [u8]) -> u32 {
@@ -485,8 +497,8 @@ impl Calls for Made {
             protocol: offer.protocol,
             platform: offer.platform,
         });
-        packet.copy_from_slice(&built.packet);
-        packet_number(built.verdict)
+        packet.copy_from_slice(&built.unwrap_or([0; SHORT_SIZE]));
+        packet_number(&built)
     }
 
     fn build_information(&self, code: u8, token: u8, packet: &mut [u8]) -> u32 {
@@ -523,8 +535,8 @@ impl Calls for Made {
         let mut data = [0; DATA_SIZE];
         data.copy_from_slice(bytes);
         let built = build_content(ContentFields { flags, length, sequence, address: RegionAddress::new(address), data });
-        packet.copy_from_slice(&built.packet);
-        packet_number(built.verdict)
+        packet.copy_from_slice(&built.unwrap_or([0; LONG_SIZE]));
+        packet_number(&built)
     }
 
     fn build_content_reply(&self, sequence: u16, status: u8, packet: &mut [u8]) -> u32 {
@@ -540,16 +552,17 @@ impl Calls for Made {
             return VersionReply { number: C3, count: 0, protocol: 0 };
         }
         let read = read_version_reply(packet);
-        let listed = read.reply.components.each_ref().map(|running| (running.version.number(), running.id, running.platform));
+        let reply = read.unwrap_or_default();
+        let listed = reply.components.each_ref().map(|running| (running.version.number(), running.id, running.platform));
         components.copy_from_slice(&components_bytes(&listed));
-        VersionReply { number: packet_number(read.verdict), count: read.reply.count, protocol: read.reply.protocol }
+        VersionReply { number: packet_number(&read), count: reply.count, protocol: reply.protocol }
     }
 
     fn read_offer(&self, packet: &[u8]) -> OfferPacket {
         let none = OfferPacket::default();
         match read_offer_packet(packet) {
-            MadeOfferPacket::Refused => OfferPacket { number: P1, ..none },
-            MadeOfferPacket::Offer(o) => OfferPacket {
+            Err(_) => OfferPacket { number: P1, ..none },
+            Ok(MadeOfferPacket::Offer(o)) => OfferPacket {
                 kind: KIND_OFFER,
                 offer: Offer {
                     segment: o.segment,
@@ -565,14 +578,15 @@ impl Calls for Made {
                 },
                 ..none
             },
-            MadeOfferPacket::Information(s) => OfferPacket { kind: KIND_INFORMATION, signal: Signal { code: s.code, token: s.token }, ..none },
-            MadeOfferPacket::Extended(s) => OfferPacket { kind: KIND_EXTENDED, signal: Signal { code: s.code, token: s.token }, ..none },
+            Ok(MadeOfferPacket::Information(s)) => OfferPacket { kind: KIND_INFORMATION, signal: Signal { code: s.code, token: s.token }, ..none },
+            Ok(MadeOfferPacket::Extended(s)) => OfferPacket { kind: KIND_EXTENDED, signal: Signal { code: s.code, token: s.token }, ..none },
         }
     }
 
     fn read_offer_reply(&self, packet: &[u8]) -> OfferReply {
         let read = read_offer_reply(packet);
-        OfferReply { number: packet_number(read.verdict), token: read.reply.token, reason: read.reply.reason, status: read.reply.status }
+        let reply = read.unwrap_or_default();
+        OfferReply { number: packet_number(&read), token: reply.token, reason: reply.reason, status: reply.status }
     }
 
     fn read_content(&self, packet: &[u8], bytes: &mut [u8]) -> Content {
@@ -580,18 +594,20 @@ impl Calls for Made {
             return Content { number: C3, ..Default::default() };
         }
         let read = read_content(packet);
-        bytes.copy_from_slice(&read.content.data);
+        let content = read.unwrap_or_default();
+        bytes.copy_from_slice(&content.data);
         Content {
-            number: packet_number(read.verdict),
-            flags: read.content.flags,
-            length: read.content.length,
-            sequence: read.content.sequence,
-            address: read.content.address.number(),
+            number: packet_number(&read),
+            flags: content.flags,
+            length: content.length,
+            sequence: content.sequence,
+            address: content.address.number(),
         }
     }
 
     fn read_content_reply(&self, packet: &[u8]) -> ContentReply {
         let read = read_content_reply(packet);
-        ContentReply { number: packet_number(read.verdict), sequence: read.reply.sequence, status: read.reply.status }
+        let reply = read.unwrap_or_default();
+        ContentReply { number: packet_number(&read), sequence: reply.sequence, status: reply.status }
     }
 }

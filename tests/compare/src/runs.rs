@@ -545,8 +545,8 @@ fn first_of(answer: &Answer) -> Vec<u8> {
 fn made_function(start: &Start, left: &Left, device: &DeviceRecord) -> Outcome {
     let mut staging = start.staging.to_vec();
     let ran = made_run(start.bundle, start.token, made::device_of(device), &mut staging);
-    match ran.refusal {
-        RunRefusal::Served => {
+    match ran {
+        Ok(ran) => {
             let same = is_left(start, left, device, &made::record_of(&ran.device))
                 && staging == left.staging
                 && ran.report.packets == left.report.packets
@@ -558,14 +558,14 @@ fn made_function(start: &Start, left: &Left, device: &DeviceRecord) -> Outcome {
             }
         }
         // Refused runs change nothing.
-        _ => {
-            if made::record_of(&ran.device) != *device || staging != start.staging {
-                return Err(format!("the made crate's refused run changed something: {ran:?}"));
+        Err(refusal) => {
+            if staging != start.staging {
+                return Err(format!("the made crate's refused run changed something: {refusal:?}"));
             }
-            let number = match ran.refusal {
-                RunRefusal::Bundle { verdict, .. } => made::bundle_number(verdict),
+            let number = match refusal {
+                RunRefusal::Bundle(refusal) => made::bundle_number(refusal.row),
                 RunRefusal::D1 => D1,
-                _ => D2,
+                RunRefusal::D2 => D2,
             };
             if left.number != SERVED && number != left.number {
                 return Err(format!("the made crate's run is refused by {number:X}, the check by {:X}", left.number));

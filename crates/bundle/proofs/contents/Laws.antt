@@ -14,11 +14,12 @@ use Rattle.wire.specs.Codes.{protocol_number, id_limit}
 use Rattle.wire.specs.Rows.{served, Told}
 use Rattle.wire_offer.specs.declared.offer.OfferFields.{OfferFields}
 use Rattle.wire_offer.specs.declared.kind.OfferPacket.{OfferPacket}
-use Rattle.wire_offer.specs.declared.kind.OfferPacket.TheVariants.{Refused, Offer, Information, Extended}
-use Rattle.wire_offer.specs.Offer.{fields_in, blank_offer}
+use Rattle.wire_offer.specs.declared.kind.OfferPacket.TheVariants.{Offer, Information, Extended}
+use Rattle.std.specs.Prelude.{Result, Ok, Err}
+use Rattle.wire.specs.declared.verdict.PacketRefusal.{PacketRefusal}
+use Rattle.wire_offer.specs.Offer.{fields_in}
 use Rattle.wire_offer.specs.Kind.{Kind, offer, kind_in, read_of, told_read}
-use Rattle.bundle_records.specs.declared.Tally.{Tally}
-use Rattle.bundle_records.specs.declared.Tally.TheVariants.{Broken, Records}
+use Rattle.std.specs.Prelude.{Option, Some, None}
 use Rattle.bundle_records.specs.Parse.{Parsed, whole, broken, records_of, blocks_of, tally_from}
 use Rattle.bundle_records.specs.Walk.{tally_of}
 use Rattle.bundle_records.proofs.Parsing.{few_records}
@@ -45,21 +46,11 @@ pub read_offer : (p : List ℕ) → length p ≡ 16 → id_in p ≤ id_limit →
 unfolding read_of kind_in
 read_offer p l h = simp (l, ne_eqb (id_in p) 0xFF (λ z. omega arith), ne_eqb (id_in p) 0xFE (λ z. omega arith))
 
-pub offer_told : (k : OfferPacket) (o : OfferFields) → told_read k ≡ record { row = served; value = offer o } → k ≡ Offer o
-offer_told Refused o h = let e = ap (λ (t : Told Kind). t.row) h in cc
-offer_told (Offer x) o h = let e = ap (λ (t : Told Kind). t.value) h in cc
-offer_told (Information s) o h = let e = ap (λ (t : Told Kind). t.value) h in cc
-offer_told (Extended s) o h = let e = ap (λ (t : Told Kind). t.value) h in cc
-
--- the fields of an offer, and none of another kind
-abbrev fields_of : OfferPacket → OfferFields
-fields_of Refused = blank_offer
-fields_of (Offer o) = o
-fields_of (Information s) = blank_offer
-fields_of (Extended s) = blank_offer
-
-pub fields_told : {k : OfferPacket} (x : OfferPacket) (o : OfferFields) → k ≡ x → k ≡ Offer o → fields_of x ≡ o
-fields_told x o e f = ap fields_of (sym e ∙ f)
+pub offer_told : (k : Result OfferPacket PacketRefusal) (o : OfferFields) → told_read k ≡ record { row = served; value = offer o } → k ≡ Ok (Offer o)
+offer_told (Err e) o h = let x = ap (λ (t : Told Kind). t.row) h in cc
+offer_told (Ok (Offer x)) o h = let e = ap (λ (t : Told Kind). t.value) h in cc
+offer_told (Ok (Information s)) o h = let e = ap (λ (t : Told Kind). t.value) h in cc
+offer_told (Ok (Extended s)) o h = let e = ap (λ (t : Told Kind). t.value) h in cc
 
 -- the body
 
@@ -71,9 +62,9 @@ tallied b at size h =
     let l : at ≤ at + size = omega arith in
     rw (le-leb at (at + size) l, le-leb (at + size) (length b) h, e)
 
-abbrev pub counted : Tally → ℕ
-counted Broken = 0
-counted (Records n) = n
+abbrev pub counted : Option ℕ → ℕ
+counted None = 0
+counted (Some n) = n
 
 -- a tally counts the records that there are
 pub counted_is : (p : Parsed) → counted (tally_from 0 p) ≡ length (blocks_of p)

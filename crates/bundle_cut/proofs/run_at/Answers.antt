@@ -1,26 +1,44 @@
--- `run_at` meets its contract: what was counted and the run from there make the run. Assumes nothing.
+-- `run_at`: the first byte that is not 0xFF, or the end. Assumes nothing.
+use mathlib.Core.Path.{◌≡◌, refl}
+use mathlib.Core.Bool.{Bool, true, false, not, cond}
+use mathlib.Core.List.{List, [], ◌∷◌}
+use Prim.Native.Nat.{ℕ, suc, ◌+◌, ◌-◌}
 use native.Mathlib.Omega.{arith}
-use Rattle.bundle_cut.proofs.Steps.{run_on, run_stops, run_ends}
+use borrow.Author.Tests.{ltb-false}
+use lib.Dec.{eqb, ltb}
+use lib.ListN.{length, take, drop, length-drop}
+use Rattle.std.specs.Prelude.{Some, None, position}
+use Rattle.std.specs.Option.{unwrap_or}
+use Rattle.std.specs.List.{position_or_len}
+use Rattle.std.proofs.lemmas.List.{take_all}
+use Rattle.bundle_cut.specs.Cut.{erased_byte, leading}
+use Rattle.bundle_cut.proofs.Runs.{leading_inside}
 use Rattle.bundle_cut.proofs.run_at.Goals as goal
 
-pub loop-y-init : goal.loop-y-init
-loop-y-init c = (omega arith, omega arith)
+-- a byte that is not 0xFF
+abbrev other : ℕ → Bool
+other b = not (eqb b erased_byte)
 
-pub returns-then-d-y : goal.returns-then-d-y
-returns-then-d-y c =
-    let l = c.loop-y in
-    let a = c.args in
-    let e = run_stops a.d.now l.y (omega arith) c.if-d-y.true in
-    omega arith
+first_other : (l : List ℕ) → position_or_len other l ≡ leading l
+unfolding leading
+first_other [] = refl
+first_other (b ∷ bs) = go (eqb b erased_byte) (first_other bs) where
+  go : (t : Bool) → position_or_len other bs ≡ leading bs → cond (not (not t)) (1 + position_or_len other bs) 0 ≡ cond t (suc (leading bs)) 0
+  go true e = omega arith
+  go false e = refl
 
-pub loop-y-preserved : goal.loop-y-preserved
-loop-y-preserved c =
-    let l = c.loop-y in
-    let a = c.args in
-    let e = run_on a.d.now l.y (omega arith) c.if-d-y.false in
-    (omega arith, omega arith)
+run_is : (l : List ℕ) → unwrap_or (position other l) (length l) ≡ leading l
+run_is l = go (ltb (position_or_len other l) (length l)) refl where
+  go : (t : Bool) → ltb (position_or_len other l) (length l) ≡ t → unwrap_or (cond t (Some (position_or_len other l)) None) (length l) ≡ leading l
+  go true e = first_other l
+  go false e =
+      let f = first_other l in
+      let g = leading_inside l in
+      let h = ltb-false (position_or_len other l) (length l) e in omega arith
 
 pub returns : goal.returns
 returns c =
-    let e = run_ends c.args.d.now c.loop-y.y (omega arith) in
-    omega arith
+    let d = c.args.d.now in
+    let n = length d - c.args.x in
+    let t : take n (drop c.args.x d) ≡ drop c.args.x d = take_all _ _ (simp length-drop (omega arith)) in
+    rw (c.unwrap_or.ensures, c.first_other.ensures, t) (run_is (drop c.args.x d))

@@ -4,29 +4,38 @@ use mathlib.Core.Bool.{Bool, true, false, cond}
 use mathlib.Core.List.{List}
 use Prim.Native.Nat.{ℕ}
 use lib.Dec.{eqb}
-use Rattle.image.specs.Judge.{is_right, image_in, image_id, image_version}
-use Rattle.image.specs.declared.judge.Image.{Image}
-use Rattle.image.specs.declared.judge.Image.TheVariants.{Damaged, Foreign, Bears}
+use Rattle.std.specs.Prelude.{Ok, Err}
+use Rattle.image.specs.Judge.{Image, is_right, image_in, image_id, image_version}
+use Rattle.image.specs.declared.judge.ImageFault.TheVariants.{Damaged, Foreign}
+use Rattle.bundle_given.proofs.is_right.Goals.{After-examine-i}
 use Rattle.bundle_given.proofs.is_right.Goals as goal
 
 abbrev is_sound : Image → Bool
-is_sound Damaged = false
-is_sound Foreign = true
-is_sound (Bears v) = true
+is_sound (Err Damaged) = false
+is_sound (Err Foreign) = true
+is_sound (Ok v) = true
 
 sound_right : (m : List ℕ) (id : ℕ) → is_sound (image_in m id) ≡ is_right m
 unfolding image_in
 sound_right m id = go (is_right m) (eqb (image_id m) id) where
-  go : (right own : Bool) → is_sound (cond right (cond own (Bears (image_version m)) Foreign) Damaged) ≡ right
+  go : (right own : Bool) → is_sound (cond right (cond own (Ok (image_version m)) (Err Foreign)) (Err Damaged)) ≡ right
   go true true = refl
   go true false = refl
   go false own = refl
 
-pub returns-in-Damaged : goal.returns-in-Damaged
-returns-in-Damaged c = ap is_sound (sym c.in-Damaged.is ∙ c.examine-i.ensures) ∙ sound_right _ 0
+-- what the image is says whether its CRC is right
+sound : (c : After-examine-i) → is_sound c.examine-i.result ≡ is_right c.args.m.now
+sound c = ap is_sound c.examine-i.ensures ∙ sound_right c.args.m.now 0
 
-pub returns-in-Foreign : goal.returns-in-Foreign
-returns-in-Foreign c = ap is_sound (sym c.in-Foreign.is ∙ c.examine-i.ensures) ∙ sound_right _ 0
+pub returns-in-Err-Damaged : goal.returns-in-Err-Damaged
+returns-in-Err-Damaged c =
+    let m = c.in-Err-Damaged in
+    let f = rw m.is at m.field-0-is in rw (m.is, f) at (sound (goal.at.returns-in-Err-Damaged c).After-examine-i)
 
-pub returns-in-Bears : goal.returns-in-Bears
-returns-in-Bears c = ap is_sound (sym c.in-Bears.is ∙ c.examine-i.ensures) ∙ sound_right _ 0
+pub returns-in-Err-Foreign : goal.returns-in-Err-Foreign
+returns-in-Err-Foreign c =
+    let m = c.in-Err-Foreign in
+    let f = rw m.is at m.field-0-is in rw (m.is, f) at (sound (goal.at.returns-in-Err-Foreign c).After-examine-i)
+
+pub returns-in-Ok : goal.returns-in-Ok
+returns-in-Ok c = rw c.in-Ok.is at (sound (goal.at.returns-in-Ok c).After-examine-i)

@@ -13,8 +13,7 @@ use Rattle.bundle_records.specs.declared.Head.{Head}
 use Rattle.bundle_records.specs.declared.Head.TheVariants.{Empty, Cut, Whole}
 use Rattle.bundle_records.specs.declared.Next.{Next}
 use Rattle.bundle_records.specs.declared.Next.TheVariants.{End, Bad, Record}
-use Rattle.bundle_records.specs.declared.Tally.{Tally}
-use Rattle.bundle_records.specs.declared.Tally.TheVariants.{Broken, Records}
+use Rattle.std.specs.Prelude.{Option, Some, None}
 use Rattle.bundle_records.specs.Record.{Block, head_in, block_in, rest_of}
 use Rattle.bundle_records.specs.Parse.{Parsed, whole, broken, more, records_of, tally_from}
 use Rattle.bundle_records.specs.Walk.{between, placed, next_of}
@@ -31,24 +30,24 @@ rest_between bytes at end size =
 
 -- one record more in front is one more to count
 tally_more : (n : ℕ) (r : Block) (p : Parsed) → tally_from (n + 1) p ≡ tally_from n (more r p)
-tally_more n r (whole rs) = let e : n + 1 + length rs ≡ n + suc (length rs) = omega arith in ap Records e
+tally_more n r (whole rs) = let e : n + 1 + length rs ≡ n + suc (length rs) = omega arith in ap Some e
 tally_more n r broken = refl
 
 -- what the whole walk answers after n records, at place `at`
-abbrev pub tallied_from : ℕ → List ℕ → (at end : ℕ) → Tally
-tallied_from n bytes at end = cond (leb at end && leb end (length bytes)) (tally_from n (records_of (between bytes at end))) Broken
+abbrev pub tallied_from : ℕ → List ℕ → (at end : ℕ) → Option ℕ
+tallied_from n bytes at end = cond (leb at end && leb end (length bytes)) (tally_from n (records_of (between bytes at end))) None
 
 module _ (bytes : List ℕ) (at end n : ℕ) where
   -- what a step says of the walk's answer: it, or that it is the answer from the next place on
   abbrev pub Step : Next → Type 0
-  Step End = Records n ≡ tallied_from n bytes at end
-  Step Bad = Broken ≡ tallied_from n bytes at end
+  Step End = Some n ≡ tallied_from n bytes at end
+  Step Bad = None ≡ tallied_from n bytes at end
   Step (Record address start size next) =
       (tallied_from (n + 1) bytes next end ≡ tallied_from n bytes at end) × (at < next) × (next ≤ end) × (end ≤ length bytes)
 
   step_by : (b : Bool) (d : Head) → (leb at end && leb end (length bytes)) ≡ b → head_in (between bytes at end) ≡ d → Step (cond b (placed at d) Bad)
   step_by false d p e = rw p
-  step_by true Empty p e = let z : n ≡ n + 0 = omega arith in rw (p, records_by (between bytes at end), e) (ap Records z)
+  step_by true Empty p e = let z : n ≡ n + 0 = omega arith in rw (p, records_by (between bytes at end), e) (ap Some z)
   step_by true Cut p e = rw (p, records_by (between bytes at end), e)
   step_by true (Whole a size) p e =
       let w = both (leb at end) (leb end (length bytes)) p in

@@ -1,11 +1,9 @@
 -- A row's number with its letter is what crosses to C, whatever the number. Assumes nothing.
-use mathlib.Core.Path.{◌≡◌, refl}
+use mathlib.Core.Path.{◌≡◌}
 use mathlib.Core.Bool.{Bool, true, false, cond}
 use Prim.Native.Nat.{ℕ, ◌+◌}
 use lib.Dec.{eqb}
-use Rattle.wire.specs.Rows.{served, row_p, number_of, row_of}
-use Rattle.wire.specs.declared.verdict.Verdict.{Verdict}
-use Rattle.c_types.specs.Numbers.{served_number, letter_p, lettered_of, packet_number}
+use Rattle.c_types.specs.Numbers.{served_number, lettered_of}
 
 -- .. of any kind of rows, where the row of 0 is none
 pub of_row : {Row : Type 0} (number : Row → ℕ) (none some : Row) (letter n : ℕ) → number none ≡ served_number → number some ≡ letter + n
@@ -15,6 +13,3 @@ of_row {Row} number none some letter n e f = go (eqb n 0)
     go : (t : Bool) → cond t served_number (letter + n) ≡ number (cond t none some)
     go true = rw e
     go false = rw f
-
-pub of_packet_lem : (v : Verdict) → lettered_of letter_p (number_of v) ≡ packet_number (row_of v)
-of_packet_lem v = of_row packet_number served (row_p (number_of v)) letter_p (number_of v) refl refl

@@ -9,18 +9,15 @@ use Rattle.c_version.proofs.components_bytes.Goals as goal
 
 pub loop-i-init : goal.loop-i-init
 unfolding components_bytes
-loop-i-init c = (search rules, search rules, refl)
+loop-i-init c = (search rules, refl)
 
 pub loop-i-preserved : goal.loop-i-preserved
 loop-i-preserved c =
     let l = c.loop-i in
-    let a = c.args in
     let at = l.i * running_size in
-    let b = c.running_bytes-b in
-    let w = component_written l.out b.result c.copy.new.target a.components l.i (at + running_size - at) (omega arith) (search rules) l.invariant.1 (omega arith) b.ensures c.copy.ensures l.invariant.2 in
-    (omega arith, w.0, w.1)
+    let b = c.running_bytes in
+    component_written l.out b.result c.copy_from_slice.new.self c.args.components l.i (at + running_size - at) (omega arith) (search rules) l.invariant.0 (omega arith) b.ensures c.copy_from_slice.ensures.after l.invariant.1
 
 pub returns : goal.returns
 returns c =
-    let l = c.loop-i in
-    let a = c.args in written l.out a.components l.i (omega arith) (search rules) l.invariant.1 l.invariant.2
+    let l = c.loop-i in written l.out c.args.components l.i (omega arith) (search rules) l.invariant.0 l.invariant.1

@@ -1,19 +1,16 @@
--- `components_in` meets its contract. After i turns the first i components are read. Assumes nothing.
-use native.Mathlib.Omega.{arith}
-use borrow.Author.Rules.{rules}
-use Rattle.device_bytes.specs.Layout.{components_in}
-use Rattle.device_bytes.proofs.Record.{component_read, components_read}
+-- `components_in` meets its contract: in each slot the component that is read there. Assumes nothing.
+use Rattle.std.proofs.Common.{sym, drop, rules}
+use Rattle.wire.specs.Codes.{component_limit}
+use Rattle.device_component.specs.Record.{blank_component}
+use Rattle.device_bytes.specs.Layout.{components_start, component_of, device_in, components_in}
+use Rattle.device_bytes.proofs.Made.{made}
+use Rattle.device_bytes.proofs.Record.{components_full, component_in_slot}
 use Rattle.device_bytes.proofs.components_in.Goals as goal
 
-pub loop-i-init : goal.loop-i-init
-unfolding components_in
-loop-i-init c = search rules
-
-pub loop-i-preserved : goal.loop-i-preserved
-loop-i-preserved c =
-    let l = c.loop-i in
-    let s = c in
-    (search rules, search rules, component_read l.i s.args.b.now l.components _ (omega arith) l.invariant.1 s.requires l.invariant.2 c.component_of.ensures)
-
 pub returns : goal.returns
-returns c = let l = c.loop-i in components_read l.i _ l.components (omega arith) l.invariant.1 l.invariant.2
+unfolding device_in
+returns c =
+    let b = c.args.b.now in
+    let q = drop components_start b in
+    made (λ i. component_of i b) blank_component _ _ _ (λ i y q k. search rules) component_limit (components_in component_limit q) (components_full q)
+    (λ i l. sym (component_in_slot b i c.requires)) c.from_fn.ensures.items

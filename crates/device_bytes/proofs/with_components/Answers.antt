@@ -11,17 +11,17 @@ use Rattle.device_bytes.proofs.with_components.Goals as goal
 
 pub loop-i-init : goal.loop-i-init
 unfolding components_bytes
-loop-i-init c = (search rules, search rules, sym (append-nil _))
+loop-i-init c = (search rules, sym (append-nil _))
 
 pub loop-i-preserved : goal.loop-i-preserved
 loop-i-preserved c =
     let l = c.loop-i in
     let a = c.args in
-    let w = component_written l.out (take components_start a.out) a.components l.i (omega arith) (search rules) l.invariant.1 l.invariant.2 in
+    let w = component_written l.out (take components_start a.out) a.components l.i (omega arith) (search rules) l.invariant.0 l.invariant.1 in
     let e = c.store_component.ensures in
-    (omega arith, ap length e ∙ w.0, ap (take (component_start (l.i + 1))) e ∙ w.1)
+    (ap length e ∙ w.0, ap (take (component_start (l.i + 1))) e ∙ w.1)
 
 pub returns : goal.returns
 returns c =
     let l = c.loop-i in
-    let a = c.args in written l.out (take components_start a.out) a.components l.i (omega arith) (search rules) l.invariant.1 l.invariant.2
+    let a = c.args in written l.out (take components_start a.out) a.components l.i (omega arith) (search rules) l.invariant.0 l.invariant.1

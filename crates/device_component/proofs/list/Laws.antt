@@ -15,21 +15,20 @@ use Rattle.device_component.specs.Record.{blank_component}
 use Rattle.device_component.specs.Lists.{first_from, find, component_at}
 use Rattle.device_component.specs.Setup.{bad_id, bad_ids}
 use Rattle.device_component.specs.declared.record.Component.{Component}
-use Rattle.device_component.specs.declared.list.Found.{Found}
-use Rattle.device_component.specs.declared.list.Found.TheVariants.{Nothing, At}
-use Rattle.device_component.proofs.list.Loops.{is_at, at_any}
+use Rattle.std.specs.Prelude.{Option, Some, None, is_some}
+use Rattle.device_component.proofs.list.Loops.{at_any}
 use Rattle.wire.proofs.Tests.{neither}
 use Rattle.device_component.proofs.list.Members.{any_none, pairs_none, map_take, first_map}
 
 -- what is found is a member of which p holds
-found : {A : Type 0} (d : A) (p : A → Bool) (i : ℕ) (l : List A) (k : ℕ) → first_from p i l ≡ At k → (i ≤ k) × (k < i + length l) × (p (get_or l (k - i) d) ≡ true)
+found : {A : Type 0} (d : A) (p : A → Bool) (i : ℕ) (l : List A) (k : ℕ) → first_from p i l ≡ Some k → (i ≤ k) × (k < i + length l) × (p (get_or l (k - i) d) ≡ true)
 unfolding first_from
 found d p i [] k e = let z : ◌≡◌ {A = ℕ} 0 1 = cc in absurd (omega arith)
 found d p i (x ∷ l) k e = go (p x) refl (found d p (suc i) l k) where
-  go : (b : Bool) → p x ≡ b → (first_from p (suc i) l ≡ At k → (suc i ≤ k) × (k < suc i + length l) × (p (get_or l (k - suc i) d) ≡ true))
+  go : (b : Bool) → p x ≡ b → (first_from p (suc i) l ≡ Some k → (suc i ≤ k) × (k < suc i + length l) × (p (get_or l (k - suc i) d) ≡ true))
       → (i ≤ k) × (k < i + length (x ∷ l)) × (p (get_or (x ∷ l) (k - i) d) ≡ true)
   go true t rest =
-      let same : At i ≡ At k = rw t at e in
+      let same : Some i ≡ Some k = rw t at e in
       let q : i ≡ k = cc in
       let z : k - i ≡ 0 = omega arith in
       (omega arith, omega arith, rw z t)
@@ -53,7 +52,7 @@ module _ (count : ℕ) (components : List Component) (k : ℕ) where
 
 module _ (id count : ℕ) (components : List Component) where
   -- the slot that is found is listed, and has the id
-  pub find_at : (k : ℕ) → find id count components ≡ At k → (k < count) × (k < length components) × ((component_at components k).fixed.id ≡ id)
+  pub find_at : (k : ℕ) → find id count components ≡ Some k → (k < count) × (k < length components) × ((component_at components k).fixed.id ≡ id)
   unfolding find
   find_at k e =
       let f = found blank_component (λ c. eqb id c.fixed.id) 0 (take count components) k e in
@@ -62,10 +61,10 @@ module _ (id count : ℕ) (components : List Component) where
       (s.0, s.1, sym (eqb-true id (component_at components k).fixed.id g))
 
   -- where none is found, no listed slot has the id
-  pub find_none : find id count components ≡ Nothing → (k : ℕ) → k < count → k < length components → (component_at components k).fixed.id ≡ id → ⊥
-  unfolding find is_at
+  pub find_none : find id count components ≡ None → (k : ℕ) → k < count → k < length components → (component_at components k).fixed.id ≡ id → ⊥
+  unfolding find
   find_none e k h h' q =
-      let none : any (λ c. eqb id c.fixed.id) (take count components) ≡ false = sym (at_any (λ c. eqb id c.fixed.id) 0 (take count components)) ∙ ap is_at e in
+      let none : any (λ c. eqb id c.fixed.id) (take count components) ≡ false = sym (at_any (λ c. eqb id c.fixed.id) 0 (take count components)) ∙ ap is_some e in
       eqb-false id (component_at components k).fixed.id
       (rw (get_or-take count components k blank_component h) at (any_none blank_component (λ c. eqb id c.fixed.id) (take count components) none k (slot_taken count components k h h')))
       (sym q)
@@ -89,14 +88,14 @@ ids_differ count components e i j i< i<' j< j<' q = go (dec_lt i j) (dec_lt j i)
 
 -- a listed slot that has the id is the one that is found, where no id repeats
 pub find_only : (id count : ℕ) (components : List Component) → bad_ids (take count components) ≡ false
-    → (k : ℕ) → k < count → k < length components → (component_at components k).fixed.id ≡ id → find id count components ≡ At k
+    → (k : ℕ) → k < count → k < length components → (component_at components k).fixed.id ≡ id → find id count components ≡ Some k
 find_only id count components e k h h' q = go (find id count components) refl where
-  go : (f : Found) → find id count components ≡ f → find id count components ≡ At k
-  go Nothing t = absurd (find_none id count components t k h h' q)
-  go (At j) t =
+  go : (f : Option ℕ) → find id count components ≡ f → find id count components ≡ Some k
+  go None t = absurd (find_none id count components t k h h' q)
+  go (Some j) t =
       let a = find_at id count components j t in
       let s : j ≡ k = ids_differ count components e j k a.0 a.1 h h' (a.2 ∙ sym q) in
-      t ∙ ap At s
+      t ∙ ap Some s
 
 -- lists with the same ids give the same slot
 pub find_same : (id count : ℕ) (components components' : List Component) → map (λ c. c.fixed.id) components ≡ map (λ c. c.fixed.id) components' → find id count components ≡ find id count components'

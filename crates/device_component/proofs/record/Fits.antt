@@ -5,16 +5,16 @@ use native.Mathlib.Omega.{arith}
 use Rattle.device_component.specs.Record.{FitsComponent, FitsStaged, blank_component}
 use Rattle.device_component.specs.Lists.{component_at}
 use Rattle.device_component.specs.declared.record.Component.{Component}
-use Rattle.device_component.specs.declared.record.Staged.{Staged}
-use Rattle.device_component.specs.declared.record.Staged.TheVariants.{Nothing}
+use Rattle.std.specs.Prelude.{Option, None}
+use Rattle.wire.specs.declared.version.Version.{Version}
 
 -- a component by its parts
-pub component_fits : (floor id running base len : ℕ) (staged : Staged) → floor < 256 ^ 4 → id < 256 → running < 256 ^ 4 → base < 256 ^ 4 → len < 256 ^ 4 → FitsStaged staged
+pub component_fits : (floor id running base len : ℕ) (staged : Option Version) → floor < 256 ^ 4 → id < 256 → running < 256 ^ 4 → base < 256 ^ 4 → len < 256 ^ 4 → FitsStaged staged
     → FitsComponent (record { fixed = record { id = id; region = record { base = record { 0 = base }; len = len }; floor = record { 0 = floor } }; running = record { 0 = running }; staged = staged })
 component_fits floor id running base len staged f i r b l s = record { fixed = record { id = i; region = record { base = b; len = l }; floor = f }; running = r; staged = s }
 
 pub blank_fits : FitsComponent blank_component
-blank_fits = component_fits 0 0 0 0 0 Nothing (omega arith) (omega arith) (omega arith) (omega arith) (omega arith) tt
+blank_fits = component_fits 0 0 0 0 0 None (omega arith) (omega arith) (omega arith) (omega arith) (omega arith) tt
 
 -- each of a list fits, and so does what stands past its end
 abbrev pub AllFit : List Component → Type 0

@@ -8,16 +8,17 @@ use denote.Shadow.{shadow}
 use Rattle.device_component.specs.Record.{FitsStaged, FitsComponent}
 use Rattle.device_component.specs.Lists.{component_at}
 use Rattle.device_component.specs.declared.record.Component.{Component}
-use Rattle.device_component.specs.declared.record.Staged.{Staged}
-use Rattle.device_component.specs.declared.record.Staged.TheVariants.{Nothing, Pending}
+use Rattle.std.specs.Prelude.{Option, Some, None}
+use Rattle.wire.specs.declared.version.Version.{Version}
 use Rattle.device_component.specs.contracts.record.Component as C
-use Rattle.device_component.specs.contracts.record.Staged as P
+use Rattle.std.specs.contracts.option.Option as P
+use Rattle.wire.specs.contracts.version.Version as V
 use Rattle.device_component.proofs.record.Fits.{blank_fits}
 
 -- a staged version
-staged_range : (s : Staged) (vs : List Val) → Is (P.the_field).row ((P.the_field).into s) vs → FitsStaged s
-staged_range Nothing vs h = tt
-staged_range (Pending v) vs h = h.1.1.1.1.0.1.1.0.1
+staged_range : (s : Option Version) (vs : List Val) → Is (P.the_row V.the_row) s vs → FitsStaged s
+staged_range None vs h = tt
+staged_range (Some v) vs h = h.1.1.1.1.0.1.1.0.1
 
 -- a component
 component_range : (c : Component) (vs : List Val) → Is C.the_row c vs → FitsComponent c

@@ -17,18 +17,21 @@ use Rattle.image.specs.declared.region.Region.{Region}
 use Rattle.image.proofs.region.Within.{Apart}
 use Rattle.device_component.specs.Record.{blank_component, with_staged}
 use Rattle.device_component.specs.Lists.{component_at}
-use Rattle.device_component.specs.Setup.{staging_too_long, bad_count, bad_id, bad_ids, bad_region, overlap, bad_regions, bad_floor, bad_floors, setup_verdict}
+use Rattle.device_component.specs.Setup.{staging_too_long, bad_count, bad_id, bad_ids, bad_region, overlap, bad_regions, bad_floor, bad_floors, SetupVerdict, setup_verdict}
 use Rattle.device_component.specs.declared.record.Component.{Component}
 use Rattle.device_component.specs.declared.record.Fixed.{Fixed}
-use Rattle.device_component.specs.declared.setup.SetupVerdict.{SetupVerdict}
-use Rattle.device_component.specs.declared.setup.SetupVerdict.TheVariants.{Fine, S1, S2, S3, S4, S5}
+use Rattle.device_component.specs.declared.setup.SetupRow.TheVariants.{S1, S2, S3, S4, S5}
+use Rattle.std.specs.Prelude.{Ok, Err}
 use Rattle.wire.proofs.Tests.{neither}
 use Rattle.device_component.proofs.list.Members.{any_none, pairs_none, map_take, any_map, pairs_map}
 use Rattle.device_component.proofs.list.Laws.{slot_taken, ids_differ as ids_differ_where}
 
+-- a verdict, by the tests of the rows
+abbrev of_rows : (a b c e f : Bool) → SetupVerdict
+of_rows a b c e f = cond a (Err S1) (cond b (Err S2) (cond c (Err S3) (cond e (Err S4) (cond f (Err S5) (Ok tt)))))
+
 -- a list is fine where no row applies
-no_row : (a b c e f : Bool) → cond a S1 (cond b S2 (cond c S3 (cond e S4 (cond f S5 Fine)))) ≡ Fine
-    → (a ≡ false) × (b ≡ false) × (c ≡ false) × (e ≡ false) × (f ≡ false)
+no_row : (a b c e f : Bool) → of_rows a b c e f ≡ Ok tt → (a ≡ false) × (b ≡ false) × (c ≡ false) × (e ≡ false) × (f ≡ false)
 no_row true b c e f h = let z : true ≡ false = cc in (z, cc, cc, cc, cc)
 no_row false true c e f h = let z : true ≡ false = cc in (refl, z, cc, cc, cc)
 no_row false false true e f h = let z : true ≡ false = cc in (refl, refl, z, cc, cc)
@@ -48,7 +51,7 @@ pub apart_sym : (r r' : Region) → Apart r r' → Apart r' r
 apart_sym r r' (inl h) = inr h
 apart_sym r r' (inr h) = inl h
 
-module _ (n count : ℕ) (components : List Component) (fine : setup_verdict n count components ≡ Fine) where
+module _ (n count : ℕ) (components : List Component) (fine : setup_verdict n count components ≡ Ok tt) where
   rows : (staging_too_long n ≡ false) × (bad_count count ≡ false) × (bad_ids (take count components) ≡ false)
       × (bad_regions n (take count components) ≡ false) × (bad_floors (take count components) ≡ false)
   unfolding setup_verdict first_of
@@ -144,7 +147,7 @@ module _ (n count : ℕ) (components components' : List Component) (e : map seen
       ap₂ (verdict (bad_floors (take count components))) (row (λ x. bad_id x.id) (λ x y. eqb x.id y.id)) (row (λ x. bad_region n x.region) (λ x y. overlap x.region y.region))
       ∙ ap (λ (f : Bool). verdict f (bad_ids (take count components')) (bad_regions n (take count components'))) (single (λ x. bad_floor x.floor)) where
         verdict : (f i r : Bool) → SetupVerdict
-        verdict f i r = first_of ((staging_too_long n, S1) ∷ (bad_count count, S2) ∷ (i, S3) ∷ (r, S4) ∷ (f, S5) ∷ []) Fine
+        verdict f i r = first_of ((staging_too_long n, Err S1) ∷ (bad_count count, Err S2) ∷ (i, Err S3) ∷ (r, Err S4) ∷ (f, Err S5) ∷ []) (Ok tt)
 
 -- a component that becomes pending keeps the verdict
 pub setup_staged : (n count : ℕ) (components : List Component) (slot : ℕ) (v : Version) → setup_verdict n count (set components slot (with_staged (component_at components slot) v)) ≡ setup_verdict n count components

@@ -10,7 +10,7 @@ use Rattle.device_component.specs.Lists.{component_at}
 use Rattle.device_component.specs.Setup.{staging_too_long, bad_count}
 use Rattle.device_component.specs.Rules.{unsound}
 use Rattle.device_component.specs.declared.record.Component.{Component}
-use Rattle.device_component.specs.declared.list.Found.{Found}
+use Rattle.std.specs.Prelude.{Option}
 use Rattle.device_slots.specs.Slots.{slot_of}
 use Rattle.device_session.specs.Sound as sound
 use Rattle.device_session.specs.Sound.{wrong_slot, wrong_previous, owes_on}
@@ -26,7 +26,7 @@ abbrev pub is_broken : List ℕ → ℕ → Bool
 is_broken b n = sound.breaks_d1 n (count_in b) (device_in b).components (session_in b)
 
 -- D1 in the order of the code, each part as its helper says
-pub broken : (b : List ℕ) (n k count : ℕ) (long bad wrong held owes flaw : Bool) (session : Session) (slot : Found) (component : Component)
+pub broken : (b : List ℕ) (n k count : ℕ) (long bad wrong held owes flaw : Bool) (session : Session) (slot : Option ℕ) (component : Component)
     → count ≡ count_in b → session ≡ session_in b → slot ≡ open_slot session.stage → k ≡ slot_of slot → component ≡ component_at (device_in b).components k
     → long ≡ staging_too_long n → bad ≡ bad_count count → wrong ≡ wrong_slot count component slot → held ≡ wrong_previous session.stage session.previous → owes ≡ owes_on slot session.owed
     → flaw ≡ unsound n (take count (device_in b).components) → ((long || bad) || (wrong || (held || (owes || flaw)))) ≡ is_broken b n

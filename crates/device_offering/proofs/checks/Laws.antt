@@ -9,8 +9,7 @@ use Rattle.wire_offer.specs.declared.offer.OfferFields.{OfferFields}
 use Rattle.device_component.specs.Record.{is_pending}
 use Rattle.device_component.specs.Lists.{find, component_at}
 use Rattle.device_component.specs.declared.record.Component.{Component}
-use Rattle.device_component.specs.declared.list.Found.{Found}
-use Rattle.device_component.specs.declared.list.Found.TheVariants as found
+use Rattle.std.specs.Prelude.{Option, Some}
 use Rattle.device_slots.specs.Slots.{slot_of}
 use Rattle.device_slots.specs.Standing.{standing_of}
 use Rattle.device_slots.specs.declared.standing.Standing.{Standing}
@@ -24,11 +23,11 @@ use Rattle.device_offering.specs.Eligible.{Eligible}
 use Rattle.device_offering.proofs.Eligible.{eligible_is}
 
 -- what an answer says of checks 2 to 7, of check 8, and of the slot
-abbrev pub Ruling : (rejected unmet : Bool) → Found → OfferVerdict → Type 0
+abbrev pub Ruling : (rejected unmet : Bool) → Option ℕ → OfferVerdict → Type 0
 Ruling rejected unmet f Busy = ⊥
 Ruling rejected unmet f (Reject r) = rejected ≡ true
 Ruling rejected unmet f Skip = (rejected ≡ false) × (unmet ≡ true)
-Ruling rejected unmet f (Accept k) = (rejected ≡ false) × (unmet ≡ false) × (f ≡ found.At k)
+Ruling rejected unmet f (Accept k) = (rejected ≡ false) × (unmet ≡ false) × (f ≡ Some k)
 
 module _ (platform : ℕ) (target needed : Standing) (o : OfferFields) where
   -- the answer while idle: REJECT where checks 2 to 7 apply, SKIP where only the need is not met, else ACCEPT for the slot of the component
@@ -38,7 +37,7 @@ module _ (platform : ℕ) (target needed : Standing) (o : OfferFields) where
     where
       rest : (u : Bool) → (e : Eligible platform target o) → Ruling false u target.at (first_of ((u, Skip) ∷ []) (Accept (slot_of target.at)))
       rest true e = (refl, refl)
-      rest false e = (refl, refl, e.listed ∙ ap (λ (f : Found). found.At (slot_of f)) (sym e.listed))
+      rest false e = (refl, refl, e.listed ∙ ap (λ (f : Option ℕ). Some (slot_of f)) (sym e.listed))
 
       go : (b : Bool) → applies (rejections_at platform target o) ≡ b → Ruling b (need_unmet_at needed o) target.at (verdict_at platform Idle target needed o)
       go true h =
@@ -60,7 +59,7 @@ abbrev pub OfferSays : (count : ℕ) → List Component → OfferFields → Offe
 OfferSays count components o Busy = Unit {0}
 OfferSays count components o (Reject r) = Unit {0}
 OfferSays count components o Skip = Unit {0}
-OfferSays count components o (Accept k) = (find o.id count components ≡ found.At k) × (is_pending (component_at components k).staged ≡ false)
+OfferSays count components o (Accept k) = (find o.id count components ≡ Some k) × (is_pending (component_at components k).staged ≡ false)
 
 pub offer_says : (platform count : ℕ) (components : List Component) (stage : Stage) (o : OfferFields)
     → OfferSays count components o (offer_verdict platform count components stage o)
@@ -77,7 +76,7 @@ offer_says platform count components stage o = go (is_open stage) refl
     says (Accept k) h =
         let e = (eligible_is platform target o).0 h.0 in (
           h.2,
-          ap (λ (f : Found). is_pending (component_at components (slot_of f)).staged) (sym h.2) ∙ ap is_pending e.free,
+          ap (λ (f : Option ℕ). is_pending (component_at components (slot_of f)).staged) (sym h.2) ∙ ap is_pending e.free,
         )
 
     go : (b : Bool) → is_open stage ≡ b → OfferSays count components o (offer_verdict platform count components stage o)

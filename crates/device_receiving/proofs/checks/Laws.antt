@@ -1,5 +1,5 @@
 -- What follows from a verdict on content. Assumes nothing.
-use Rattle.std.proofs.Common.{◌≡◌, ℕ, ◌+◌, ◌<◌, ◌≤◌, Bool, true, false, eqb, List, sym, refl, true≢false, arith, ltb-false, ne_eqb, leb-true}
+use Rattle.std.proofs.Common.{◌≡◌, ℕ, ◌+◌, ◌<◌, ◌≤◌, Bool, true, false, eqb, List, sym, refl, true≢false, arith, ltb-false, ne_eqb, leb-true, Some}
 use borrow.Author.Tests.{not-false}
 use Rattle.wire.specs.Checks.{first_of}
 use Rattle.wire.specs.Codes.{success_status}
@@ -9,7 +9,6 @@ use Rattle.wire.proofs.words.Sames.{same_refl}
 use Rattle.wire_content.specs.Head.{head_in}
 use Rattle.wire_content.specs.declared.head.ContentHead.{ContentHead}
 use Rattle.image.specs.declared.region.Region.{Region}
-use Rattle.device_component.specs.declared.list.Found.TheVariants.{At}
 use Rattle.device_session.specs.Stage.{is_open, open_slot, at_slot, following}
 use Rattle.device_session.specs.declared.stage.Stage.{Stage}
 use Rattle.device_session.specs.declared.stage.Stage.TheVariants.{Idle, Offered, Receiving}
@@ -18,7 +17,7 @@ use Rattle.device_receiving.specs.declared.checks.ContentVerdict.TheVariants.{An
 use Rattle.device_receiving.specs.Content.{is_first, is_last, bad_shape, is_copy, content_verdict}
 
 -- a session that is open is open on a slot
-pub open_at : (s : Stage) → is_open s ≡ true → open_slot s ≡ At (at_slot s)
+pub open_at : (s : Stage) → is_open s ≡ true → open_slot s ≡ Some (at_slot s)
 open_at Idle e = absurd (true≢false (sym e))
 open_at (Offered o) e = refl
 open_at (Receiving r) e = refl
@@ -27,7 +26,7 @@ open_at (Receiving r) e = refl
 abbrev pub ContentSays : Region → Stage → ContentHead → ContentVerdict → Type 0
 ContentSays region stage c (Answer s) = Unit {0}
 ContentSays region stage c (Take k) =
-    (open_slot stage ≡ At k) × (c.length ≤ 52) × (c.address.0 + c.length ≤ region.len) × (bad_shape c ≡ false)
+    (open_slot stage ≡ Some k) × (c.length ≤ 52) × (c.address.0 + c.length ≤ region.len) × (bad_shape c ≡ false)
 
 pub content_says : (region : Region) (stage : Stage) (copy : Bool) (c : ContentHead) → ContentSays region stage c (content_verdict region stage copy c)
 unfolding content_verdict

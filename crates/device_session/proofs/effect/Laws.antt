@@ -1,12 +1,11 @@
 -- The values of a session stay those of its type. Assumes nothing.
-use Rattle.std.proofs.Common.{ℕ, zero, suc, ◌<◌, List, replicate, refl, arith}
+use Rattle.std.proofs.Common.{ℕ, zero, suc, ◌<◌, List, replicate, refl, arith, Option}
 use Rattle.wire.specs.Bytes.{Bytes, Packet}
 use Rattle.wire.specs.Codes.{long_size}
 use Rattle.device_session.specs.Stage.{FitsStage}
 use Rattle.device_session.specs.Owed.{FitsOwed}
 use Rattle.device_session.specs.Effect.{FitsSession, blank_packet, idle, in_stage, owing}
 use Rattle.device_session.specs.declared.stage.Stage.{Stage}
-use Rattle.device_session.specs.declared.owed.Owed.{Owed}
 use Rattle.device_session.specs.declared.effect.Session.{Session}
 
 -- n times a byte
@@ -26,5 +25,5 @@ pub stage_fits : (s : Session) (stage : Stage) (previous : List ℕ) → FitsSes
     → FitsSession (in_stage s stage previous)
 stage_fits s stage previous f h p = record { stage = h; owed = f.owed; size = p.size; bytes = p.bytes }
 
-pub owing_fits : (s : Session) (owed : Owed) → FitsSession s → FitsOwed owed → FitsSession (owing s owed)
+pub owing_fits : (s : Session) (owed : Option ℕ) → FitsSession s → FitsOwed owed → FitsSession (owing s owed)
 owing_fits s owed f h = record { stage = f.stage; owed = h; size = f.size; bytes = f.bytes }

@@ -1,5 +1,5 @@
 -- A session that a parameter holds is a value of its type. Assumes nothing.
-use Rattle.std.proofs.Common.{ℕ, List, [], ◌∷◌}
+use Rattle.std.proofs.Common.{ℕ, List, [], ◌∷◌, Option, Some, None}
 use mir.Val.{Val}
 use denote.Array.{each}
 use denote.Laws.{Is}
@@ -12,11 +12,9 @@ use Rattle.device_session.specs.Owed.{FitsOwed}
 use Rattle.device_session.specs.Effect.{FitsSession}
 use Rattle.device_session.specs.declared.stage.Stage.{Stage}
 use Rattle.device_session.specs.declared.stage.Stage.TheVariants.{Idle, Offered, Receiving}
-use Rattle.device_session.specs.declared.owed.Owed.{Owed}
-use Rattle.device_session.specs.declared.owed.Owed.TheVariants.{Nothing, Token}
 use Rattle.device_session.specs.declared.effect.Session.{Session}
 use Rattle.device_session.specs.contracts.stage.Stage as S
-use Rattle.device_session.specs.contracts.owed.Owed as O
+use Rattle.std.specs.contracts.option.Option as O
 use Rattle.device_session.specs.contracts.effect.Session as E
 
 -- a stage
@@ -26,9 +24,9 @@ stage_range (Offered o) vs h = let f = h.1.1.1.1.0.1.1 in (f.0.1, f.1.0.1)
 stage_range (Receiving r) vs h = let f = h.1.1.1.1.0.1.1 in (f.0.1, f.1.0.1, f.1.1.0.1)
 
 -- what is owed
-owed_range : (o : Owed) (vs : List Val) → Is (O.the_field).row ((O.the_field).into o) vs → FitsOwed o
-owed_range Nothing vs h = tt
-owed_range (Token t) vs h = h.1.1.1.1.0.1
+owed_range : (o : Option ℕ) (vs : List Val) → Is (O.the_row u8) o vs → FitsOwed o
+owed_range None vs h = tt
+owed_range (Some t) vs h = h.1.1.1.1.0.1
 
 -- the bytes of an array
 bytes_range : (l : List ℕ) (us : List Val) → shadow (each u8.Denot u8.own_val l us) → Bytes l

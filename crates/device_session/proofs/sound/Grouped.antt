@@ -1,11 +1,11 @@
 -- D1 in another order: the tests of each component, and of each two, in one walk. Assumes nothing.
-use Rattle.std.proofs.Common.{◌≡◌, ℕ, Bool, true, false, not, ◌||◌, eqb, List, [], ◌∷◌, take, sym, refl, ap, ◌∙◌, ap₂}
+use Rattle.std.proofs.Common.{◌≡◌, ℕ, Bool, true, false, not, ◌||◌, eqb, List, [], ◌∷◌, take, sym, refl, ap, ◌∙◌, ap₂, Ok, Err}
 use Rattle.wire.specs.Checks.{first_of, any, pairs}
 use Rattle.device_component.specs.Versions.{keeps_staged}
 use Rattle.device_component.specs.Setup.{is_refused, staging_too_long, bad_count, bad_id, bad_ids, bad_region, bad_regions, bad_floor, bad_floors, overlap, setup_verdict}
 use Rattle.device_component.specs.Rules.{unsound}
 use Rattle.device_component.specs.declared.record.Component.{Component}
-use Rattle.device_component.specs.declared.setup.SetupVerdict.TheVariants.{Fine, S1, S2, S3, S4, S5}
+use Rattle.device_component.specs.declared.setup.SetupRow.TheVariants.{S1, S2, S3, S4, S5}
 use Rattle.device_session.specs.declared.effect.Session.{Session}
 use Rattle.device_session.specs.Sound.{opens_wrong, holds_wrong, owes_idle, breaks_d1}
 
@@ -28,7 +28,7 @@ module _ {A : Type 0} where
   pairs_or p q (x ∷ l) = rw (any_or (p x) (q x) l, pairs_or p q l) (exchange (any (p x) l) (any (q x) l) (pairs p l) (pairs q l))
 
 -- set-up's rows, as tests
-refuses : (t k x y f : Bool) → is_refused (first_of ((t, S1) ∷ (k, S2) ∷ (x, S3) ∷ (y, S4) ∷ (f, S5) ∷ []) Fine) ≡ (t || (k || ((x || y) || f)))
+refuses : (t k x y f : Bool) → is_refused (first_of ((t, Err S1) ∷ (k, Err S2) ∷ (x, Err S3) ∷ (y, Err S4) ∷ (f, Err S5) ∷ []) (Ok tt)) ≡ (t || (k || ((x || y) || f)))
 unfolding first_of
 refuses true k x y f = refl
 refuses false true x y f = refl

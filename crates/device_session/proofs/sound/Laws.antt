@@ -1,16 +1,13 @@
 -- D1 as its five clauses, and what holds of a device that passes it. Assumes nothing.
-use Rattle.std.proofs.Common.{◌≡◌, ℕ, ◌<◌, ◌≤◌, true, false, leb, List, length, refl, true≢false, arith, leb-false}
+use Rattle.std.proofs.Common.{◌≡◌, ℕ, ◌<◌, ◌≤◌, true, false, leb, List, length, refl, true≢false, arith, leb-false, Some, Ok, Err}
 use Rattle.wire.specs.Codes.{component_limit}
 use Rattle.wire.proofs.Tests.{neither}
 use Rattle.image.specs.Region.{is_inside}
 use Rattle.image.proofs.region.Within.{lies_inside}
 use Rattle.device_component.specs.Record.{is_pending}
 use Rattle.device_component.specs.Lists.{component_at}
-use Rattle.device_component.specs.Setup.{is_refused, setup_verdict}
+use Rattle.device_component.specs.Setup.{SetupVerdict, is_refused, setup_verdict}
 use Rattle.device_component.specs.declared.record.Component.{Component}
-use Rattle.device_component.specs.declared.list.Found.TheVariants.{At}
-use Rattle.device_component.specs.declared.setup.SetupVerdict.{SetupVerdict}
-use Rattle.device_component.specs.declared.setup.SetupVerdict.TheVariants.{Fine, S1, S2, S3, S4, S5}
 use Rattle.device_component.proofs.setup.Laws.{fine_staging, fine_count, fine_region}
 use Rattle.device_session.specs.declared.effect.Session.{Session}
 use Rattle.device_session.specs.Stage.{open_slot}
@@ -25,13 +22,9 @@ pub record Passes (n count : ℕ) (components : List Component) (session : Sessi
   pub staged : staged_unfit count components ≡ false
 
 -- what no row of set-up refuses is fine
-pub fine : (v : SetupVerdict) → is_refused v ≡ false → v ≡ Fine
-fine Fine h = refl
-fine S1 h = absurd (true≢false h)
-fine S2 h = absurd (true≢false h)
-fine S3 h = absurd (true≢false h)
-fine S4 h = absurd (true≢false h)
-fine S5 h = absurd (true≢false h)
+pub fine : (v : SetupVerdict) → is_refused v ≡ false → v ≡ Ok tt
+fine (Ok u) h = refl
+fine (Err row) h = absurd (true≢false h)
 
 module _ {n count : ℕ} {components : List Component} {session : Session} where
   pub passes : breaks_d1 n count components session ≡ false → Passes n count components session
@@ -47,7 +40,7 @@ module _ {n count : ℕ} {components : List Component} {session : Session} where
   unfolding breaks_d1
   keeps p = rw (p.setup, p.slot, p.previous, p.owed) p.staged
 
-  pub setup_fine : Passes n count components session → setup_verdict n count components ≡ Fine
+  pub setup_fine : Passes n count components session → setup_verdict n count components ≡ Ok tt
   setup_fine p = fine _ p.setup
 
   -- the staging buffer is at most 65,536 bytes long
@@ -59,9 +52,9 @@ module _ {n count : ℕ} {components : List Component} {session : Session} where
   count_most p = (fine_count n count components (setup_fine p)).1
 
   -- a session that is open on a slot is open on a component that is listed and not pending
-  pub open_slot_lem : (k : ℕ) → Passes n count components session → open_slot session.stage ≡ At k → (k < count) × (is_pending (component_at components k).staged ≡ false)
+  pub open_slot_lem : (k : ℕ) → Passes n count components session → open_slot session.stage ≡ Some k → (k < count) × (is_pending (component_at components k).staged ≡ false)
   open_slot_lem k p e =
-      let h : wrong_slot count (component_at components k) (At k) ≡ false = rw e at p.slot in
+      let h : wrong_slot count (component_at components k) (Some k) ≡ false = rw e at p.slot in
       let m = neither (leb count k) _ h in (leb-false count k m.0, m.1)
 
   -- the region of a component in use lies in the staging buffer

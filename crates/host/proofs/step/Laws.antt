@@ -1,6 +1,6 @@
 -- The cursor that a walk over the body in hand finds is right, and so the step is the inner step with that cursor. Assumes nothing.
-use mathlib.Core.Path.{◌≡◌}
-use mathlib.Core.Bool.{false}
+use mathlib.Core.Path.{◌≡◌, refl, ap, ◌∙◌}
+use mathlib.Core.Bool.{Bool, true, false, cond}
 use mathlib.Core.List.{List, [], ◌∷◌}
 use Prim.Native.Nat.{ℕ, zero, suc, ◌+◌, ◌≤◌}
 use native.Mathlib.Numerals.{add-one}
@@ -14,12 +14,18 @@ use Rattle.bundle_records.specs.declared.Next.{Next}
 use Rattle.bundle_records.specs.declared.Next.TheVariants as next
 use Rattle.bundle_records.proofs.Walks.{Goes, goes}
 use Rattle.bundle_layout.specs.Rows as bundle
-use Rattle.bundle.specs.Contents.{check_of}
+use Rattle.bundle.specs.Contents.{Contents, told_checked, check_of}
+use Rattle.bundle_layout.specs.declared.BundleRefusal.{BundleRefusal}
+use Rattle.bundle.proofs.Told.{check_row}
+use Rattle.std.specs.Prelude.{Err}
 use Rattle.bundle.proofs.Accepted.{accepted}
 use Rattle.host_record.specs.declared.record.Host.{Host}
 use Rattle.host_record.specs.declared.record.HostStage.{HostStage}
 use Rattle.host_record.specs.declared.record.HostStage.TheVariants.{Fresh, Opening, Listing, Offering, Waiting, Sending, Closing, Ended}
-use Rattle.host.specs.Step.{blocks_at, bad_stage, step_of}
+use Rattle.host_packet.specs.Answer.{Row, served, Step, row_n, row_of, refused_by}
+use Rattle.host_packet.specs.declared.answer.StepRefusal.{StepRefusal}
+use Rattle.host_packet.specs.declared.answer.StepRefusal.TheVariants as refusal
+use Rattle.host.specs.Step.{blocks_at, bad_stage, breaks_n1, step_on, step_by, step_of}
 use Rattle.host.specs.Inner.{inner_for, CursorIn, past_record, place_after, cursor_of}
 use Rattle.host.proofs.inner.IsStep.{place_inside, end_inside, first_stood, agrees}
 
@@ -67,3 +73,36 @@ cursor_found b bytes s (Ended e) w = tt
 -- the step is the inner step with that cursor
 pub step_is_inner : (b : List ℕ) (h : Host) (reply : List ℕ) → Bytes b → (inner_for b (check_of b) (cursor_of b (check_of b) h.stage) h reply).step ≡ step_of b h reply
 step_is_inner b h reply bytes = (agrees b h (cursor_of b (check_of b) h.stage) reply bytes (λ s w. cursor_found b bytes s h.stage w)).0
+
+module _ (b : List ℕ) (h : Host) (reply : List ℕ) where
+  -- a step whose row refuses is that row's
+  abbrev OfRow : Step → Type 0
+  OfRow s = (s.row ≡ served → ⊥) → refused_by s.row h ≡ s
+
+  by_row : (row : bundle.Row) → OfRow (step_by row b h reply)
+  unfolding step_on
+  by_row bundle.served = go (breaks_n1 b h) _ refl
+    where
+      go : (x : Bool) (m : Step) → m.row ≡ served → OfRow (cond x (refused_by (row_n 1) h) m)
+      go true m e n = refl
+      go false m e n = absurd (n e)
+  by_row (bundle.row_b k entry) = λ n. refl
+
+  -- a refusal is a row that refuses
+  refuses : (r : StepRefusal) → row_of r ≡ served → ⊥
+  refuses (refusal.Bundle x) e = cc
+  refuses refusal.N1 e = cc
+
+  -- a row refuses the bundle
+  pub bundle_step : (r : BundleRefusal) → told_checked (Err r) ≡ check_of b → refused_by (row_of (refusal.Bundle r)) h ≡ step_of b h reply
+  unfolding step_of
+  bundle_step r e =
+      let k : bundle.refusal_row r ≡ bundle.bundle_row b = ap (λ (c : Contents). c.row) e ∙ check_row b in
+      ap (λ (row : bundle.Row). step_by row b h reply) k
+
+  pub refused_step : (packet : List ℕ) (r : StepRefusal) → record { row = row_of r; sent = []; packet = packet; host = h } ≡ step_of b h reply
+      → refused_by (row_of r) h ≡ step_of b h reply
+  unfolding step_of
+  refused_step packet r e =
+      let k : row_of r ≡ (step_of b h reply).row = ap (λ (s : Step). s.row) e in
+      ap (λ (x : Row). refused_by x h) k ∙ by_row (bundle.bundle_row b) (λ z. refuses r (k ∙ z))

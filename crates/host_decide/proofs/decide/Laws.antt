@@ -13,10 +13,8 @@ use lib.ListN.{length}
 use Rattle.wire.specs.Rows.{Told}
 use Rattle.wire_offer.specs.Reply as offer_reply
 use Rattle.wire_offer.specs.declared.reply.OfferReply.{OfferReply}
-use Rattle.wire_offer.specs.declared.reply.ReadOfferReply.{ReadOfferReply}
 use Rattle.wire_content.specs.Reply as content_reply
 use Rattle.wire_content.specs.declared.reply.ContentReply.{ContentReply}
-use Rattle.wire_content.specs.declared.reply.ReadContentReply.{ReadContentReply}
 use Rattle.host_record.specs.Record.{has_bit, with_bit}
 use Rattle.host_decide.specs.Decide.{decide_in, decide_of}
 use Rattle.host_record.specs.declared.record.Host.{Host}
@@ -42,16 +40,6 @@ or_is i m = go (has_bit m i) refl
 -- what `mask | (1 << i)` is, at any width
 pub or_bit : (w i m : ℕ) → 1 + i ≤ w → bit_or m (1 * 2 ^ i % 2 ^ w) ≡ with_bit m i
 or_bit w i m fits = ap (bit_or m) (shl_exact 1 i w (lit< tt) fits ∙ one-mul (2 ^ i)) ∙ or_is i m
-
--- a reply of 16 bytes is read as its fields
-pub offer_read : (r : ReadOfferReply) (p : List ℕ) → offer_reply.told_reply r ≡ offer_reply.read_reply_of p → length p ≡ 16 → r.reply ≡ offer_reply.reply_in p
-unfolding offer_reply.read_reply_of
-offer_read r p h l = ap (λ (t : Told OfferReply). t.value) (rw l at h)
-
-pub content_read : (r : ReadContentReply) (p : List ℕ) → content_reply.told_reply r ≡ content_reply.read_reply_of p → length p ≡ 16
-    → r.reply ≡ content_reply.reply_in p
-unfolding content_reply.read_reply_of
-content_read r p h l = ap (λ (t : Told ContentReply). t.value) (rw l at h)
 
 -- a decision, by the stage that a record is in
 pub by_stage : {s : HostStage} (n : ℕ) (last : Bool) (h : Host) (reply : List ℕ) → h.stage ≡ s → decide_in s n last h reply ≡ decide_of n last h reply

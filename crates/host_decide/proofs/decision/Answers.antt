@@ -2,7 +2,8 @@
 use mathlib.Core.Path.{sym, ap, ◌∙◌}
 use mathlib.Core.Bool.{Bool}
 use Rattle.host_record.proofs.fits.Laws.{room}
-use Rattle.host_decide.specs.declared.Decided.TheVariants.{Moves}
+use Rattle.std.specs.Prelude.{Some}
+use Rattle.host_decide.specs.declared.Move.{Move}
 use Rattle.host_decide.specs.Decide.{decide_of, decision_of}
 use borrow.Author.Rules.{rules}
 use Rattle.host_decide.proofs.decision.Goals as goal
@@ -11,8 +12,8 @@ pub returns-then-breaks : goal.returns-then-breaks
 unfolding decision_of
 returns-then-breaks c = rw (sym c.breaks.ensures, c.if-breaks.true)
 
-pub decide-m-requires : goal.decide-m-requires
-decide-m-requires c =
+pub decide-requires : goal.decide-requires
+decide-requires c =
     let a = c.args in
     room a.n a.k (search rules) (search rules) a.h (sym c.breaks.ensures ∙ c.if-breaks.false)
 
@@ -21,4 +22,4 @@ unfolding decision_of
 returns c =
     let a = c.args in
     rw (sym c.breaks.ensures, c.if-breaks.false)
-    (ap Moves (c.decide-m.ensures ∙ ap (λ (l : Bool). decide_of a.n l a.h a.reply.now) c.last_in-last.ensures))
+    (ap (λ (m : Move). Some m) (c.decide.ensures ∙ ap (λ (l : Bool). decide_of a.n l a.h a.reply.now) c.last_in-last.ensures))

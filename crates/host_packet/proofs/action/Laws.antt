@@ -1,7 +1,8 @@
 -- What is written into a packet. Assumes nothing.
-use mathlib.Core.Path.{◌≡◌, ap, ◌∙◌}
+use mathlib.Core.Path.{◌≡◌}
 use mathlib.Core.Bool.{Bool, true}
-use mathlib.Core.List.{List, [], ◌++◌, append-nil}
+use mathlib.Core.List.{List, ◌++◌, append-nil}
+use Rattle.std.specs.Prelude.{Some}
 use Prim.Native.Nat.{ℕ, ◌+◌, ◌≤◌}
 use native.Mathlib.Omega.{arith}
 use lib.ListN.{length, take, drop, set, replicate, length-set, length-take, length-drop, length-append, length-replicate}
@@ -11,24 +12,17 @@ use Rattle.bundle_records.specs.Record.{Block}
 use Rattle.bundle_layout.specs.Layout.{table_end}
 use Rattle.host_packet.specs.declared.answer.Sent.TheVariants as sent
 use Rattle.host_packet.specs.Packet.{block_bytes}
-use Rattle.host_packet.specs.Made.{Laid, sending, laid_by}
+use Rattle.host_packet.specs.Made.{sending, laid_by}
 
 -- 16 bytes, filled up by zeros
 pub offer_laid : (p l : List ℕ) (cursor : ℕ) → length p ≡ 16 → l ≡ p ++ replicate 44 0
-    → laid_by (record { served = true; sent = sent.Offer; cursor = cursor }) l ≡ sending p cursor
+    → laid_by cursor (Some (record { sent = sent.Offer; cursor = cursor })) l ≡ sending p cursor
 offer_laid p l cursor n e = rw (e, take_at p (replicate 44 0) 16 n, n)
 
 -- 60 bytes
 pub content_laid : (p l : List ℕ) (cursor : ℕ) → length p ≡ 60 → l ≡ p
-    → laid_by (record { served = true; sent = sent.Content; cursor = cursor }) l ≡ sending p cursor
+    → laid_by cursor (Some (record { sent = sent.Content; cursor = cursor })) l ≡ sending p cursor
 content_laid p l cursor n e = rw (e, n, append-nil p)
-
--- 60 zeros, and nothing is sent
-abbrev pub nothing : (served : Bool) → (size cursor : ℕ) → Laid
-nothing served size cursor = record { served = served; sent = []; packet = replicate size 0; cursor = cursor }
-
-pub none_laid : (l : Laid) (served : Bool) (size cursor : ℕ) → size ≡ 60 → l ≡ nothing served size cursor → l ≡ nothing served 60 cursor
-none_laid l served size cursor n e = e ∙ ap (λ (k : ℕ). nothing served k cursor) n
 
 -- the offer of an entry that the bytes have
 pub offer_length : (b : List ℕ) (entry token : ℕ) → table_end (entry + 1) ≤ length b → length (set (take 16 (drop (table_end entry) b)) 3 token) ≡ 16

@@ -1,12 +1,9 @@
 -- A part of a buffer that is lent and comes back. Assumes nothing.
-use mathlib.Core.Path.{◌≡◌, refl, sym, ◌∙◌}
-use mathlib.Core.Bool.{Bool, true, false}
+use mathlib.Core.Path.{◌≡◌, sym, ◌∙◌}
 use mathlib.Core.List.{List, ◌++◌}
 use Prim.Native.Nat.{ℕ, ◌+◌, ◌-◌, ◌≤◌, min}
 use native.Mathlib.Decide.{dec_le}
 use native.Mathlib.Omega.{arith}
-use borrow.Author.Tests.{leb-true, leb-false, le-leb, lt-leb}
-use lib.Dec.{leb}
 use lib.ListN.{length, take, drop, length-drop, drop_of_length-le}
 use lib.Seq.{take_all, take-nil, drop-length, drop-drop}
 use Rattle.image.specs.Region.{within}
@@ -17,13 +14,6 @@ unfolding within
 lent a n f s l e =
     let m : a + n - a ≡ n = omega arith in
     rw (e, m, drop-drop)
-
--- an address is at most what n bytes leave where address and n bytes are at most the whole
-pub rest : (a n len : ℕ) → n ≤ len → leb a (len - n) ≡ leb (a + n) len
-rest a n len h = go (leb a (len - n)) refl where
-  go : (b : Bool) → leb a (len - n) ≡ b → leb a (len - n) ≡ leb (a + n) len
-  go true e = e ∙ sym (le-leb (a + n) len (omega (arith, leb-true a (len - n) e)))
-  go false e = e ∙ sym (lt-leb (a + n) len (omega (arith, leb-false a (len - n) e)))
 
 -- the part of a buffer between a start and an end that are clamped to it is the whole part, as far as the buffer has it
 pub clamped : (base len : ℕ) (s : List ℕ) (start n : ℕ) → start ≡ min base (length s) → n ≡ min len (length s - start) → take (start + n - start) (drop start s) ≡ take len (drop base s)

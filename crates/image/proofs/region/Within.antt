@@ -5,7 +5,7 @@ use mathlib.Core.Logic.{◌⊎◌, inl, inr}
 use mathlib.Core.List.{List, ◌++◌, append_assoc}
 use Prim.Native.Nat.{ℕ, ◌+◌, ◌-◌, ◌^◌, ◌≤◌, ◌<◌}
 use native.Mathlib.Omega.{arith}
-use borrow.Author.Tests.{leb-true, ltb-true, le-leb, lt-ltb}
+use borrow.Author.Tests.{leb-true, le-leb, lt-ltb}
 use lib.Dec.{leb, ltb}
 use lib.ListN.{length, get_or, take, drop, length-append, length-take, length-drop, length-replicate, get_or-append, take-append-drop}
 use lib.Seq.{take_at, drop_at, drop-append-le, get_or-append-add, get_or-take, get_or-drop, ext_get_or, take-take, take-add, drop-drop}
@@ -111,10 +111,6 @@ module _ (r : Region) (n : ℕ) where
   -- a guard that lets pass says where the region lies
   pub inside : is_inside r n ≡ true → r.base.0 + r.len ≤ n
   inside e = leb-true (r.base.0 + r.len) n (both (leb (r.base.0 + r.len) n) (ltb (r.base.0 + r.len) (2 ^ 32)) e).0
-
-  -- and that its end is a number of 32 bits
-  pub inside_end : is_inside r n ≡ true → r.base.0 + r.len < 2 ^ 32
-  inside_end e = ltb-true (r.base.0 + r.len) (2 ^ 32) (both (leb (r.base.0 + r.len) n) (ltb (r.base.0 + r.len) (2 ^ 32)) e).1
 
   -- a region that ends in a buffer of less than 4 GiB lies in it
   pub lies_inside : r.base.0 + r.len ≤ n → n < 2 ^ 32 → is_inside r n ≡ true

@@ -2,27 +2,26 @@
 use mathlib.Core.Path.{◌≡◌, ap}
 use Prim.Native.Nat.{suc, ◌*◌, ◌%◌, ◌^◌, ◌+◌, ◌-◌}
 use native.Mathlib.Omega.{arith}
-use borrow.Author.Rules.{rules}
 use lib.Bits.{bit_xor}
 use Rattle.crc16.specs.Crc.{bit_steps, byte_step}
 use Rattle.speed_crc.proofs.byte_step.Goals as goal
 
-pub loop-k-init : goal.loop-k-init
+pub loop-init : goal.loop-init
 unfolding byte_step
-loop-k-init c =
+loop-init c =
     let h : c.args.b * 2 ^ 8 % 2 ^ 16 ≡ c.args.b * 256 = omega arith in
-    (ap (λ n. bit_steps 8 (bit_xor c.args.r n)) h, search rules)
+    ap (λ n. bit_steps 8 (bit_xor c.args.r n)) h
 
-pub loop-k-preserved : goal.loop-k-preserved
+pub loop-preserved : goal.loop-preserved
 unfolding bit_steps
-loop-k-preserved c =
-    let l = c.loop-k in
-    let e : 8 - l.k ≡ suc (8 - (l.k + 1)) = omega arith in
-    (rw c.bit_step-x.ensures (rw e at l.invariant.0), omega arith)
+loop-preserved c =
+    let l = c.loop in
+    let e : 8 - l.counter ≡ suc (8 - (l.counter + 1)) = omega arith in
+    rw c.bit_step-x.ensures (rw e at l.invariant)
 
 pub returns : goal.returns
 unfolding bit_steps
 returns c =
-    let l = c.loop-k in
-    let e : l.k ≡ 8 = omega arith in
-    rw e at l.invariant.0
+    let l = c.loop in
+    let e : l.counter ≡ 8 = omega arith in
+    rw e at l.invariant

@@ -1,32 +1,25 @@
 -- `speed_crc::crc16_by_bits` meets its contract: what is left of the message, from the register, gives the CRC of the whole. Assumes nothing.
 use mathlib.Core.Path.{◌≡◌, refl}
-use Prim.Native.Nat.{◌<◌}
 use native.Mathlib.Omega.{arith}
 use native.Mathlib.Numerals.{add-one}
-use borrow.Author.Rules.{rules}
 use lib.ListN.{length}
 use lib.Seq.{drop-cons, drop-length}
 use Rattle.crc16.specs.Crc.{crc_from, crc_of}
 use Rattle.speed_crc.proofs.crc16_by_bits.Goals as goal
 
-pub loop-i-init : goal.loop-i-init
+pub loop-b-init : goal.loop-b-init
 unfolding crc_of
-loop-i-init c = (refl, search rules)
+loop-b-init c = refl
 
-pub loop-i-preserved : goal.loop-i-preserved
+pub loop-b-preserved : goal.loop-b-preserved
 unfolding crc_from
-loop-i-preserved c =
-    let l = c.loop-i in
-    let s = c.args.bytes.now in
-    let h : l.i < length s = omega arith in (
-      rw (add-one, c.byte_step-r.ensures) (rw (drop-cons s l.i 0 h) at l.invariant.0),
-      omega arith,
-    )
+loop-b-preserved c =
+    let l = c.loop-b in
+    rw (add-one, c.byte_step-r.ensures) (rw (drop-cons c.args.bytes.now l.b-index 0 c.loop-b-test.true) at l.invariant)
 
 pub returns : goal.returns
 unfolding crc_from
 returns c =
-    let l = c.loop-i in
-    let s = c.args.bytes.now in
-    let e : l.i ≡ length s = omega arith in
-    rw (e, drop-length) at l.invariant.0
+    let l = c.loop-b in
+    let e : l.b-index ≡ length c.args.bytes.now = omega arith in
+    rw (e, drop-length) at l.invariant

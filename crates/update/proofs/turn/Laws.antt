@@ -31,8 +31,8 @@ use Rattle.device.specs.Offer.{on_kind, offer_entry}
 use Rattle.device.specs.Content.{session_component, content_verdict, received, content_entry}
 use Rattle.device.specs.Entries.{serve_entry, serve_staging}
 use Rattle.device.specs.declared.record.Device.{Device}
-use Rattle.device_session.specs.declared.owed.Owed.{Owed}
-use Rattle.device_session.specs.declared.owed.Owed.TheVariants as owed
+use Rattle.std.specs.Prelude.{Option, Some, None, Result, Ok, Err}
+use Rattle.std.specs.Result.{result_unwrap_or}
 use Rattle.device.specs.declared.answer.Answer.{Answer}
 use Rattle.device.specs.declared.answer.Refusal.{Refusal}
 use Rattle.device.specs.declared.answer.Channel.{Channel}
@@ -45,8 +45,11 @@ use Rattle.host_record.specs.Record.{fresh_host, has_ended}
 use Rattle.host_record.specs.Fits.{body_of, in_hand}
 use Rattle.host_decide.specs.Decide.{decide_of}
 use Rattle.host_packet.specs.Packet.{packet_size}
-use Rattle.host_packet.specs.Answer.{Step}
-use Rattle.host_packet.specs.Made.{InnerStep}
+use Rattle.host_packet.specs.Answer.{Step, sent_by}
+use Rattle.host_packet.specs.declared.answer.Sent.TheVariants as sent
+use Rattle.host_packet.specs.declared.answer.Stepped.{Stepped}
+use Rattle.host_packet.specs.declared.answer.StepRefusal.{StepRefusal}
+use Rattle.host_packet.specs.Made.{InnerStep, told_inner}
 use Rattle.host.specs.Step.{last_in, step_of}
 use Rattle.host.specs.Inner.{inner_of, lent, CursorIn}
 use Rattle.host_record.specs.declared.record.Host.{Host}
@@ -76,10 +79,10 @@ module _ (d : Device) where
   EffectFirst e = First (served_with d d.components e)
 
   -- of a notify on ready
-  notify_first : (token : ℕ) (b : Bool) (o : Owed) → EffectFirst (on_notify d.session token b o)
+  notify_first : (token : ℕ) (b : Bool) (o : Option ℕ) → EffectFirst (on_notify d.session token b o)
   notify_first token false o = refl
-  notify_first token true owed.Nothing = refl
-  notify_first token true (owed.Token t) = refl
+  notify_first token true None = refl
+  notify_first token true (Some t) = refl
 
   -- of an offer packet
   kind_first : (x : Kind) → First (on_kind d x)
@@ -135,6 +138,13 @@ step_turned b count hand e i staging staging' a z d =
     subst (λ (x : InnerStep). (i.cursor ≡ x.cursor) × ((awaited : List (List ℕ)) → (trace : List Exchange) → Comes (turned once x.step (system_of e staging awaited trace)) (after_of i.step.host i.cursor a) staging')) z
     (refl, d i.step refl i.cursor)
 
+-- the same over what the inner step answers: a refused step sends nothing, and leaves the record and the cursor
+pub kept_turned : (b packet : List ℕ) (count : ℕ) (hand : Body) (e : BothEnds) (r : Result Stepped StepRefusal) (s : Stepped) (staging staging' : List ℕ) (a : Answer)
+    → s ≡ result_unwrap_or r (record { sent = sent.Nothing; host = e.host; cursor = e.cursor }) → told_inner e.host e.cursor r packet ≡ step_from b count hand e
+    → Delivered (sent_by s.sent packet) e staging a staging' → Turned b count hand e staging (after_of s.host s.cursor a) staging'
+kept_turned b packet count hand e (Ok x) s staging staging' a z i d = rw z (step_turned b count hand e _ staging staging' a i (rw z at d))
+kept_turned b packet count hand e (Err y) s staging staging' a z i d = rw z (step_turned b count hand e _ staging staging' a i (rw z at d))
+
 -- the reply that is handed over is gone, and the next step is handed it
 way_gone : (due : Bool) (reply : List ℕ) → drop 1 (cond {A = List (List ℕ)} due (reply ∷ []) []) ≡ []
 way_gone true reply = refl
@@ -161,22 +171,28 @@ module _ (e : BothEnds) where
   after_is x staging awaited trace = rw (way_gone e.replies.due e.replies.reply)
 
   -- nothing is sent
-  pub nothing_delivered : (staging : List ℕ) (refusal : Refusal) (replies : Replies) → replies ≡ no_replies
-      → Delivered [] e staging (record { refusal = refusal; replies = replies; device = e.device }) staging
+  pub nothing_delivered : (staging : List ℕ) (replies : Replies) → replies ≡ no_replies → Delivered [] e staging (record { replies = replies; device = e.device }) staging
   unfolding turned
-  nothing_delivered staging refusal replies n x z cursor awaited trace = (
+  nothing_delivered staging replies n x z cursor awaited trace = (
     awaited_after x awaited,
     trace_after x (heard (way_of e)) awaited trace,
     ap (λ (ps : List (List ℕ)). delivered once ps (run.stepped x (system_of e staging awaited trace))) z ∙ after_is x staging awaited trace ∙ rw n,
   )
 
+  -- what comes of a call: where a row refuses it, the device stays, and nothing is sent
+  call_comes : (r : Result Answer Refusal) (replies : Replies) (o : Outcome) → replies ≡ no_replies → told e.device r ≡ o
+      → let a = result_unwrap_or r (record { replies = replies; device = e.device }) in (a.replies ≡ o.replies) × (a.device ≡ o.device)
+  call_comes (Ok a) replies o n t = (ap (λ (x : Outcome). x.replies) t, ap (λ (x : Outcome). x.device) t)
+  call_comes (Err refusal) replies o n t = (n ∙ ap (λ (x : Outcome). x.replies) t, ap (λ (x : Outcome). x.device) t)
+
   -- a packet on its channel is answered
-  pub answer_delivered : (p staging staging' : List ℕ) (channel : Channel) (a : Answer) → channel_of p ≡ channel
-      → told a ≡ serve_entry e.device channel staging p → staging' ≡ serve_staging e.device channel staging p
-      → Delivered (p ∷ []) e staging a staging'
+  pub answer_delivered : (p staging staging' : List ℕ) (channel : Channel) (r : Result Answer Refusal) (replies : Replies) (a : Answer) → channel_of p ≡ channel
+      → replies ≡ no_replies → told e.device r ≡ serve_entry e.device channel staging p → a ≡ result_unwrap_or r (record { replies = replies; device = e.device })
+      → staging' ≡ serve_staging e.device channel staging p → Delivered (p ∷ []) e staging a staging'
   unfolding turned
-  answer_delivered p staging staging' channel a c t s x z cursor awaited trace =
-      let list = trace_after x (heard (way_of e)) awaited trace in (
+  answer_delivered p staging staging' channel r replies a c n t u s x z cursor awaited trace =
+      let list = trace_after x (heard (way_of e)) awaited trace in
+      let k = rw (← u) at (call_comes r replies (serve_entry e.device channel staging p) n t) in (
         awaited_after x awaited,
         list,
         ap (λ (ps : List (List ℕ)). delivered once ps (run.stepped x (system_of e staging awaited trace))) z
@@ -190,7 +206,7 @@ module _ (e : BothEnds) where
               awaited = awaited_after x awaited;
               trace = list;
             }) c
-            ∙ rw (serve_first e.device channel staging p, ← t, ← s)),
+            ∙ rw (serve_first e.device channel staging p, ← k.0, ← k.1, ← s)),
       )
 
 -- the host's step and a turn, with the count and the body in hand that the check answers
@@ -204,7 +220,7 @@ module _ (b : List ℕ) (e : BothEnds) where
   abbrev pub TurnedOn : (s : List ℕ) → BothEnds → (s : List ℕ) → Type 0
   TurnedOn s e' s' = Turned b (check_of b).count (hand_of (check_of b)) e s e' s'
 
-  pub turned_on : (c : Checked) (hand : Body) (s : List ℕ) (e' : BothEnds) (s' : List ℕ) → told_checked c ≡ check_of b → hand ≡ hand_of (told_checked c)
+  pub turned_on : (c : Checked) (hand : Body) (s : List ℕ) (e' : BothEnds) (s' : List ℕ) → told_checked (Ok c) ≡ check_of b → hand ≡ hand_of (told_checked (Ok c))
       → Turned b c.count hand e s e' s' → TurnedOn s e' s'
   turned_on c hand s e' s' z h t =
       subst (λ (x : Contents). Turned b x.count (hand_of x) e s e' s') z (subst (λ (y : Body). Turned b c.count y e s e' s') h t)

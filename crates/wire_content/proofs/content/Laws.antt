@@ -1,15 +1,15 @@
 -- Content reads back: the data that counts, with zeros past it, and the round trips. Assumes nothing.
-use mathlib.Core.Path.{◌≡◌, refl, sym, ap, ap₂, ◌∙◌}
+use mathlib.Core.Path.{◌≡◌, refl, ap, ap₂, ◌∙◌}
 use mathlib.Core.Bool.{Bool, true, false, cond}
 use mathlib.Core.List.{List, [], ◌∷◌, ◌++◌}
-use Prim.Native.Nat.{ℕ, zero, suc, ◌-◌, ◌^◌, ◌<◌, ◌≤◌}
+use Prim.Native.Nat.{ℕ, zero, suc, ◌-◌, ◌^◌, ◌<◌}
 use native.Mathlib.Numerals.{unary_clauses}
 use native.Mathlib.Omega.{arith}
-use borrow.Author.Tests.{eq-eqb, leb-true, leb-false}
+use borrow.Author.Tests.{leb-false}
 use lib.Dec.{leb}
 use lib.ListN.{length, get_or, take, drop, replicate, length-append, length-take, length-drop, length-replicate}
-use lib.Seq.{take_all, length-take-le}
-use Rattle.wire.specs.Bytes.{Packet, bytes_at, copy_of}
+use lib.Seq.{take_all}
+use Rattle.wire.specs.Bytes.{Packet, bytes_at}
 use Rattle.wire.specs.Rows.{served}
 use Rattle.wire.proofs.Tests.{served_true}
 use Rattle.wire.proofs.words.Laws.{round, back, split}
@@ -29,14 +29,6 @@ cleared_twice zero d = simp (unary_clauses, length-replicate)
 cleared_twice (suc n) [] = let e : 0 - suc n ≡ 0 = omega arith in simp e
 cleared_twice (suc n) (x ∷ d) = simp unary_clauses (ap (λ (t : List ℕ). x ∷ t) (cleared_twice n d))
 
--- at most 52 bytes of data count
-pub used_most : (n : ℕ) → used_of n ≤ 52
-used_most n = go (leb n 52) refl
-  where
-    go : (b : Bool) → leb n 52 ≡ b → cond b n 52 ≤ 52
-    go true h = leb-true n 52 h
-    go false h = omega arith
-
 -- what follows n of m zeros
 pub drop_zeros : (n m : ℕ) → drop {A = ℕ} n (replicate m 0) ≡ replicate (m - n) 0
 drop_zeros zero m = simp unary_clauses
@@ -55,14 +47,10 @@ front n u d e l = go (leb n 52) refl e
         rw (q, l, k, take_all 52 d (omega arith), take_all n d (omega (arith, leb-false n 52 h)))
 
 -- the bytes that count, copied over as many of 52 zeros
-pub laid : (n k m : ℕ) (d r : List ℕ) → k ≡ used_of n → m ≡ used_of n → length d ≡ 52 → r ≡ copy_of (take k (replicate 52 0)) (take m d)
+pub laid : (n k m : ℕ) (d r : List ℕ) → k ≡ used_of n → m ≡ used_of n → length d ≡ 52 → r ≡ take m d
     → r ++ drop k (replicate 52 0) ≡ cleared n d
 laid n k m d r e f l h =
-    let z : List ℕ = replicate 52 0 in
-    let s : k ≡ m = omega arith in
-    let p : length (take k z) ≡ length (take m d) = length-take-le k z (omega (arith, used_most n)) ∙ s ∙ sym (length-take-le m d (omega (arith, used_most n))) in
-    let q : r ≡ take m d = rw (eq-eqb _ _ p) at h in
-    rw (q, drop_zeros k 52, s) (front n m d f l)
+    let s : k ≡ m = omega arith in rw (h, drop_zeros k 52, s) (front n m d f l)
 
 -- a packet that is built has 60 bytes
 packet_length : (c : ContentFields) → FitsContent c → length (content_bytes c) ≡ 60

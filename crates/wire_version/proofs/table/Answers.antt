@@ -1,25 +1,23 @@
--- `table` meets its contract. After i turns the first i components are read. Assumes nothing.
-use mathlib.Core.Path.{◌≡◌, refl, ◌∙◌}
+-- `table` meets its contract: each component from its place, up to the count. Assumes nothing.
+use mathlib.Core.Path.{◌≡◌}
+use Prim.Native.Nat.{ℕ, zero, suc, ◌<◌}
 use native.Mathlib.Omega.{arith}
-use lib.ListN.{drop, length-set}
-use Rattle.wire_version.specs.Reply.{entries, table_in}
-use Rattle.wire_version.proofs.Entries.{entries_more, entry_part}
 use borrow.Author.Rules.{rules}
+use lib.ListN.{get_or}
+use Rattle.wire.specs.Codes.{component_limit}
+use Rattle.wire_version.specs.Reply.{none, entry_of}
+use Rattle.wire_version.proofs.Entries.{table_read}
 use Rattle.wire_version.proofs.table.Goals as goal
 
-pub loop-i-init : goal.loop-i-init
-unfolding entries
-loop-i-init c = (rw c.no_component-none.ensures, refl, search rules, refl)
-
-pub loop-i-preserved : goal.loop-i-preserved
-loop-i-preserved c =
-    let p = c.args.p.now in
-    let l = c.loop-i in
-    let e = entries_more (drop 4 p) l.es l.i _ (omega arith) l.invariant.0 (c.entry_in.ensures ∙ entry_part p l.i (omega arith)) in
-    (e, simp length-set l.invariant.1, omega arith, refl)
+read_each : (c : goal.After-from_fn) (k : ℕ) → k < component_limit → get_or c.from_fn.result k none ≡ entry_of c.args.p.now c.args.count k
+read_each c zero h = search rules
+read_each c (suc zero) h = search rules
+read_each c (suc (suc zero)) h = search rules
+read_each c (suc (suc (suc zero))) h = search rules
+read_each c (suc (suc (suc (suc zero)))) h = search rules
+read_each c (suc (suc (suc (suc (suc zero))))) h = search rules
+read_each c (suc (suc (suc (suc (suc (suc zero)))))) h = search rules
+read_each c (suc (suc (suc (suc (suc (suc (suc k))))))) h = absurd (omega arith)
 
 pub returns : goal.returns
-unfolding table_in
-returns c =
-    let e : c.loop-i.i ≡ c.args.count = omega arith in
-    c.loop-i.invariant.0 ∙ rw e
+returns c = table_read c.args.p.now c.args.count c.requires.1 c.from_fn.result c.from_fn.ensures.items.long (read_each c)

@@ -30,7 +30,7 @@ judged c = bad_none (records_of (body_in (bundle c) (entry_at (bundle c) c.loop-
 
 pub loop-i-init : goal.loop-i-init
 unfolding row_b8
-loop-i-init c = (refl, c.no_entries-table.ensures, omega arith)
+loop-i-init c = (refl, c.no_entries-table.ensures)
 
 pub contents_in-x-requires : goal.contents_in-x-requires
 unfolding row_b5
@@ -46,7 +46,7 @@ pub returns-then-x-eq0 : goal.returns-then-x-eq0
 returns-then-x-eq0 c =
     let l = c.loop-i in
     let e = first_here (bundle (goal.at.returns-then-x-eq0 c).After-contents_in-x) (bad_body (bundle (goal.at.returns-then-x-eq0 c).After-contents_in-x)) l.i (omega arith) (judged (goal.at.returns-then-x-eq0 c).After-contents_in-x ∙ eq-eqb _ _ c.if-x-eq0.true) ∙ l.invariant.0 in
-    record { place_value = e; table_value = λ z. absurd (omega arith) }
+    record { place_value = (e, omega arith); table_value = tt }
 
 pub loop-i-preserved : goal.loop-i-preserved
 loop-i-preserved c =
@@ -54,7 +54,6 @@ loop-i-preserved c =
     let b = bundle (goal.at.loop-i-preserved c).After-contents_in-x in (
       first_on b (bad_body b) l.i (omega arith) (judged (goal.at.loop-i-preserved c).After-contents_in-x ∙ ne_eqb _ _ c.if-x-eq0.false) ∙ l.invariant.0,
       rw (l.invariant.1, read (goal.at.loop-i-preserved c).After-contents_in-x) (fill_more b offer_limit l.i (omega arith) (omega arith)),
-      omega arith,
     )
 
 pub returns : goal.returns
@@ -63,4 +62,4 @@ returns c =
     let b = c.args.b.now in
     let n : l.i ≡ count_in b = omega arith in
     let t : take (count_in b) (entries_in b) ≡ entries_in b = rw (← length_entries b) (take-length (entries_in b)) in
-    record { place_value = first_end b (bad_body b) l.i (omega arith) ∙ l.invariant.0; table_value = λ z. l.invariant.1 ∙ rw (n, t) }
+    record { place_value = tt; table_value = (sym (first_end b (bad_body b) l.i (omega arith) ∙ l.invariant.0), l.invariant.1 ∙ rw (n, t)) }

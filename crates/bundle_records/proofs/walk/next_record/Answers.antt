@@ -22,12 +22,12 @@ returns-then-bytes-end c = rw (le-leb _ _ c.if-end-at.false, lt-leb _ _ c.if-byt
 
 pub returns-in-Empty : goal.returns-in-Empty
 unfolding next_of
-returns-in-Empty c = rw (within (goal.at.returns-in-Empty c).Else-bytes-end, sym c.first-h.ensures, c.in-Empty.is)
+returns-in-Empty c = rw (within (goal.at.returns-in-Empty c).Else-bytes-end, sym c.first.ensures, c.in-Empty.is)
 
 pub returns-in-Cut : goal.returns-in-Cut
 unfolding next_of
-returns-in-Cut c = rw (within (goal.at.returns-in-Cut c).Else-bytes-end, sym c.first-h.ensures, c.in-Cut.is)
+returns-in-Cut c = rw (within (goal.at.returns-in-Cut c).Else-bytes-end, sym c.first.ensures, c.in-Cut.is)
 
 pub returns-in-Whole : goal.returns-in-Whole
 unfolding next_of
-returns-in-Whole c = rw (within (goal.at.returns-in-Whole c).Else-bytes-end, sym c.first-h.ensures, c.in-Whole.is)
+returns-in-Whole c = rw (within (goal.at.returns-in-Whole c).Else-bytes-end, sym c.first.ensures, c.in-Whole.is)

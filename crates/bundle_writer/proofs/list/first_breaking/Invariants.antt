@@ -1,6 +1,6 @@
 -- `list::first_breaking`: the entries that are left give the answer for all. Assumes nothing.
 use mathlib.Core.Path.{◌≡◌}
-use Prim.Native.Nat.{◌+◌, ◌-◌}
+use Prim.Native.Nat.{◌+◌}
 use lib.ListN.{drop}
 use Rattle.bundle_layout.specs.Layout.{entries_in}
 use Rattle.bundle_layout.specs.Rows.{first_entry}
@@ -11,6 +11,3 @@ use Rattle.bundle_writer.proofs.list.first_breaking.Given as goal
 
 abbrev pub invariant-loop-i : goal.invariant-loop-i
 invariant-loop-i l = first_entry (breaks l.rule l.images) (l.i + 1) (drop l.i (entries_in (headed l.list))) ≡ first_breaking l.rule l.list l.images
-
-abbrev pub decreases-loop-i : goal.decreases-loop-i
-decreases-loop-i l = l.count - l.i

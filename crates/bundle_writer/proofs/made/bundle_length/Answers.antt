@@ -7,7 +7,7 @@ use Rattle.device_component.specs.Setup.{staging_limit}
 use Rattle.bundle_cut.specs.Cut.{image_body}
 use Rattle.bundle_given.specs.Given.{image_at}
 use Rattle.bundle_writer.proofs.Promises.{made_size}
-use Rattle.bundle_writer.proofs.list.Laws.{entry_of, good_list, entry_in}
+use Rattle.bundle_writer.proofs.list.Laws.{entry_of, good_list}
 use Rattle.bundle_writer.proofs.made.Laws.{image_sized, body_most, bodies_on, bodies_none}
 use Rattle.bundle_writer.proofs.made.bundle_length.Goals.{After-body_length-size, After-image_at}
 use Rattle.bundle_writer.proofs.made.bundle_length.Goals as goal
@@ -15,7 +15,7 @@ use Rattle.bundle_writer.proofs.made.bundle_length.Goals as goal
 -- the image of this turn
 given : (c : After-image_at)
     → c.image_at.result.now ≡ image_at c.args.images.now (entry_of c.args.list.now c.loop-i.i)
-given c = rw c.entry_of-e.ensures.0 at c.image_at.ensures
+given c = rw c.entry_at-e.ensures at c.image_at.ensures
 
 -- what it adds
 counted : (c : After-body_length-size)
@@ -30,12 +30,7 @@ loop-i-init c =
     let s = c in
     let k = good_list s.args.list.now s.requires.0 in
     let m = made_size s.args.list.now s.args.images.now in
-    (c.count_of-count.ensures, omega arith, omega arith, omega arith)
-
-pub entry_of-e-requires : goal.entry_of-e-requires
-entry_of-e-requires c =
-    let s = c in
-    entry_in s.args.list.now s.requires.0 c.loop-i.i (omega arith)
+    (c.count_of-count.ensures, omega arith, omega arith)
 
 pub body_length-size-requires : goal.body_length-size-requires
 body_length-size-requires c =
@@ -52,7 +47,7 @@ loop-i-preserved c =
     let l = c.loop-i in
     let m = counted c in
     let n = bodies_on s.args.list.now s.args.images.now l.i (omega arith) in
-    (l.invariant.0, omega arith, omega arith, omega arith)
+    (l.invariant.0, omega arith, omega arith)
 
 pub returns : goal.returns
 returns c =

@@ -1,6 +1,6 @@
 -- `made::bundle_length` meets its contract: what was counted and the bodies that are left make the whole. Assumes nothing.
 use mathlib.Core.Path.{◌≡◌}
-use Prim.Native.Nat.{◌+◌, ◌-◌, ◌*◌, ◌≤◌}
+use Prim.Native.Nat.{◌+◌, ◌*◌, ◌≤◌}
 use lib.ListN.{length, drop}
 use Rattle.device_component.specs.Setup.{staging_limit}
 use Rattle.bundle_layout.specs.Layout.{offer_limit, table_end}
@@ -11,8 +11,5 @@ use Rattle.bundle_writer.proofs.made.bundle_length.Given as goal
 
 abbrev pub invariant-loop-i : goal.invariant-loop-i
 invariant-loop-i l =
-    (l.count ≡ count_of l.list) × (l.i ≤ l.count) × (l.size + bodies_length l.images (drop l.i (entries_of l.list)) ≡ length (made_bundle l.list l.images))
+    (l.count ≡ count_of l.list) × (l.size + bodies_length l.images (drop l.i (entries_of l.list)) ≡ length (made_bundle l.list l.images))
     × (l.size ≤ table_end offer_limit + l.i * (8 * staging_limit))
-
-abbrev pub decreases-loop-i : goal.decreases-loop-i
-decreases-loop-i l = l.count - l.i

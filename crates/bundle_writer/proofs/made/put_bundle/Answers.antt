@@ -29,7 +29,7 @@ headed c =
 -- the image of this turn, and the room for its body
 given : (c : After-image_at)
     → c.image_at.result.now ≡ image_at c.args.images.now (entry_of c.args.list.now c.loop-i.i)
-given c = rw c.entry_of-e.ensures.0 at c.image_at.ensures
+given c = rw c.entry_at-e.ensures at c.image_at.ensures
 
 room : (c : After-image_at) →
     let s = c in
@@ -41,8 +41,8 @@ room c =
     let l = c.loop-i in
     let n = bodies_on s.args.list.now s.args.images.now l.i (omega arith) in
     let h = headed (goal.at.After-image_at c).After-put_head in
-    let r = l.invariant.2.room in
-    let o = l.invariant.2.long in (omega arith, omega arith)
+    let r = l.invariant.1.room in
+    let o = l.invariant.1.long in (omega arith, omega arith)
 
 -- what the body's place became
 ended : (c : After-put_body-next) →
@@ -64,16 +64,10 @@ loop-i-init c =
     let m = made_size s.args.list.now s.args.images.now in
     let k = c.count_of-count.ensures in (
       k,
-      omega arith,
       rw (c.table_end-end.ensures, k)
           (fill_start s.args.list.now s.args.images.now c.put_head.new.out (omega arith)
           (rw h.0 (put_again (count_of s.args.list.now ∷ 1 ∷ replicate 6 0) s.args.out.now (omega arith)))),
     )
-
-pub entry_of-e-requires : goal.entry_of-e-requires
-entry_of-e-requires c =
-    let s = c in
-    entry_in s.args.list.now s.requires.list_value.0 c.loop-i.i (omega arith)
 
 pub put_body-next-requires : goal.put_body-next-requires
 put_body-next-requires c =
@@ -100,7 +94,7 @@ put_entry-requires c =
     let r = room (goal.at.put_entry-requires c).After-image_at in
     let n = ap length e.1 ∙ put_length l.end _ l.out (omega arith) in
     let m = made_size s.args.list.now s.args.images.now in
-    (c.entry_of-e.ensures.1, omega arith)
+    (ap length c.entry_at-e.ensures ∙ length_entry s.args.list.now l.i (entry_in s.args.list.now s.requires.list_value.0 l.i (omega arith)), omega arith)
 
 pub loop-i-preserved : goal.loop-i-preserved
 loop-i-preserved c =
@@ -108,13 +102,13 @@ loop-i-preserved c =
     let l = c.loop-i in
     let e = ended (goal.at.loop-i-preserved c).After-put_body-next in
     let h = headed (goal.at.loop-i-preserved c).After-put_head in
-    let f = fill_on s.args.list.now s.args.images.now c.put_head.new.out (omega arith) l.out l.end l.i l.invariant.2 (omega arith)
+    let f = fill_on s.args.list.now s.args.images.now c.put_head.new.out (omega arith) l.out l.end l.i l.invariant.1 (omega arith)
     (length_entry s.args.list.now l.i (entry_in s.args.list.now s.requires.list_value.0 l.i (omega arith))) in
     let g : c.put_body-next.result - l.end ≡ length (image_body (image_at s.args.images.now (entry_of s.args.list.now l.i))) = omega arith in
-    (l.invariant.0, omega arith, rw (c.put_entry.ensures, c.entry_of-e.ensures.0, c.table_end.ensures, e.1, g, e.0) f)
+    (l.invariant.0, rw (c.put_entry.ensures, c.entry_at-e.ensures, c.table_end.ensures, e.1, g, e.0) f)
 
 pub shape_of-out : goal.shape_of-out
-shape_of-out c = c.loop-i.invariant.2.long ∙ (headed (goal.at.shape_of-out c).After-put_head).1
+shape_of-out c = c.loop-i.invariant.1.long ∙ (headed (goal.at.shape_of-out c).After-put_head).1
 
 pub returns : goal.returns
 returns c =
@@ -122,5 +116,5 @@ returns c =
     let l = c.loop-i in
     let h = headed (goal.at.returns c).After-put_head in
     let m = made_size s.args.list.now s.args.images.now in
-    fill_end s.args.list.now s.args.images.now c.put_head.new.out (omega arith) l.out l.end l.i l.invariant.2 (omega arith)
+    fill_end s.args.list.now s.args.images.now c.put_head.new.out (omega arith) l.out l.end l.i l.invariant.1 (omega arith)
     ∙ rw h.0 (over_put (made_bundle s.args.list.now s.args.images.now) _ s.args.out.now (omega arith))

@@ -1,30 +1,24 @@
--- `setup::set_up` meets its contract: the blank record where a row refuses, and the new one where none does. Assumes nothing.
+-- `setup::set_up` meets its contract: the row that refuses, or the new record where none does. Assumes nothing.
 use mathlib.Core.Path.{sym}
 use native.Mathlib.Omega.{arith}
 use lib.ListN.{length}
+use Rattle.std.proofs.lemmas.Result.{err_from_is_err_and}
 use Rattle.device.specs.Entries.{set_up_of}
-use Rattle.wire.proofs.Chain.{by}
-use Rattle.device_session.proofs.sound.Laws.{fine}
 use Rattle.device_component.proofs.setup.Laws.{fine_staging}
-use Rattle.device.proofs.setup.Laws.{refused_set_up, made_set_up}
 use Rattle.device.proofs.setup.set_up.Goals as goal
 
-pub returns-then-is_refused : goal.returns-then-is_refused
+pub returns-in_err-setup_verdict : goal.returns-in_err-setup_verdict
 unfolding set_up_of
-returns-then-is_refused c =
-    let v = c.setup_verdict-verdict in
-    rw (← c.components_of-components.ensures, ← v.ensures, c.blank-device.ensures)
-    (sym (refused_set_up v.result _ (by c.is_refused.ensures c.if-is_refused.true)))
+returns-in_err-setup_verdict c =
+    let p = err_from_is_err_and c.from_residual.result c.from_residual.ensures.1 in
+    rw (p.1, p.2, ← c.components_of-components.ensures, ← c.in_err-setup_verdict.ensures)
 
-pub overflow_cast-device : goal.overflow_cast-device
-overflow_cast-device c =
+pub overflow_cast-result : goal.overflow_cast-result
+overflow_cast-result c =
     let n = length c.args.staging.now in
-    let h = rw c.setup_verdict-verdict.ensures at (by c.is_refused.ensures c.if-is_refused.false) in
-    record { fits = omega (arith, fine_staging n _ _ (fine _ h)) }
+    record { fits = omega (arith, fine_staging n _ _ (sym c.in_ok-setup_verdict.ensures)) }
 
 pub returns : goal.returns
 unfolding set_up_of
 returns c =
-    let v = c.setup_verdict-verdict in
-    rw (← c.components_of-components.ensures, ← v.ensures, c.idle-session.ensures)
-    (sym (made_set_up v.result _ (by c.is_refused.ensures c.if-is_refused.false)))
+    rw (← c.components_of-components.ensures, ← c.in_ok-setup_verdict.ensures, c.idle-session.ensures)

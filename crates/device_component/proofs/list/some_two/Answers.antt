@@ -1,36 +1,36 @@
 -- `list::some_two` meets its contract: what is left of the list has such two where the whole has. Assumes nothing.
-use mathlib.Core.Path.{◌≡◌, refl, sym, ◌∙◌}
-use native.Mathlib.Omega.{arith}
-use borrow.Author.Rules.{rules}
-use lib.ListN.{length, take}
-use Rattle.device_component.specs.Rules.{pair_holds}
-use Rattle.device_component.proofs.list.Loops.{ends, two_here, two_on, two_end}
-use Rattle.device_component.proofs.list.some_two.Goals.{After-within_slots-end}
+use Rattle.std.proofs.Common.{◌≡◌, ◌∷◌, sym, ◌∙◌, rules, tests}
+use Rattle.std.proofs.lemmas.List.{nil_from_length}
+use Rattle.std.proofs.lemmas.Iterator.{YieldsList-from_slice}
+use Rattle.std.proofs.lemmas.Iterator.Search.{any_from_yields_List}
+use Rattle.wire.specs.Checks.{pairs}
+use Rattle.device_component.proofs.list.Searches.{any_listed}
 use Rattle.device_component.proofs.list.some_two.Goals as goal
 
--- the loop ends where the list does
-last : (c : After-within_slots-end) → c.within_slots-end.result ≡ length (take c.args.count c.args.components)
-last c = ends c.args.count c.args.components (search rules) c.within_slots-end.ensures
+pub returns-then-any : goal.returns-then-any
+unfolding pairs
+returns-then-any g c =
+    let later = c.in-Some.later.now in
+    let test = g.holds c.in-Some.c.now in
+    let a = any_from_yields_List test _ _ c.any.result c.any.ensures.ran (YieldsList-from_slice later cc) (λ x b q k. search (rules, tests, c.requires.1.1)) in
+    let e : c.loop-c.rest.now ≡ c.in-Some.c.now ∷ later = search rules in
+    let h = rw e at c.loop-c.invariant in
+    let t = sym (any_listed test later) ∙ sym a ∙ c.if-any.true in
+    rw t at h
 
-pub loop-i-init : goal.loop-i-init
-loop-i-init c = refl
-
-pub returns-then-some : goal.returns-then-some
-returns-then-some c =
-    let s = (goal.at.returns-then-some c).After-within_slots-end in
-    let l = c.loop-i in
-    let e = rw c.rule_of-rule.ensures at (sym c.some.ensures ∙ c.if-some.true) in
-    two_here s.args.components s.args.count l.i (pair_holds s.args.pair) _ (omega (arith, last s)) e ∙ l.invariant
-
-pub loop-i-preserved : goal.loop-i-preserved
-loop-i-preserved c =
-    let s = (goal.at.loop-i-preserved c).After-within_slots-end in
-    let l = c.loop-i in
-    let e = rw c.rule_of-rule.ensures at (sym c.some.ensures ∙ c.if-some.false) in
-    two_on s.args.components s.args.count l.i (pair_holds s.args.pair) _ (omega (arith, last s)) e ∙ l.invariant
+pub loop-c-preserved : goal.loop-c-preserved
+unfolding pairs
+loop-c-preserved g c =
+    let later = c.in-Some.later.now in
+    let test = g.holds c.in-Some.c.now in
+    let a = any_from_yields_List test _ _ c.any.result c.any.ensures.ran (YieldsList-from_slice later cc) (λ x b q k. search (rules, tests, c.requires.1.1)) in
+    let e : c.loop-c.rest.now ≡ c.in-Some.c.now ∷ later = search rules in
+    let h = rw e at c.loop-c.invariant in
+    let t = sym (any_listed test later) ∙ sym a ∙ c.if-any.false in
+    rw t at h
 
 pub returns : goal.returns
-returns c =
-    let s = (goal.at.returns c).After-within_slots-end in
-    let l = c.loop-i in
-    two_end s.args.components s.args.count l.i (pair_holds s.args.pair) (omega (arith, last s)) ∙ l.invariant
+unfolding pairs
+returns g c =
+    let e = nil_from_length c.loop-c.rest.now (rw c.in_default.is at c.split_first.ensures.cases) in
+    rw e at c.loop-c.invariant

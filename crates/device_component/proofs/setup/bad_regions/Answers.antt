@@ -1,7 +1,16 @@
 -- `setup::bad_regions` meets its contract: S4 over the list. Assumes nothing.
-use Rattle.device_component.specs.Setup.{bad_regions}
+use Rattle.std.proofs.Common.{rules, tests}
+use Rattle.std.proofs.lemmas.Iterator.{YieldsList-from_slice}
+use Rattle.std.proofs.lemmas.Iterator.Search.{any_from_yields_List}
+use Rattle.device_component.specs.declared.record.Component.{Component}
+use Rattle.device_component.specs.Setup.{bad_region, bad_regions}
+use Rattle.device_component.proofs.list.Searches.{any_listed}
 use Rattle.device_component.proofs.setup.bad_regions.Goals as goal
 
 pub returns : goal.returns
 unfolding bad_regions
-returns c = rw (c.some.ensures, c.some_two.ensures)
+returns c =
+    let listed = c.args.listed.now in
+    let test = λ (x : Component). bad_region c.args.n x.fixed.region in
+    let a = any_from_yields_List test _ _ c.any.result c.any.ensures.ran (YieldsList-from_slice listed cc) (λ x b q k. search (rules, tests)) in
+    rw (a, any_listed, c.some_two.ensures)

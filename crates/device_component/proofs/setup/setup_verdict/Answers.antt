@@ -14,16 +14,16 @@ returns-then-bad_count c = search chain
 
 pub returns-then-bad_ids : goal.returns-then-bad_ids
 unfolding setup_verdict first_of
-returns-then-bad_ids c = search chain
+returns-then-bad_ids c = rw (← c.in_use-listed.ensures) (search chain)
 
 pub returns-then-bad_regions : goal.returns-then-bad_regions
 unfolding setup_verdict first_of
-returns-then-bad_regions c = search chain
+returns-then-bad_regions c = rw (← c.in_use-listed.ensures) (search chain)
 
 pub returns-then-bad_floors : goal.returns-then-bad_floors
 unfolding setup_verdict first_of
-returns-then-bad_floors c = search chain depth 6
+returns-then-bad_floors c = rw (← c.in_use-listed.ensures) (search chain depth 6)
 
 pub returns : goal.returns
 unfolding setup_verdict first_of
-returns c = search chain depth 6
+returns c = rw (← c.in_use-listed.ensures) (search chain depth 6)

@@ -4,4 +4,4 @@ use Rattle.device_in_place.proofs.fields.standing_in.Goals as goal
 
 pub returns : goal.returns
 returns c =
-    rw (count_read c.args.b.now, c.component_at-component.ensures, c.slot_of.ensures, c.find_in-at.ensures, c.count_in.ensures)
+    rw (count_read c.args.b.now, c.component_at-component.ensures, c.unwrap_or.ensures, c.find_in-at.ensures, c.count_in.ensures)

@@ -4,8 +4,8 @@ use Rattle.device_session.specs.declared.effect.Effect.{Effect}
 use Rattle.device_offering.specs.Packet.{on_packet}
 use Rattle.device.specs.Refusals.{served_with}
 use Rattle.device_bytes.specs.Layout.{device_in, with_session_bytes}
-use Rattle.device_in_place.specs.InPlace.{outcome_of, served_reply}
-use Rattle.device_in_place.specs.declared.Reply.{Reply}
+use Rattle.device_in_place.specs.InPlace.{outcome_of}
+use Rattle.std.specs.Prelude.{Ok}
 use Rattle.device_bytes.proofs.Fields.{platform_read, session_read}
 use Rattle.device_in_place.proofs.offer.on_packet.Goals as goal
 
@@ -24,6 +24,6 @@ returns c =
       c.id_of.ensures,
       c.session_in-session.ensures ∙ session_read b,
     ) in (
-      ap (λ (x : Reply). outcome_of x (served_with d d.components next).device) (c.served.ensures ∙ ap served_reply e),
+      ap (λ (x : Effect). outcome_of (Ok x.replies) (served_with d d.components next).device) e,
       c.store_session.ensures ∙ ap (λ (x : Effect). with_session_bytes x.session b) e,
     )

@@ -1,43 +1,22 @@
--- `sound::clashes` meets its contract: what is left of the components gives the answer for all. Assumes nothing.
-use mathlib.Core.Path.{◌≡◌, refl, sym, ◌∙◌}
-use native.Mathlib.Omega.{arith}
-use lib.ListN.{length, take}
+-- `sound::clashes` meets its contract: some component from that slot on clashes with this one. Assumes nothing.
+use Rattle.std.proofs.Common.{◌≡◌, ℕ, ◌-◌, ◌∙◌, refl, arith, rules, tests}
+use Rattle.std.proofs.lemmas.Iterator.{YieldsList-from_range}
+use Rattle.std.proofs.lemmas.Iterator.Search.{any_from_yields_List}
+use Rattle.device_component.specs.Lists.{component_at}
+use Rattle.device_component.specs.Record.{blank_component}
 use Rattle.device_component.specs.Rules.{clash}
-use Rattle.device_component.proofs.list.Loops.{ends, any_here, any_on, any_end}
+use Rattle.device_component.proofs.list.Loops.{ends}
 use Rattle.device_bytes.specs.Layout.{device_in}
 use Rattle.device_bytes.proofs.Fields.{full_in}
-use Rattle.device_in_place.proofs.sound.clashes.Goals.{After-within_slots-end}
+use Rattle.device_in_place.proofs.Walks.{walk_any}
 use Rattle.device_in_place.proofs.sound.clashes.Goals as goal
-
--- the loop ends where the list does
-last : (c : After-within_slots-end) → c.within_slots-end.result ≡ length (take c.args.count (device_in c.args.b.now).components)
-last c =
-    let a = c.args in ends a.count (device_in a.b.now).components (full_in a.b.now) c.within_slots-end.ensures
-
-pub loop-i-init : goal.loop-i-init
-loop-i-init c = refl
-
-pub returns-then-clash : goal.returns-then-clash
-returns-then-clash c =
-    let s = (goal.at.returns-then-clash c).After-within_slots-end in
-    let l = c.loop-i in
-    let a = s.args in
-    any_here (device_in a.b.now).components a.count l.i (clash a.c) _ (omega (arith, last s))
-    (rw c.component_at-d.ensures at (sym c.clash.ensures ∙ c.if-clash.true))
-    ∙ l.invariant
-
-pub loop-i-preserved : goal.loop-i-preserved
-loop-i-preserved c =
-    let s = (goal.at.loop-i-preserved c).After-within_slots-end in
-    let l = c.loop-i in
-    let a = s.args in
-    any_on (device_in a.b.now).components a.count l.i (clash a.c) _ (omega (arith, last s))
-    (rw c.component_at-d.ensures at (sym c.clash.ensures ∙ c.if-clash.false))
-    ∙ l.invariant
 
 pub returns : goal.returns
 returns c =
-    let s = (goal.at.returns c).After-within_slots-end in
-    let l = c.loop-i in
-    let a = s.args in
-    any_end (device_in a.b.now).components a.count l.i (clash a.c) (omega (arith, last s)) ∙ l.invariant
+    let a = c.args in
+    let cs = (device_in a.b.now).components in
+    let k = c.within_slots.result in
+    let test = λ (i : ℕ). clash a.c (component_at cs i) in
+    let n = k - a.from in
+    any_from_yields_List test _ _ c.any.result c.any.ensures.ran (YieldsList-from_range a.from k n (cc) refl) (λ i x q k. search rules)
+    ∙ walk_any cs blank_component a.count (clash a.c) n a.from (omega (arith, ends a.count cs (full_in a.b.now) c.within_slots.ensures))

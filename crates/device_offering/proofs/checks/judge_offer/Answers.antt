@@ -11,5 +11,5 @@ returns c =
       c.unless_rejected-two.ensures,
       c.unless-eight.ensures,
       c.need_unmet.ensures,
-      c.slot_of.ensures,
+      c.unwrap_or.ensures,
     )

@@ -1,4 +1,5 @@
 -- `checks::unless_rejected` meets its contract: each check before those after it. Assumes nothing.
+use Rattle.std.proofs.Math.Bool.{not-not}
 use Rattle.wire.specs.Checks.{first_of}
 use Rattle.device_offering.proofs.checks.unless_rejected.Goals as goal
 
@@ -8,7 +9,8 @@ returns c =
     rw (
       c.unless.ensures,
       c.unless-three.ensures,
-      c.is_absent.ensures,
+      c.is_none.ensures,
+      not-not,
       c.unless-four.ensures,
       c.unless-five.ensures,
       c.unless-six.ensures,

@@ -5,17 +5,17 @@ use Rattle.device_offering.specs.Signal.{on_notify}
 use Rattle.wire.proofs.Chain.{by}
 use Rattle.device_offering.proofs.signal.on_notify.Goals as goal
 
-pub returns-in-Nothing : goal.returns-in-Nothing
-returns-in-Nothing c =
+pub returns-in-None : goal.returns-in-None
+returns-in-None c =
     let a = c.args in
     c.silent.ensures ∙ rw c.owing-next.ensures
-    (sym (ap₂ (on_notify a.session a.token) (by c.is_open.ensures c.if-is_open.true) c.in-Nothing.is))
+    (sym (ap₂ (on_notify a.session a.token) (by c.is_open.ensures c.if-is_open.true) c.in-None.is))
 
-pub returns-in-Token : goal.returns-in-Token
-returns-in-Token c =
+pub returns-in-Some : goal.returns-in-Some
+returns-in-Some c =
     let a = c.args in
     c.plain_reply.ensures
-    ∙ sym (ap₂ (on_notify a.session a.token) (by c.is_open.ensures c.if-is_open.true) c.in-Token.is)
+    ∙ sym (ap₂ (on_notify a.session a.token) (by c.is_open.ensures c.if-is_open.true) c.in-Some.is)
 
 pub returns-else-is_open : goal.returns-else-is_open
 returns-else-is_open c =

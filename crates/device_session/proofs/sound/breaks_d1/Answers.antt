@@ -14,7 +14,7 @@ returns c =
       c.owes_on.ensures,
       c.some_unsound.ensures,
       c.component_at-component.ensures,
-      c.slot_of.ensures,
+      c.unwrap_or.ensures,
       c.open_slot-slot.ensures,
     )
     (sym (grouped a.n a.count a.components a.session))

@@ -13,7 +13,7 @@ use borrow.Author.Rules.{rules}
 use Rattle.device_slots.proofs.all.reset_components.Goals as goal
 
 pub loop-i-init : goal.loop-i-init
-loop-i-init c = (refl, search rules, c.within_slots-n.ensures)
+loop-i-init c = refl
 
 pub loop-i-preserved : goal.loop-i-preserved
 loop-i-preserved c =
@@ -21,14 +21,14 @@ loop-i-preserved c =
     let l = c.loop-i in
     let n : length s.components ≡ component_limit = search rules in
     let e : c.after_reset.result ≡ after_reset (get_or s.components l.i blank_component)
-    = c.after_reset.ensures ∙ ap (λ (p : List Component). after_reset (get_or p l.i blank_component)) l.invariant.0
+    = c.after_reset.ensures ∙ ap (λ (p : List Component). after_reset (get_or p l.i blank_component)) l.invariant
     ∙ ap after_reset (still after_reset s.components s.components refl l.i (omega arith) blank_component) in
-    (ap (λ (p : List Component). set p l.i c.after_reset.result) l.invariant.0 ∙ turn after_reset s.components s.components refl l.i (omega arith) blank_component blank_component _ e, omega arith, l.invariant.2)
+    ap (λ (p : List Component). set p l.i c.after_reset.result) l.invariant ∙ turn after_reset s.components s.components refl l.i (omega arith) blank_component blank_component _ e
 
 pub returns : goal.returns
 returns c =
     let s = c.args in
     let l = c.loop-i in
     let n : length s.components ≡ component_limit = search rules in
-    let e : l.i ≡ length (take s.count s.components) = ends s.count s.components n (omega (arith, l.invariant.2)) in
-    l.invariant.0 ∙ first_turned after_reset s.components s.count l.i e
+    let e : l.i ≡ length (take s.count s.components) = ends s.count s.components n (omega (arith, c.within_slots-i-end.ensures)) in
+    l.invariant ∙ first_turned after_reset s.components s.count l.i e

@@ -1,13 +1,8 @@
 -- `all::reset_components` meets its contract: after i turns the first i are reset. Assumes nothing.
 use mathlib.Core.Path.{◌≡◌}
-use Prim.Native.Nat.{◌≤◌, ◌-◌, min}
 use Rattle.device_slots.proofs.Turns.{turned}
-use Rattle.wire.specs.Codes.{component_limit}
 use Rattle.device_component.specs.Record.{after_reset}
 use Rattle.device_slots.proofs.all.reset_components.Given as goal
 
 abbrev pub invariant-loop-i : goal.invariant-loop-i
-invariant-loop-i l = (l.components ≡ turned after_reset l.initial.components l.initial.components l.i) × (l.i ≤ l.n) × (l.n ≡ min l.count component_limit)
-
-abbrev pub decreases-loop-i : goal.decreases-loop-i
-decreases-loop-i l = l.n - l.i
+invariant-loop-i l = l.components ≡ turned after_reset l.initial.components l.initial.components l.i

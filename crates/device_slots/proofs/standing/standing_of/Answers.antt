@@ -2,4 +2,4 @@
 use Rattle.device_slots.proofs.standing.standing_of.Goals as goal
 
 pub returns : goal.returns
-returns c = rw (c.component_at-component.ensures, c.slot_of.ensures, c.find-at.ensures)
+returns c = rw (c.component_at-component.ensures, c.unwrap_or.ensures, c.find-at.ensures)

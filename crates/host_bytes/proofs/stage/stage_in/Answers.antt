@@ -21,7 +21,7 @@ pub returns-in-6 : goal.returns-in-6
 returns-in-6 c = rw c.in-6.is
 
 pub returns-in-7 : goal.returns-in-7
-returns-in-7 c = rw (c.in-7.is, c.end_in-e.ensures)
+returns-in-7 c = rw (c.in-7.is, c.end_in.ensures)
 
 pub returns-in_default : goal.returns-in_default
 returns-in_default c = let k = c.in_default.in_default-own.rest in rw (ne_eqb _ _ k.0.0.0.0.0.0.1, ne_eqb _ _ k.0.0.0.0.0.1, ne_eqb _ _ k.0.0.0.0.1, ne_eqb _ _ k.0.0.0.1, ne_eqb _ _ k.0.0.1, ne_eqb _ _ k.0.1, ne_eqb _ _ k.1)

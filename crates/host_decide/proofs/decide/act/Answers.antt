@@ -1,54 +1,51 @@
 -- `decide::act`: what each code does. Assumes nothing.
-use borrow.Author.Tests.{lt-ltb, le-ltb, ne_eqb}
+use borrow.Author.Tests.{lt-ltb, le-ltb}
 use mathlib.Core.Path.{ap, ◌∙◌}
 use Prim.Native.Nat.{◌+◌}
 use Rattle.host_decide.specs.Decide.{act, offer_from}
 use Rattle.host_decide.proofs.decide.act.Goals as goal
 
-pub offer_from-requires-in-4 : goal.offer_from-requires-in-4
-offer_from-requires-in-4 c = rw c.noted.ensures c.requires.0.0
+pub offer_from-requires-in-Some-NextOffer : goal.offer_from-requires-in-Some-NextOffer
+offer_from-requires-in-Some-NextOffer c = rw c.noted.ensures c.requires.0.0
 
-pub returns-in-1 : goal.returns-in-1
+pub returns-in-Some-List : goal.returns-in-Some-List
 unfolding act
-returns-in-1 c = rw c.in-1.is c.list.ensures
+returns-in-Some-List c = rw (c.in-Some-List.is, (rw c.in-Some-List.is at c.in-Some-List.field-0-is)) c.list.ensures
 
-pub returns-in-2 : goal.returns-in-2
+pub returns-in-Some-Offer : goal.returns-in-Some-Offer
 unfolding act
-returns-in-2 c = rw c.in-2.is c.offer_from.ensures
+returns-in-Some-Offer c = rw (c.in-Some-Offer.is, (rw c.in-Some-Offer.is at c.in-Some-Offer.field-0-is)) c.offer_from.ensures
 
-pub returns-in-3 : goal.returns-in-3
+pub returns-in-Some-Send : goal.returns-in-Some-Send
 unfolding act
-returns-in-3 c = rw c.in-3.is c.send_block.ensures
+returns-in-Some-Send c = rw (c.in-Some-Send.is, (rw c.in-Some-Send.is at c.in-Some-Send.field-0-is)) c.send_block.ensures
 
-pub returns-in-4 : goal.returns-in-4
+pub returns-in-Some-NextOffer : goal.returns-in-Some-NextOffer
 unfolding act
-returns-in-4 c =
+returns-in-Some-NextOffer c =
     let a = c.args in
-    rw c.in-4.is (c.offer_from-in-4.ensures ∙ ap (offer_from a.n (a.t.entry + 1)) c.noted.ensures)
+    rw (c.in-Some-NextOffer.is, (rw c.in-Some-NextOffer.is at c.in-Some-NextOffer.field-0-is)) (c.offer_from-in-Some-NextOffer.ensures ∙ ap (offer_from a.n (a.t.entry + 1)) c.noted.ensures)
 
 pub returns-then-t-lt-BUSY_LIMIT : goal.returns-then-t-lt-BUSY_LIMIT
 unfolding act
-returns-then-t-lt-BUSY_LIMIT c = rw (c.in-5.is, lt-ltb _ _ c.if-t-lt-BUSY_LIMIT.true) c.sends.ensures
+returns-then-t-lt-BUSY_LIMIT c = rw (c.in-Some-Wait.is, (rw c.in-Some-Wait.is at c.in-Some-Wait.field-0-is), lt-ltb _ _ c.if-t-lt-BUSY_LIMIT.true) c.sends.ensures
 
 pub returns-else-t-lt-BUSY_LIMIT : goal.returns-else-t-lt-BUSY_LIMIT
 unfolding act
-returns-else-t-lt-BUSY_LIMIT c = rw (c.in-5.is, le-ltb _ _ c.if-t-lt-BUSY_LIMIT.false) c.ends.ensures
+returns-else-t-lt-BUSY_LIMIT c = rw (c.in-Some-Wait.is, (rw c.in-Some-Wait.is at c.in-Some-Wait.field-0-is), le-ltb _ _ c.if-t-lt-BUSY_LIMIT.false) c.ends.ensures
 
-pub returns-in-6 : goal.returns-in-6
+pub returns-in-Some-Same : goal.returns-in-Some-Same
 unfolding act
-returns-in-6 c = rw c.in-6.is c.sends-in-6.ensures
+returns-in-Some-Same c = rw (c.in-Some-Same.is, (rw c.in-Some-Same.is at c.in-Some-Same.field-0-is)) c.sends-in-Some-Same.ensures
 
 pub returns-then-replays : goal.returns-then-replays
 unfolding act
-returns-then-replays c = rw (c.in-7.is, ← c.replays.ensures, c.if-replays.true) c.list-then-replays.ensures
+returns-then-replays c = rw (c.in-Some-Decide.is, (rw c.in-Some-Decide.is at c.in-Some-Decide.field-0-is), ← c.replays.ensures, c.if-replays.true) c.list-then-replays.ensures
 
 pub returns-else-replays : goal.returns-else-replays
 unfolding act
-returns-else-replays c = rw (c.in-7.is, ← c.replays.ensures, c.if-replays.false) c.ends-else-replays.ensures
+returns-else-replays c = rw (c.in-Some-Decide.is, (rw c.in-Some-Decide.is at c.in-Some-Decide.field-0-is), ← c.replays.ensures, c.if-replays.false) c.ends-else-replays.ensures
 
-pub returns-in_default : goal.returns-in_default
+pub returns-in-None : goal.returns-in-None
 unfolding act
-returns-in_default c =
-    let r = c.in_default.in_default-own.rest in
-    simp (ne_eqb _ 1 r.0.0.0.0.0.0.1, ne_eqb _ 2 r.0.0.0.0.0.1, ne_eqb _ 3 r.0.0.0.0.1, ne_eqb _ 4 r.0.0.0.1, ne_eqb _ 5 r.0.0.1, ne_eqb _ 6 r.0.1, ne_eqb _ 7 r.1)
-    c.ends-in_default.ensures
+returns-in-None c = rw c.in-None.is c.ends-in-None.ensures

@@ -3,10 +3,10 @@ use borrow.Author.Tests.{eq-eqb, ne_eqb}
 use Rattle.host_packet.specs.Made.{written_of}
 use Rattle.host_packet.proofs.action.written.Goals as goal
 
-pub returns-then-packet-eq-PACKET_SIZE : goal.returns-then-packet-eq-PACKET_SIZE
+pub returns : goal.returns
 unfolding written_of
-returns-then-packet-eq-PACKET_SIZE c = rw (eq-eqb _ _ c.if-packet-eq-PACKET_SIZE.true) c.written_in.ensures
+returns c = rw (eq-eqb _ _ c.in_ok-packet.ensures.cases.long) c.written_in.ensures
 
-pub returns-else-packet-eq-PACKET_SIZE : goal.returns-else-packet-eq-PACKET_SIZE
+pub returns-in_err-packet : goal.returns-in_err-packet
 unfolding written_of
-returns-else-packet-eq-PACKET_SIZE c = rw (ne_eqb _ _ c.if-packet-eq-PACKET_SIZE.false)
+returns-in_err-packet c = rw (ne_eqb _ _ c.in_err-packet.ensures.cases, c.from_residual.ensures)

@@ -1,17 +1,14 @@
 -- `action::written_in` meets its contract: by the action. Assumes nothing.
 use mathlib.Core.Path.{refl}
-use mathlib.Core.Bool.{true}
 use Rattle.host_packet.specs.Made.{laid_of}
-use Rattle.host_packet.proofs.action.Laws.{offer_laid, none_laid}
+use Rattle.host_packet.proofs.action.Laws.{offer_laid}
 use Rattle.host_packet.proofs.action.written_in.Goals.{In-Nothing}
 use Rattle.host_packet.proofs.action.written_in.Goals as goal
 
 pub returns-in-Nothing : goal.returns-in-Nothing
 unfolding laid_of
 returns-in-Nothing c =
-    let m = (goal.at.returns-in-Nothing c).In-Nothing in
-    let s = m in
-    rw m.in-Nothing.is (none_laid _ true _ s.args.cursor s.requires c.none.ensures)
+    rw (goal.at.returns-in-Nothing c).In-Nothing.in-Nothing.is c.silent.ensures
 
 pub returns-in-Information : goal.returns-in-Information
 unfolding laid_of

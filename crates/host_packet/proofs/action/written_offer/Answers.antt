@@ -1,7 +1,6 @@
 -- `action::written_offer` meets its contract: by the test. Assumes nothing.
-use mathlib.Core.Bool.{false}
 use borrow.Author.Tests.{le-leb, lt-leb}
-use Rattle.host_packet.proofs.action.Laws.{offer_laid, none_laid, offer_length}
+use Rattle.host_packet.proofs.action.Laws.{offer_laid, offer_length}
 use Rattle.host_packet.proofs.action.written_offer.Goals.{Else-entry-b}
 use Rattle.host_packet.proofs.action.written_offer.Goals as goal
 
@@ -13,6 +12,4 @@ returns-then-entry-b c =
 
 pub returns-else-entry-b : goal.returns-else-entry-b
 returns-else-entry-b c =
-    let f = (goal.at.returns-else-entry-b c).Else-entry-b in
-    let s = f in
-    rw (lt-leb _ _ f.if-entry-b.false) (none_laid _ false _ s.args.cursor s.requires c.none.ensures)
+    rw (lt-leb _ _ (goal.at.returns-else-entry-b c).Else-entry-b.if-entry-b.false) (c.lacking.ensures c.args.cursor)

@@ -2,4 +2,4 @@
 use Rattle.host_record.proofs.fits.breaks.Goals as goal
 
 pub returns : goal.returns
-returns c = rw (c.stage_breaks-points.ensures, c.mask_breaks-masked.ensures)
+returns c = rw (c.stage_breaks.ensures, c.mask_breaks.ensures)

@@ -4,9 +4,9 @@ use lib.ListN.{length}
 use Rattle.update.proofs.turn.Laws.{Reached, left_of}
 use Rattle.update.proofs.turn.run_to_end.Given as goal
 
-abbrev pub invariant-loop-table : goal.invariant-loop-table
-invariant-loop-table l =
-    Reached l.bundle l.token l.initial.e.device l.initial.staging l.e l.staging × (l.stage ≡ l.e.host.stage) × (length l.staging ≡ length l.initial.staging)
+abbrev pub invariant-loop-checked : goal.invariant-loop-checked
+invariant-loop-checked l =
+    Reached l.bundle l.token l.initial.e.device l.initial.staging l.e l.staging × (length l.staging ≡ length l.initial.staging)
 
-abbrev pub decreases-loop-table : goal.decreases-loop-table
-decreases-loop-table l = left_of l.bundle l.e.host
+abbrev pub decreases-loop-checked : goal.decreases-loop-checked
+decreases-loop-checked l = left_of l.bundle l.e.host

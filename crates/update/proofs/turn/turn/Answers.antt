@@ -4,7 +4,7 @@ use mathlib.Core.Path.{◌≡◌, refl, subst⁻¹}
 use lib.ListN.{length, replicate}
 use Rattle.host_packet.specs.Packet.{packet_size}
 use Rattle.update.proofs.Ranges.{reply_length}
-use Rattle.update.proofs.turn.Laws.{first_length, heard_most, stepped, step_turned}
+use Rattle.update.proofs.turn.Laws.{first_length, heard_most, stepped, kept_turned}
 use Rattle.update.proofs.turn.turn.Goals.{After-heard-n, Start}
 use Rattle.update.proofs.turn.turn.Goals as goal
 
@@ -28,7 +28,7 @@ returns c =
     let s = (goal.at.returns c).Start in
     let a = s.args in
     let k = c.deliver-a in
-    let i = c.inner_step-s in
+    let i = c.inner_step in
     let h = c.heard-n in
-    step_turned a.bundle.now a.count a.hand a.e _ a.staging.now k.new.staging k.result
+    kept_turned a.bundle.now i.new.packet a.count a.hand a.e i.result c.unwrap_or-s.result a.staging.now k.new.staging k.result c.unwrap_or-s.ensures
     (stepped a.bundle.now (replicate packet_size 0) a.count a.hand a.e h.result _ refl (sixteen s) h.ensures i.ensures) k.ensures

@@ -10,4 +10,4 @@ returns-then-breaks_d1 c = rw (by c.breaks_d1.ensures c.if-breaks_d1.true)
 pub returns : goal.returns
 unfolding reset_entry
 returns c =
-    rw (by c.breaks_d1.ensures c.if-breaks_d1.false, c.with_session-device.ensures, c.idle.ensures, c.reset_components-next.ensures)
+    rw (by c.breaks_d1.ensures c.if-breaks_d1.false, c.with_session.ensures, c.idle.ensures, c.reset_components-next.ensures)

@@ -4,4 +4,4 @@ use Rattle.host_record.proofs.record.Host.report.Goals as goal
 
 pub returns : goal.returns
 unfolding report_of
-returns c = rw c.progress-how.ensures
+returns c = rw c.progress.ensures

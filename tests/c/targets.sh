@@ -16,7 +16,7 @@
 # names a rustc that is not the first on the PATH; RUST_TARGET, where TARGET is in capitals with _ for -, a folder with the rustc and the cargo of one target.
 # Debian packages:
 #   rustc          rustc-web with rust-web-src from 1.96 for every target; or libstd-rust-web-dev:armhf, :arm64 and :s390x for Linux (rustc-web has to be of the
-#                  same version), and for Windows a rustc of 1.70 or later with its target. With rustup: rustup target add TARGET.
+#                  same version), and rustc, cargo and libstd-rust-dev-windows of 1.63 for Windows. With rustup: rustup target add TARGET.
 #   C compilers    gcc-arm-linux-gnueabihf, gcc-aarch64-linux-gnu, gcc-s390x-linux-gnu, gcc-mingw-w64-x86-64, gcc-arm-none-eabi with libnewlib-arm-none-eabi
 #   emulators      qemu-user-static, qemu-system-arm, wine with wine64
 set -u

@@ -121,6 +121,25 @@ pub fn alike(a: &[u8], b: &[u8]) -> bool {
 pub fn wide(n: usize) -> [u8; 8] {
     usize::to_le_bytes(n)
 }
+
+pub fn is_low(x: Option<u8>) -> bool {
+    x.is_some_and(|k| (k == 0) | (k == 1))
+}
+
+pub fn place_in(f: Found) -> usize {
+    let Found::At { place } = f else {
+        return 0;
+    };
+    let n = if place < 2 { 1 } else { place };
+    n
+}
+
+pub fn sum_of(pair: Option<(u8, u16)>) -> u16 {
+    let Some((a, b)) = pair else {
+        return 0;
+    };
+    a as u16 ^ b
+}
 '''
 PART = '''// A module whose name the high crate has too.
 use crate::Found;
@@ -234,7 +253,10 @@ MADE = {
                        'pub struct Small<const N: usize> {\n    pub number: usize,\n}\n',
                        'impl<const N: usize> From<[u8; N]> for Small<N> {\n    #[inline]\n    fn from(', '    core::cmp::min(a, b)\n',
                        ' = xs.try_into().ok();\n', '    u64::to_le_bytes(n as u64)\n',
-                       '    a.len() == b.len() && a.iter().zip(b).all(|(x, y)| x == y)\n'],
+                       '    a.len() == b.len() && a.iter().zip(b).all(|(x, y)| x == y)\n',
+                       '    x.map_or(false, |k| (k == 0) | (k == 1))\n',
+                       '    let place = match f { Found::At { place } => place, _ => {\n        return 0;\n    } };\n    let n = if place < 2 { 1 } else { place };\n',
+                       '    let (a, b) = match pair { Some((a, b)) => (a, b), _ => {\n        return 0;\n    } };\n'],
     'src/low/part.rs': ['/// The next one.\n#[inline]\npub fn next(a: u16) -> u16 {\n    u16::wrapping_add(a, 1)\n}\n',
                         '#[inline]\npub(in crate::low) fn before(a: u8) -> u8 {\n    u8::wrapping_sub(u8::wrapping_add(a, 0), b', '    // Not documentation.\n',
                         '    /// The left one, whatever b is.\n    #[inline]\n    #[allow(unused_variables)] // only the contract names b\n    pub fn left_of(self, b'],

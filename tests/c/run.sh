@@ -29,6 +29,9 @@ cmp -s "$out/update" "$out/proved/update" && fail "the examples of both librarie
 part=$(nm -A "${library[no_std]}" 2>/dev/null | sed -n 's/^[^:]*:\([^:]*\):.* T cfu_bundle_check$/\1/p')
 needs=$(mkdir -p "$out/part" && cd "$out/part" && ar x "../../../${library[no_std]}" "$part" && nm -u "$part" | sed 's/^ *U //' | sort | tr '\n' ' ')
 [ "$needs" = "memcpy memset " ] || fail "the library without the standard library needs: $needs"
+# The same of the proved library, whose one part has all calls.
+needs=$(nm -u "${library[proved]}" | sed -n 's/^ *U //p' | sort -u | tr '\n' ' ')
+[ "$needs" = "memcpy memset " ] || fail "the proved library needs: $needs"
 
 for name in $(grep -o '\bcfu_[a-z_]*(' include/cfu.h | tr -d '(' | sort -u); do
     grep -q "\b$name(" tests/c/calls.c || fail "tests/c/calls.c does not call $name"

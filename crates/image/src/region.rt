@@ -4,6 +4,7 @@ ghost use Rattle.std.specs.Prelude.{◌≡◌, ◌+◌, ◌^◌, ◌≤◌, ◌<
 ghost use Rattle.image.specs.Region.{place_of, is_inside, holds as holds_bytes, put as put_bytes, erase_of, write_of};
 
 use wire::address::RegionAddress;
+use wire::words::copy;
 
 // An offset into the staging buffer. A type of its own beside `RegionAddress`, and no generic one for both: that would be no plainer, since the two are alike
 // in nothing but their number.
@@ -36,13 +37,12 @@ pub struct Region {
 const ERASED: u8 = 0xFF;
 
 // The bytes go into the buffer, from the offset on.
-#[tactic(auto, unfolding(crate::specs::Region::put))]
 fn put(staging: &mut [u8], place: StagingOffset, bytes: &[u8])
     requires { place.0 + length bytes.now ≤ length staging.old }
     ensures { staging.new ≡ put_bytes place.0 bytes.now staging.old }
 {
     let at = place.0 as usize;
-    staging[at..at + bytes.len()].copy_from_slice(bytes);
+    copy(&mut staging[at..at + bytes.len()], bytes);
 }
 
 impl Region {

@@ -9,7 +9,6 @@ use run_print::fields::Fields;
 use run_print::script::{Frame, run_script};
 use run_print::show::Hex;
 use run_script::tell;
-use std::alloc::{AllocError, Global};
 use std::io;
 use std::io::Write;
 use wire::words::byte_at;
@@ -21,7 +20,7 @@ const BUFFER_SIZE: usize = 65600;
 #[derive(Drop)]
 struct Bench {
     record: [u8; DEVICE_SIZE],
-    buffer: Vec<u8>,
+    buffer: [u8; BUFFER_SIZE],
 }
 
 fn run_set_up(out: &mut impl Write, asked: Fields<'_>, staging: &[u8]) -> io::Result<Device> {
@@ -40,13 +39,6 @@ fn run_reset(out: &mut impl Write, d: Device) -> io::Result<Device> {
 }
 
 impl Bench {
-    fn new(alloc: Global) -> Result<Bench, AllocError> {
-        Ok(Bench {
-            record: [0; DEVICE_SIZE],
-            buffer: vec![in alloc; 0; BUFFER_SIZE]?,
-        })
-    }
-
     // A call with the record and as many bytes as it is lent, and the record that it leaves. Nothing is called where more is lent than there is.
     fn run_call<W: Write, F: FnOnce(&mut W, Device, &mut [u8]) -> io::Result<Device>>(
         &mut self,
@@ -56,7 +48,7 @@ impl Bench {
     ) -> io::Result<()>
         requires { F.IsAlwaysCallable call }
     {
-        let Some(staging) = self.buffer.as_mut_slice().get_mut(..lent as usize) else {
+        let Some(staging) = self.buffer.get_mut(..lent as usize) else {
             return Ok(());
         };
         let left = call(out, fields_in(&self.record), staging)?;
@@ -88,11 +80,7 @@ impl Bench {
 
     // Shows a part of the buffer.
     fn show(&self, out: &mut impl Write, from: usize, count: usize) -> io::Result<()> {
-        let part = self
-            .buffer
-            .as_slice()
-            .get(from..)
-            .and_then(|s| s.get(..count));
+        let part = self.buffer.get(from..).and_then(|s| s.get(..count));
         writeln!(out, "{}", Hex(part.unwrap_or(&[])))
     }
 
@@ -123,6 +111,9 @@ impl Bench {
 }
 
 fn main(rt: HostRuntime) -> io::Result<()> {
-    let mut bench = Bench::new(rt.alloc())?;
+    let mut bench = Bench {
+        record: [0; DEVICE_SIZE],
+        buffer: [0; BUFFER_SIZE],
+    };
     run_script(&rt, |out, frame| bench.run_frame(out, frame))
 }

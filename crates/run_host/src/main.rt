@@ -2,10 +2,11 @@
 // its bytes.
 #![tactic(auto)]
 
+use arrayvec::ArrayVec;
 use host::step::step;
 use host_bytes::{HOST_SIZE, host_bytes, read_host};
 use host_record::record::Host;
-use run_print::script::{Frame, run_script};
+use run_print::script::{Frame, PAYLOAD_SIZE, run_script};
 use std::io;
 use std::io::Write;
 use wire::words::byte_at;
@@ -16,14 +17,14 @@ mod told; // told.rt: what is printed of a step and of a record
 #[derive(Drop)]
 struct Bench {
     record: [u8; HOST_SIZE],
-    bundle: Vec<u8>,
+    bundle: ArrayVec<u8, PAYLOAD_SIZE>,
 }
 
 impl Bench {
     // The step on a reply, and the record that it leaves.
     fn run_step(&self, out: &mut impl Write, reply: &[u8]) -> io::Result<Host> {
         let before = read_host(&self.record);
-        let told = step(before, &self.bundle, reply);
+        let told = step(before, self.bundle.as_slice(), reply);
         told::step(out, told)?;
         Ok(told.map_or(before, |a| a.host))
     }
@@ -34,7 +35,8 @@ impl Bench {
         let left = match frame.kind {
             b'B' => {
                 self.bundle.clear();
-                return Ok(self.bundle.extend_from_slice(p)?);
+                // A payload has at most PAYLOAD_SIZE bytes.
+                return Ok(self.bundle.try_extend_from_slice(p).unwrap_or(()));
             }
             b'F' => Host::fresh(byte_at(p, 0)),
             b'K' => read_host(p),
@@ -48,7 +50,7 @@ impl Bench {
 fn main(rt: HostRuntime) -> io::Result<()> {
     let mut bench = Bench {
         record: [0; HOST_SIZE],
-        bundle: Vec::new(rt.alloc()),
+        bundle: ArrayVec::new(),
     };
     run_script(&rt, |out, frame| bench.run_frame(out, frame))
 }

@@ -5,9 +5,9 @@ use std::io;
 use std::io::{BufReader, BufWriter, Printer, Read, Write};
 
 // How many frames of a script a program runs at the most, and how long a payload may be.
-const FRAMES: u32 = 1000000;
+pub const FRAMES: u32 = 1000000;
 
-const PAYLOAD_SIZE: usize = 2048;
+pub const PAYLOAD_SIZE: usize = 2048;
 
 // What a program prints to.
 pub type Out<'a> = BufWriter<Printer<'a, HostRuntime>>;

@@ -7,7 +7,8 @@ use device_component::record::{Fixed, Listed};
 use host_record::record::{End, Host};
 use host_record::report::Report;
 use image::region::{Region, StagingOffset};
-use std::io::{BufWriter, Read, Write};
+use run_print::script::read_full;
+use std::io::{BufWriter, Write};
 use std::{env, io};
 use wire::codes::COMPONENT_LIMIT;
 use wire::version::Version;
@@ -16,7 +17,7 @@ use wire::version::Version;
 const WORD_SIZE: usize = 16;
 
 // How much of a bundle is read.
-const BUNDLE_SIZE: u64 = 65536;
+const BUNDLE_SIZE: usize = 65536;
 
 // A decimal number with one more digit; what is no digit, or too much, is passed over.
 fn with_digit(n: u32, byte: u8) -> u32 {
@@ -83,9 +84,10 @@ fn main(rt: HostRuntime) -> io::Result<()> {
     let times = env::args(&rt)?
         .nth(1)
         .map_or(0, |word| number_in(word.as_bytes()));
-    let mut bundle = Vec::new(rt.alloc());
-    rt.reader().take(BUNDLE_SIZE).read_to_end(&mut bundle)?;
+    let mut buffer = [0u8; BUNDLE_SIZE];
+    let n = read_full(&mut rt.reader(), &mut buffer)?;
+    let report = run_all(&buffer[..n], times);
     let mut out = BufWriter::new(rt.alloc(), io::writer(&rt))?;
-    print(&mut out, run_all(&bundle, times))?;
+    print(&mut out, report)?;
     out.flush()
 }

@@ -2,6 +2,7 @@
 // device, whose record is changed in place. In a case of kind T some packets arrive twice.
 #![tactic(auto)]
 
+use arrayvec::ArrayVec;
 use device_bytes::{DEVICE_SIZE, staging_len_in};
 use device_in_place::content::content_in_place;
 use device_in_place::offer::offer_in_place;
@@ -10,8 +11,6 @@ use host_record::record::Host;
 use run_print::script::run_script;
 use run_script::case::{Case, STAGING_SIZE};
 use run_script::tell;
-use std::alloc::Global;
-use std::collections::VecDeque;
 use std::io;
 use std::io::Write;
 use wire::codes::SHORT_SIZE;
@@ -19,15 +18,18 @@ use wire::codes::SHORT_SIZE;
 // How many turns a run has at the most.
 const TURNS: u32 = 100000;
 
+// How many replies may be on their way at a time: more than packets of a case arrive twice, and one.
+const PLACES: usize = 128;
+
 // Both ends between two turns.
 #[derive(Drop)]
 struct Run<'a> {
     host: Host,
     bundle: &'a [u8],
     device: [u8; DEVICE_SIZE],
-    staging: Vec<u8>,
+    staging: &'a mut [u8],
     // The replies on their way to the host, in the order in which they were sent.
-    replies: VecDeque<[u8; SHORT_SIZE]>,
+    replies: ArrayVec<[u8; SHORT_SIZE], PLACES>,
     // A bit for each packet that arrives twice, and how many packets were sent.
     pattern: u64,
     sent: u32,
@@ -42,14 +44,14 @@ impl Run<'_> {
     // A packet of the host arrives, and its first reply is put behind those on their way.
     fn arrives(&mut self, out: &mut impl Write, p: &[u8], again: bool) -> io::Result<()> {
         let a = if p.len() == SHORT_SIZE {
-            offer_in_place(&mut self.device, &mut self.staging, p)
+            offer_in_place(&mut self.device, self.staging, p)
         } else {
-            content_in_place(&mut self.device, &mut self.staging, p)
+            content_in_place(&mut self.device, self.staging, p)
         };
         tell::exchange(out, p, again, a)?;
         if let Ok(sent) = a {
-            if sent.due {
-                self.replies.push_back(sent.reply)?;
+            if sent.due && !self.replies.is_full() {
+                self.replies.push(sent.reply);
             }
         }
         Ok(())
@@ -63,7 +65,7 @@ impl Run<'_> {
     // One turn: the host's step on the first reply on its way, or on no bytes where there is none, and what it sends arrives. True where the run is over: the
     // host has ended, or its step is refused.
     fn turn(&mut self, out: &mut impl Write) -> io::Result<bool> {
-        let told = match self.replies.pop_front() {
+        let told = match self.replies.pop_at(0) {
             Some(reply) => step(self.host, self.bundle, &reply),
             None => step(self.host, self.bundle, &[]),
         };
@@ -94,18 +96,18 @@ impl Run<'_> {
 }
 
 // A case with a pattern has the report too.
-fn run_case(out: &mut impl Write, alloc: Global, case: Case<'_>) -> io::Result<()> {
-    let staging_len = staging_len_in(&case.record) as usize;
-    if STAGING_SIZE < staging_len {
+fn run_case(out: &mut impl Write, case: Case<'_>) -> io::Result<()> {
+    let mut buffer = [case.fill; STAGING_SIZE];
+    let Some(staging) = buffer.get_mut(..staging_len_in(&case.record) as usize) else {
         return Ok(());
-    }
+    };
     tell::record(out, &case.record)?;
     let mut run = Run {
         host: Host::fresh(case.token),
         bundle: case.bundle,
         device: case.record,
-        staging: vec![in alloc; case.fill; staging_len]?,
-        replies: VecDeque::new(alloc),
+        staging,
+        replies: ArrayVec::new(),
         pattern: case.pattern.unwrap_or(0),
         sent: 0,
     };
@@ -113,11 +115,9 @@ fn run_case(out: &mut impl Write, alloc: Global, case: Case<'_>) -> io::Result<(
     if case.pattern.is_some() {
         tell::report(out, run.host.report())?;
     }
-    tell::left(out, &run.device, &run.staging)
+    tell::left(out, &run.device, run.staging)
 }
 
 fn main(rt: HostRuntime) -> io::Result<()> {
-    run_script(&rt, |out, frame| {
-        run_case(out, rt.alloc(), Case::read(frame))
-    })
+    run_script(&rt, |out, frame| run_case(out, Case::read(frame)))
 }

@@ -75,11 +75,14 @@ pub fn bytes64(v: usize) -> [u8; 8]
 }
 
 // target becomes source where both are equally long, and stays as it is otherwise.
+// A loop, since std's `copy_from_slice` over a length that the compiler doesn't know calls `memmove`, which a library for C would need from outside.
 pub fn copy(target: &mut [u8], source: &[u8])
     ensures { target.new ≡ copy_of target.old source.now }
 {
     if target.len() == source.len() {
-        target.copy_from_slice(source);
+        for i in 0..target.len() {
+            target[i] = source[i];
+        }
     }
 }
 

@@ -70,7 +70,7 @@ fn packet(c: ContentFields) -> [u8; LONG_SIZE]
     let n = used(c.length);
     let mut p = [0u8; LONG_SIZE];
     p[..DATA_AT].copy_from_slice(&head(c.flags, c.length, c.sequence, c.address));
-    p[DATA_AT..DATA_AT + n].copy_from_slice(&c.data[..n]);
+    words::copy(&mut p[DATA_AT..DATA_AT + n], &c.data[..n]);
     p
 }
 
@@ -92,7 +92,7 @@ fn fields(p: &[u8]) -> ContentFields
 {
     let n = used(p[1]);
     let mut data = [0u8; DATA_SIZE];
-    data[..n].copy_from_slice(&p[DATA_AT..DATA_AT + n]);
+    words::copy(&mut data[..n], &p[DATA_AT..DATA_AT + n]);
     ContentFields {
         flags: p[0],
         length: p[1],

@@ -7,7 +7,8 @@ ghost use Rattle.device.specs.Entries.{serve_entry, serve_staging};
 
 use device::answer::Channel;
 use device::record::Device;
-use device::setup::set_up;
+use device::setup::{device_of, set_up};
+use device::version_reply::packet_of;
 use device_component::record::{Fixed, Listed};
 use firmware::serve_in_place;
 use image::region::{Region, StagingOffset};
@@ -18,7 +19,6 @@ use std::io;
 use std::io::{BufReader, BufWriter, Read, Write};
 use wire::codes::LONG_SIZE;
 use wire::version::Version;
-use wire_version::REPLY_SIZE;
 
 // The loop ends after 2^64 - 1 turns at the latest. A turn takes one frame.
 const TURNS: u64 = u64::MAX;
@@ -47,7 +47,7 @@ fn bench(out: &mut impl Write, staging: &[u8]) -> io::Result<Device> {
         staging,
     );
     tell::set_up(out, made)?;
-    Ok(made.unwrap_or(Device::blank()))
+    Ok(device_of(made))
 }
 
 // A frame of the bus.
@@ -110,14 +110,15 @@ fn turn(
 {
     match frame {
         Frame::Packet(channel, packet) => {
-            tell::answer(out, serve_in_place(device, channel, staging, packet))
+            let before = *device;
+            let answer = serve_in_place(device, channel, staging, packet);
+            tell::answer(out, before, answer)
         }
         Frame::Versions => {
-            let packet = device.version_reply().unwrap_or([0; REPLY_SIZE]);
-            writeln!(out, "versions {}", Hex(&packet))
+            writeln!(out, "versions {}", Hex(&packet_of(device.version_reply())))
         }
         Frame::Reset => {
-            *device = device.reset().unwrap_or(*device);
+            *device = device.after_reset(device.reset());
             writeln!(out, "reset")
         }
         Frame::Unknown => writeln!(out, "unknown channel"),

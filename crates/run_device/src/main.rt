@@ -3,7 +3,7 @@
 
 use device::answer::Channel;
 use device::record::Device;
-use device::setup::set_up;
+use device::setup::{device_of, set_up};
 use device_bytes::{DEVICE_SIZE, device_bytes, fields_in, read_list};
 use run_print::fields::Fields;
 use run_print::script::{Frame, run_script};
@@ -29,13 +29,13 @@ fn run_set_up(out: &mut impl Write, asked: Fields<'_>, staging: &[u8]) -> io::Re
     let count = fields.byte();
     let made = set_up(platform, read_list(fields.0), count, staging);
     tell::set_up(out, made)?;
-    Ok(made.unwrap_or(Device::blank()))
+    Ok(device_of(made))
 }
 
 fn run_reset(out: &mut impl Write, d: Device) -> io::Result<Device> {
     let next = d.reset();
     tell::reset(out, next)?;
-    Ok(next.unwrap_or(d))
+    Ok(d.after_reset(next))
 }
 
 impl Bench {
@@ -69,8 +69,8 @@ impl Bench {
         }
         self.run_call(out, lent, |out, d, staging| {
             let a = d.serve(channel, staging, packet);
-            tell::answer(out, a)?;
-            Ok(a.map_or(d, |a| a.device))
+            tell::answer(out, d, a)?;
+            Ok(d.after(a))
         })
     }
 

@@ -5,6 +5,7 @@
 use arrayvec::ArrayVec;
 use host::step::step;
 use host_bytes::{HOST_SIZE, host_bytes, read_host};
+use host_packet::answer::host_after;
 use host_record::record::Host;
 use run_print::script::{Frame, PAYLOAD_SIZE, run_script};
 use std::io;
@@ -26,7 +27,7 @@ impl Bench {
         let before = read_host(&self.record);
         let told = step(before, self.bundle.as_slice(), reply);
         told::step(out, told)?;
-        Ok(told.map_or(before, |a| a.host))
+        Ok(host_after(before, told))
     }
 
     // A frame `B` sets the bundle; each other one leaves a record, which is printed.

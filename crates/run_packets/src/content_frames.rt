@@ -5,6 +5,7 @@ use run_print::show::SpacedHex;
 use std::io;
 use std::io::Write;
 use wire::address::RegionAddress;
+use wire::verdict::told;
 use wire_content::content::ContentFields;
 use wire_content::reply::ContentReply;
 
@@ -45,7 +46,8 @@ pub fn read(out: &mut impl Write, p: &[u8]) -> io::Result<()> {
     write!(out, "{}", SpacedHex(p))?;
     let r = wire_content::content::read_content(p);
     line::gives(out, r.err())?;
-    fields(out, r.unwrap_or_default())
+    let (_, value) = told(r, ContentFields::default());
+    fields(out, value)
 }
 
 fn reply(out: &mut impl Write, r: ContentReply) -> io::Result<()> {
@@ -66,5 +68,6 @@ pub fn read_reply(out: &mut impl Write, p: &[u8]) -> io::Result<()> {
     write!(out, "{}", SpacedHex(p))?;
     let r = wire_content::reply::read_content_reply(p);
     line::gives(out, r.err())?;
-    reply(out, r.unwrap_or_default())
+    let (_, value) = told(r, ContentReply::default());
+    reply(out, value)
 }

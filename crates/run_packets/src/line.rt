@@ -3,7 +3,7 @@ use run_print::show::SpacedHex;
 use std::io;
 use std::io::Write;
 use wire::codes::SHORT_SIZE;
-use wire::verdict::PacketRefusal;
+use wire::verdict::{PacketRefusal, told};
 
 // What stands before what came, with the refusal where there is one.
 pub fn gives(out: &mut impl Write, refusal: Option<PacketRefusal>) -> io::Result<()> {
@@ -19,16 +19,9 @@ pub fn built<const N: usize>(
     out: &mut impl Write,
     answer: Result<[u8; N], PacketRefusal>,
 ) -> io::Result<()> {
-    match answer {
-        Ok(packet) => {
-            gives(out, None)?;
-            write!(out, "{}", SpacedHex(&packet))
-        }
-        Err(refusal) => {
-            gives(out, Some(refusal))?;
-            write!(out, "{}", SpacedHex(&[0; N]))
-        }
-    }
+    gives(out, answer.err())?;
+    let (_, packet) = told(answer, [0; N]);
+    write!(out, "{}", SpacedHex(&packet))
 }
 
 // A packet of 16 bytes that is always built.

@@ -6,6 +6,7 @@ use run_print::show::{Dotted, SpacedHex};
 use std::io;
 use std::io::Write;
 use wire::codes::SHORT_SIZE;
+use wire::verdict::told;
 use wire_offer::kind::OfferPacket;
 use wire_offer::offer::OfferFields;
 use wire_offer::reply::OfferReply;
@@ -125,5 +126,6 @@ pub fn read_reply(out: &mut impl Write, p: &[u8]) -> io::Result<()> {
     write!(out, "{}", SpacedHex(p))?;
     let r = wire_offer::reply::read_offer_reply(p);
     line::gives(out, r.err())?;
-    reply(out, r.unwrap_or_default())
+    let (_, value) = told(r, OfferReply::default());
+    reply(out, value)
 }

@@ -6,6 +6,7 @@ use run_print::show::{Dotted, SpacedHex};
 use std::io;
 use std::io::Write;
 use wire::codes::COMPONENT_LIMIT;
+use wire::verdict::told;
 use wire_version::VersionReply;
 
 fn head(out: &mut impl Write, count: u8, protocol: u8) -> io::Result<()> {
@@ -45,7 +46,7 @@ pub fn read(out: &mut impl Write, p: &[u8]) -> io::Result<()> {
     write!(out, "{}", SpacedHex(p))?;
     let r = wire_version::read_version_reply(p);
     line::gives(out, r.err())?;
-    let told = r.unwrap_or_default();
-    head(out, told.count, told.protocol)?;
-    components(out, &components_bytes(told.components))
+    let (_, reply) = told(r, VersionReply::default());
+    head(out, reply.count, reply.protocol)?;
+    components(out, &components_bytes(reply.components))
 }

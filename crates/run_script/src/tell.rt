@@ -1,6 +1,7 @@
 // What is printed of an answer and of a record.
 use device::answer::{Answer, Refusal, ready_reply};
 use device::record::Device;
+use device::version_reply::packet_of;
 use device_bytes::{DEVICE_SIZE, SESSION_START, fields_in};
 use device_component::record::{Component, Fixed};
 use device_component::setup::SetupRow;
@@ -33,17 +34,13 @@ pub fn reset(out: &mut impl Write, next: Result<Device, Refusal>) -> io::Result<
 // Zeros where a row refuses the call.
 pub fn version_reply(
     out: &mut impl Write,
-    packet: Result<[u8; REPLY_SIZE], Refusal>,
+    told: Result<[u8; REPLY_SIZE], Refusal>,
 ) -> io::Result<()> {
-    match packet {
-        Ok(p) => writeln!(out, "version reply: {}", Hex(&p)),
-        Err(refusal) => writeln!(
-            out,
-            "version reply: refused D{}, {}",
-            refusal.number(),
-            Hex(&[0; REPLY_SIZE])
-        ),
+    write!(out, "version reply: ")?;
+    if let Err(refusal) = told {
+        write!(out, "refused D{}, ", refusal.number())?;
     }
+    writeln!(out, "{}", Hex(&packet_of(told)))
 }
 
 // The READY that follows the reply, and the end of the line.
@@ -54,24 +51,20 @@ fn follows(out: &mut impl Write, ready: Option<u8>) -> io::Result<()> {
     }
 }
 
-// What a packet is answered by; zeros where a row refuses it.
-pub fn answer(out: &mut impl Write, a: Result<Answer, Refusal>) -> io::Result<()> {
+// What a packet is answered by, to a device with this record; zeros where a row refuses it.
+pub fn answer(out: &mut impl Write, d: Device, a: Result<Answer, Refusal>) -> io::Result<()> {
+    let replies = d.replies_of(a);
     match a {
-        Ok(Answer { replies, device: _ }) => {
-            if replies.due {
-                write!(out, "reply {}", Hex(&replies.reply))?;
-            } else {
-                write!(out, "no reply")?;
-            }
-            follows(out, replies.ready)
-        }
-        Err(refusal) => writeln!(
+        Ok(_) if replies.due => write!(out, "reply {}", Hex(&replies.reply))?,
+        Ok(_) => write!(out, "no reply")?,
+        Err(refusal) => write!(
             out,
             "refused D{}, {}",
             refusal.number(),
-            Hex(&[0; SHORT_SIZE])
-        ),
+            Hex(&replies.reply)
+        )?,
     }
+    follows(out, replies.ready)
 }
 
 // A packet of the host: its kind, and its code, id, or flags and sequence.

@@ -1,10 +1,9 @@
 // Runs the bundle of standard input as often as its argument says, each time against the same fresh device, and prints the last report (tests/time).
 #![tactic(auto)]
 
-use device::record::Device;
-use device::setup::set_up;
+use device::setup::{device_of, set_up};
 use device_component::record::{Fixed, Listed};
-use host_record::record::{End, Host};
+use host_record::record::End;
 use host_record::report::Report;
 use image::region::{Region, StagingOffset};
 use run_print::script::read_full;
@@ -55,11 +54,9 @@ fn listed() -> Listed {
 fn run_once(bundle: &[u8], token: u8) -> Report {
     let mut staging = [0u8; 64];
     let made = set_up(0x0042, [listed(); COMPONENT_LIMIT], 1, &staging);
-    let device = made.unwrap_or(Device::blank());
-    update::run(bundle, token, device, &mut staging).map_or(
-        Host::fresh(token).report(),
-        |a| a.report,
-    )
+    let device = device_of(made);
+    let answer = update::run(bundle, token, device, &mut staging);
+    update::left_by(token, device, answer).report
 }
 
 // So many runs, and at least one; the last one's report.

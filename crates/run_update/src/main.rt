@@ -2,13 +2,12 @@
 #![tactic(auto)]
 
 use device_bytes::{device_bytes, fields_in};
-use host_record::record::Host;
 use run_print::script::run_script;
 use run_script::case::{Case, STAGING_SIZE};
 use run_script::tell;
 use std::io;
 use std::io::Write;
-use update::{RunAnswer, RunRefusal, run};
+use update::{RunRefusal, left_by, run};
 
 fn refusal(out: &mut impl Write, r: RunRefusal) -> io::Result<()> {
     match r {
@@ -23,16 +22,13 @@ fn run_case(out: &mut impl Write, case: Case<'_>) -> io::Result<()> {
     let Some(staging) = buffer.get_mut(..device.staging_len as usize) else {
         return Ok(());
     };
-    let RunAnswer { report, device } = match run(case.bundle, case.token, device, staging) {
-        Ok(a) => a,
-        Err(r) => {
-            refusal(out, r)?;
-            let report = Host::fresh(case.token).report();
-            RunAnswer { report, device }
-        }
-    };
-    tell::report(out, report)?;
-    tell::left(out, &device_bytes(device), staging)
+    let answer = run(case.bundle, case.token, device, staging);
+    if let Err(r) = answer {
+        refusal(out, r)?;
+    }
+    let left = left_by(case.token, device, answer);
+    tell::report(out, left.report)?;
+    tell::left(out, &device_bytes(left.device), staging)
 }
 
 fn main(rt: HostRuntime) -> io::Result<()> {

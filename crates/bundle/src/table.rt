@@ -3,7 +3,8 @@ ghost use Rattle.std.specs.Prelude.{◌≡◌, ◌+◌, ◌≤◌, length, take,
 ghost use Rattle.bundle_layout.specs.Layout.{offer_limit, entry_size, count_in, table_end};
 ghost use Rattle.bundle_layout.specs.Rows.{placed, row_b5, row_b6};
 
-use bundle_layout::limits::HEAD;
+use bundle_layout::head::table_end;
+use bundle_layout::limits::{ENTRY, HEAD};
 use bundle_layout::parts::bad_offer;
 use bundle_layout::table;
 
@@ -12,7 +13,9 @@ pub(crate) fn entry_at(b: &[u8], i: u8) -> &[u8]
     requires { table_end (i + 1) ≤ length b.now }
     ensures { (result.now ≡ take entry_size (drop (table_end i) b.now)) × (length result.now ≡ entry_size) }
 {
-    table::entry_at(&b[HEAD..], i)
+    let at = table_end(i);
+    let end = at + ENTRY;
+    &b[at..end]
 }
 
 // B5: the first entry with a bad offer, counted from 1.

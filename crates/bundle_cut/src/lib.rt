@@ -39,8 +39,10 @@ fn run_at(d: &[u8], x: usize) -> usize
     requires { x ≤ length d.now }
     ensures { result ≡ run_at d.now x }
 {
-    let rest = &d[x..];
-    first_other(rest).unwrap_or(rest.len())
+    match d[x..].split_first() {
+        Some((byte, rest)) if *byte == ERASED => 1 + first_other(rest).unwrap_or(rest.len()),
+        _ => 0,
+    }
 }
 
 // Where the record at a place ends: 52 bytes on, at the end, or before a run that is left out. A run that is not left out is passed over in one step, with the

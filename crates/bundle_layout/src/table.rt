@@ -5,8 +5,10 @@ ghost use Rattle.bundle_layout.specs.Layout.{entry_size, entries_from, id_in};
 ghost use Rattle.bundle_layout.specs.Rows.{repeated, placed};
 
 use crate::limits::ENTRY;
-use crate::parts::id_in;
-use wire::words::least;
+use wire::words::{byte_at, least};
+
+// Where an entry has its offer's id.
+const ID_AT: usize = 2;
 
 // The bytes of entry i, counted from 0; of one that the table cuts off, the bytes that it has.
 pub fn entry_at(table: &[u8], i: u8) -> &[u8]
@@ -17,12 +19,19 @@ pub fn entry_at(table: &[u8], i: u8) -> &[u8]
     &table[at..end]
 }
 
+// The id of entry i; 0 where the table ends before it.
+fn id_at(table: &[u8], i: u8) -> u8
+    ensures { result ≡ id_in (take entry_size (drop (entry_size * i) table.now)) }
+{
+    byte_at(table, ENTRY * (i as usize) + ID_AT)
+}
+
 // Has one of the first n entries this id?
 fn is_used(table: &[u8], n: u8, id: u8) -> bool
     ensures { result ≡ any (λ e. eqb id (id_in e)) (entries_from n table.now) }
 {
     for i in 0..n {
-        if id == id_in(entry_at(table, i)) {
+        if id == id_at(table, i) {
             return true;
         }
     }
@@ -34,7 +43,7 @@ pub fn repeated_place(table: &[u8], count: u8) -> Option<u8>
     ensures { result ≡ placed (repeated [] 1 (entries_from count table.now)) }
 {
     for i in 0..count {
-        if is_used(table, i, id_in(entry_at(table, i))) {
+        if is_used(table, i, id_at(table, i)) {
             return Some(i + 1);
         }
     }

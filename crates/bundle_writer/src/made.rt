@@ -10,11 +10,10 @@ ghost use Rattle.bundle_writer.specs.Rows.{first_breaking};
 ghost use Rattle.bundle_writer.specs.Answer.{over};
 
 use crate::body::{body_length, put_body};
-use crate::list::count_of;
+use crate::list::{count_of, entry_of};
 use crate::out::put_at;
 use bundle_given::image_at;
 use bundle_layout::head::table_end;
-use bundle_layout::table::entry_at;
 use wire::codes::SHORT_SIZE;
 use wire::words::bytes32;
 
@@ -26,7 +25,7 @@ pub(crate) fn bundle_length(list: &[u8], images: &[u8]) -> usize
     let count = count_of(list);
     let mut size = table_end(count);
     for i in 0..count {
-        let e = entry_at(list, i);
+        let e = entry_of(list, i);
         size += body_length(image_at(images, e));
     }
     size
@@ -60,7 +59,7 @@ pub(crate) fn put_bundle(out: &mut [u8], list: &[u8], images: &[u8])
     put_head(out, count);
     let mut end = table_end(count);
     for i in 0..count {
-        let e = entry_at(list, i);
+        let e = entry_of(list, i);
         let next = put_body(out, end, image_at(images, e));
         put_entry(out, table_end(i), e, end as u32, (next - end) as u32);
         end = next;

@@ -13,12 +13,12 @@ pub returns-then-is_used : goal.returns-then-is_used
 returns-then-is_used c =
     let l = c.loop-i in
     placed_some l.i _
-    (repeated_here _ _ l.i (omega arith) (rw (← c.entry_at.ensures, ← c.id_in.ensures) (sym c.is_used.ensures ∙ c.if-is_used.true)) ∙ l.invariant)
+    (repeated_here _ _ l.i (omega arith) (rw (← c.id_at.ensures) (sym c.is_used.ensures ∙ c.if-is_used.true)) ∙ l.invariant)
 
 pub loop-i-preserved : goal.loop-i-preserved
 loop-i-preserved c =
     let l = c.loop-i in
-    repeated_on _ _ l.i (omega arith) (rw (← c.entry_at.ensures, ← c.id_in.ensures) (sym c.is_used.ensures ∙ c.if-is_used.false)) ∙ l.invariant
+    repeated_on _ _ l.i (omega arith) (rw (← c.id_at.ensures) (sym c.is_used.ensures ∙ c.if-is_used.false)) ∙ l.invariant
 
 pub returns : goal.returns
 returns c = let l = c.loop-i in placed_none _ (repeated_end _ _ l.i (omega arith) ∙ l.invariant)

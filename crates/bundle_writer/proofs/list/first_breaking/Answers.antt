@@ -20,7 +20,7 @@ returns-then-breaks_rule c =
     let a = l.args in
     placed_some l.loop-i.i _
     (first_here (headed a.list.now) (breaks a.rule a.images.now) l.loop-i.i (omega arith)
-    (rw (entry_headed, ← c.entry_at-e.ensures) (sym c.breaks_rule.ensures ∙ c.if-breaks_rule.true))
+    (rw (entry_headed, ← c.entry_of-e.ensures.0) (sym c.breaks_rule.ensures ∙ c.if-breaks_rule.true))
     ∙ l.loop-i.invariant)
 
 pub loop-i-preserved : goal.loop-i-preserved
@@ -28,7 +28,7 @@ loop-i-preserved c =
     let l = c in
     let a = l.args in
     first_on (headed a.list.now) (breaks a.rule a.images.now) l.loop-i.i (omega arith)
-    (rw (entry_headed, ← c.entry_at-e.ensures) (sym c.breaks_rule.ensures ∙ c.if-breaks_rule.false))
+    (rw (entry_headed, ← c.entry_of-e.ensures.0) (sym c.breaks_rule.ensures ∙ c.if-breaks_rule.false))
     ∙ l.loop-i.invariant
 
 pub returns : goal.returns

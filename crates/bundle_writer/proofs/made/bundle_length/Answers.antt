@@ -15,7 +15,7 @@ use Rattle.bundle_writer.proofs.made.bundle_length.Goals as goal
 -- the image of this turn
 given : (c : After-image_at)
     → c.image_at.result.now ≡ image_at c.args.images.now (entry_of c.args.list.now c.loop-i.i)
-given c = rw c.entry_at-e.ensures at c.image_at.ensures
+given c = rw c.entry_of-e.ensures.0 at c.image_at.ensures
 
 -- what it adds
 counted : (c : After-body_length-size)

@@ -29,7 +29,7 @@ headed c =
 -- the image of this turn, and the room for its body
 given : (c : After-image_at)
     → c.image_at.result.now ≡ image_at c.args.images.now (entry_of c.args.list.now c.loop-i.i)
-given c = rw c.entry_at-e.ensures at c.image_at.ensures
+given c = rw c.entry_of-e.ensures.0 at c.image_at.ensures
 
 room : (c : After-image_at) →
     let s = c in
@@ -94,7 +94,7 @@ put_entry-requires c =
     let r = room (goal.at.put_entry-requires c).After-image_at in
     let n = ap length e.1 ∙ put_length l.end _ l.out (omega arith) in
     let m = made_size s.args.list.now s.args.images.now in
-    (ap length c.entry_at-e.ensures ∙ length_entry s.args.list.now l.i (entry_in s.args.list.now s.requires.list_value.0 l.i (omega arith)), omega arith)
+    (ap length c.entry_of-e.ensures.0 ∙ length_entry s.args.list.now l.i (entry_in s.args.list.now s.requires.list_value.0 l.i (omega arith)), omega arith)
 
 pub loop-i-preserved : goal.loop-i-preserved
 loop-i-preserved c =
@@ -105,7 +105,7 @@ loop-i-preserved c =
     let f = fill_on s.args.list.now s.args.images.now c.put_head.new.out (omega arith) l.out l.end l.i l.invariant.1 (omega arith)
     (length_entry s.args.list.now l.i (entry_in s.args.list.now s.requires.list_value.0 l.i (omega arith))) in
     let g : c.put_body-next.result - l.end ≡ length (image_body (image_at s.args.images.now (entry_of s.args.list.now l.i))) = omega arith in
-    (l.invariant.0, rw (c.put_entry.ensures, c.entry_at-e.ensures, c.table_end.ensures, e.1, g, e.0) f)
+    (l.invariant.0, rw (c.put_entry.ensures, c.entry_of-e.ensures.0, c.table_end.ensures, e.1, g, e.0) f)
 
 pub shape_of-out : goal.shape_of-out
 shape_of-out c = c.loop-i.invariant.1.long ∙ (headed (goal.at.shape_of-out c).After-put_head).1

@@ -3,6 +3,7 @@ ghost use Rattle.std.specs.Prelude.{◌≡◌, cond, []};
 ghost use Rattle.wire.specs.Codes.{short_size};
 ghost use Rattle.bundle_layout.specs.Rows as rows;
 ghost use Rattle.bundle.specs.Contents.{told_checked, check_of};
+ghost use Rattle.device_session.specs.Effect.{no_replies};
 ghost use Rattle.host_record.specs.Record.{has_ended};
 ghost use Rattle.host_packet.specs.Answer.{sent_by};
 ghost use Rattle.update.specs.Run.{once, last_of};
@@ -44,19 +45,29 @@ fn heard(due: bool) -> usize
     if due { SHORT_SIZE } else { 0 }
 }
 
+// Nothing is answered: the device stays, and no reply is on its way.
+fn still(device: Device) -> Answer
+    ensures { result ≡ record { replies = no_replies; device = device } }
+{
+    let replies = Replies::none();
+    Answer { replies, device }
+}
+
 // What the host sent is answered; where it sent nothing, or a row refuses it, the device stays, and no reply is on its way.
 fn deliver(sent: Sent, packet: &[u8; PACKET_SIZE], e: BothEnds, staging: &mut [u8]) -> Answer
     ensures { Delivered (sent_by sent packet.now) e staging.old result staging.new }
 {
     let device = e.device;
-    let replies = Replies::none();
-    let still = Answer { replies, device };
     match sent {
-        Sent::Nothing => still,
-        Sent::Offer => device
-            .offer(staging, &packet[..SHORT_SIZE])
-            .unwrap_or(still),
-        Sent::Content => device.content(staging, packet).unwrap_or(still),
+        Sent::Nothing => still(device),
+        Sent::Offer => match device.offer(staging, &packet[..SHORT_SIZE]) {
+            Ok(answer) => answer,
+            Err(_) => still(device),
+        },
+        Sent::Content => match device.content(staging, packet) {
+            Ok(answer) => answer,
+            Err(_) => still(device),
+        },
     }
 }
 
@@ -68,7 +79,7 @@ fn turn(count: u8, hand: Body, bundle: &[u8], e: BothEnds, staging: &mut [u8]) -
     let reply = e.replies.reply;
     let n = heard(e.replies.due);
     let mut packet = [0u8; PACKET_SIZE];
-    let s = inner_step(
+    let s = match inner_step(
         &mut packet,
         Ok(count),
         hand,
@@ -76,12 +87,14 @@ fn turn(count: u8, hand: Body, bundle: &[u8], e: BothEnds, staging: &mut [u8]) -
         e.host,
         bundle,
         &reply[..n],
-    )
-    .unwrap_or(Stepped {
-        sent: Sent::Nothing,
-        host: e.host,
-        cursor: e.cursor,
-    });
+    ) {
+        Ok(stepped) => stepped,
+        Err(_) => Stepped {
+            sent: Sent::Nothing,
+            host: e.host,
+            cursor: e.cursor,
+        },
+    };
     let a = deliver(s.sent, &packet, e, staging);
     BothEnds {
         host: s.host,

@@ -1,5 +1,6 @@
 // A fresh host and a device in turn, over the contents of a bundle that was checked once, so that the work is linear in the packets.
 ghost use Rattle.std.specs.Prelude.{◌≡◌, cond, []};
+ghost use Rattle.std.specs.Result.{result_unwrap_or};
 ghost use Rattle.wire.specs.Codes.{short_size};
 ghost use Rattle.bundle_layout.specs.Rows as rows;
 ghost use Rattle.bundle.specs.Contents.{told_checked, check_of};
@@ -10,7 +11,7 @@ ghost use Rattle.update.specs.Run.{once, last_of};
 ghost use Rattle.update.specs.Turn.{Comes, Delivered, Turned};
 
 use bundle_layout::Checked;
-use device::answer::Answer;
+use device::answer::{Answer, Refusal};
 use device::record::Device;
 use device_session::effect::Replies;
 use host::inner::inner_step;
@@ -53,6 +54,16 @@ fn still(device: Device) -> Answer
     Answer { replies, device }
 }
 
+// What the device answers; where a row refuses, it stays, and no reply is on its way.
+fn answered(device: Device, answer: Result<Answer, Refusal>) -> Answer
+    ensures { result ≡ result_unwrap_or answer (record { replies = no_replies; device = device }) }
+{
+    match answer {
+        Ok(answer) => answer,
+        Err(_) => still(device),
+    }
+}
+
 // What the host sent is answered; where it sent nothing, or a row refuses it, the device stays, and no reply is on its way.
 fn deliver(sent: Sent, packet: &[u8; PACKET_SIZE], e: BothEnds, staging: &mut [u8]) -> Answer
     ensures { Delivered (sent_by sent packet.now) e staging.old result staging.new }
@@ -60,14 +71,8 @@ fn deliver(sent: Sent, packet: &[u8; PACKET_SIZE], e: BothEnds, staging: &mut [u
     let device = e.device;
     match sent {
         Sent::Nothing => still(device),
-        Sent::Offer => match device.offer(staging, &packet[..SHORT_SIZE]) {
-            Ok(answer) => answer,
-            Err(_) => still(device),
-        },
-        Sent::Content => match device.content(staging, packet) {
-            Ok(answer) => answer,
-            Err(_) => still(device),
-        },
+        Sent::Offer => answered(device, device.offer(staging, &packet[..SHORT_SIZE])),
+        Sent::Content => answered(device, device.content(staging, packet)),
     }
 }
 
@@ -79,7 +84,7 @@ fn turn(count: u8, hand: Body, bundle: &[u8], e: BothEnds, staging: &mut [u8]) -
     let reply = e.replies.reply;
     let n = heard(e.replies.due);
     let mut packet = [0u8; PACKET_SIZE];
-    let s = match inner_step(
+    let s = inner_step(
         &mut packet,
         Ok(count),
         hand,
@@ -87,14 +92,12 @@ fn turn(count: u8, hand: Body, bundle: &[u8], e: BothEnds, staging: &mut [u8]) -
         e.host,
         bundle,
         &reply[..n],
-    ) {
-        Ok(stepped) => stepped,
-        Err(_) => Stepped {
-            sent: Sent::Nothing,
-            host: e.host,
-            cursor: e.cursor,
-        },
-    };
+    )
+    .unwrap_or(Stepped {
+        sent: Sent::Nothing,
+        host: e.host,
+        cursor: e.cursor,
+    });
     let a = deliver(s.sent, &packet, e, staging);
     BothEnds {
         host: s.host,

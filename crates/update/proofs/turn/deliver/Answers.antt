@@ -3,7 +3,6 @@ use mathlib.Core.Path.{◌≡◌, refl, subst⁻¹}
 use native.Mathlib.Omega.{arith}
 use borrow.Author.Rules.{rules}
 use lib.ListN.{length, take}
-use Rattle.std.specs.Prelude.{Ok, Err}
 use Rattle.device_session.specs.Effect.{no_replies}
 use Rattle.device.specs.Entries.{serve_entry, serve_staging}
 use Rattle.device.specs.declared.answer.Channel.TheVariants as channel
@@ -25,44 +24,25 @@ returns-in-Nothing c =
     subst⁻¹ (λ (x : Sent). Delivered (sent_by x a.packet.now) a.e a.staging.now c.still.result a.staging.now) c.in-Nothing.is
     (rw c.still.ensures (nothing_delivered a.e a.staging.now no_replies refl))
 
-pub returns-in-Ok : goal.returns-in-Ok
+pub returns-in-Offer : goal.returns-in-Offer
 unfolding serve_entry serve_staging
-returns-in-Ok c =
-    let a = c.args in
+returns-in-Offer c =
+    let s = c in
+    let a = s.args in
     let p = a.packet.now in
     let n : length p ≡ 60 = search rules in
     let f : channel_of (take 16 p) ≡ channel.Offer = rw (← first_length 16 p (omega arith)) in
-    subst⁻¹ (λ (x : Sent). Delivered (sent_by x p) a.e a.staging.now c.in-Ok.answer a.staging.now) c.in-Offer.is
-    (answer_delivered a.e (take 16 p) a.staging.now a.staging.now channel.Offer (Ok c.in-Ok.answer) no_replies c.in-Ok.answer f refl c.in-Ok.ensures refl refl)
+    subst⁻¹ (λ (x : Sent). Delivered (sent_by x p) a.e a.staging.now c.answered.result a.staging.now) c.in-Offer.is
+    (answer_delivered a.e (take 16 p) a.staging.now a.staging.now channel.Offer c.offer.result no_replies c.answered.result f refl c.offer.ensures c.answered.ensures refl)
 
-pub returns-in-Err : goal.returns-in-Err
+pub returns-in-Content : goal.returns-in-Content
 unfolding serve_entry serve_staging
-returns-in-Err c =
-    let a = c.args in
-    let p = a.packet.now in
-    let n : length p ≡ 60 = search rules in
-    let f : channel_of (take 16 p) ≡ channel.Offer = rw (← first_length 16 p (omega arith)) in
-    subst⁻¹ (λ (x : Sent). Delivered (sent_by x p) a.e a.staging.now c.still-in-Err.result a.staging.now) c.in-Offer.is
-    (answer_delivered a.e (take 16 p) a.staging.now a.staging.now channel.Offer (Err _) no_replies c.still-in-Err.result f refl c.in-Err.ensures c.still-in-Err.ensures refl)
-
-pub returns-in-Ok-content : goal.returns-in-Ok-content
-unfolding serve_entry serve_staging
-returns-in-Ok-content c =
-    let a = c.args in
+returns-in-Content c =
+    let s = c in
+    let a = s.args in
     let p = a.packet.now in
     let k = c.content in
     let n : length p ≡ 60 = search rules in
     let f : channel_of p ≡ channel.Content = rw n in
-    subst⁻¹ (λ (x : Sent). Delivered (sent_by x p) a.e a.staging.now c.in-Ok-content.answer k.new.staging) c.in-Content.is
-    (answer_delivered a.e p a.staging.now k.new.staging channel.Content (Ok c.in-Ok-content.answer) no_replies c.in-Ok-content.answer f refl c.in-Ok-content.ensures.0 refl k.ensures.1)
-
-pub returns-in-Err-content : goal.returns-in-Err-content
-unfolding serve_entry serve_staging
-returns-in-Err-content c =
-    let a = c.args in
-    let p = a.packet.now in
-    let k = c.content in
-    let n : length p ≡ 60 = search rules in
-    let f : channel_of p ≡ channel.Content = rw n in
-    subst⁻¹ (λ (x : Sent). Delivered (sent_by x p) a.e a.staging.now c.still-in-Err-content.result k.new.staging) c.in-Content.is
-    (answer_delivered a.e p a.staging.now k.new.staging channel.Content (Err _) no_replies c.still-in-Err-content.result f refl c.in-Err-content.ensures.0 c.still-in-Err-content.ensures k.ensures.1)
+    subst⁻¹ (λ (x : Sent). Delivered (sent_by x p) a.e a.staging.now c.answered-in-Content.result k.new.staging) c.in-Content.is
+    (answer_delivered a.e p a.staging.now k.new.staging channel.Content k.result no_replies c.answered-in-Content.result f refl k.ensures.0 c.answered-in-Content.ensures k.ensures.1)

@@ -5,9 +5,7 @@ use lib.ListN.{length, replicate}
 use Rattle.host_packet.specs.Packet.{packet_size}
 use Rattle.update.proofs.Ranges.{reply_length}
 use Rattle.update.proofs.turn.Laws.{first_length, heard_most, stepped, kept_turned}
-use Rattle.std.specs.Result.{result_unwrap_or}
-use Rattle.host_packet.specs.declared.answer.Sent.TheVariants as sent
-use Rattle.update.proofs.turn.turn.Goals.{After-heard-n, Start, in-Ok, in-Err}
+use Rattle.update.proofs.turn.turn.Goals.{After-heard-n, Start}
 use Rattle.update.proofs.turn.turn.Goals as goal
 
 -- a reply is 16 bytes long, and no more is received
@@ -32,7 +30,5 @@ returns c =
     let k = c.deliver-a in
     let i = c.inner_step in
     let h = c.heard-n in
-    let u : c.match-inner_step.s ≡ result_unwrap_or i.result (record { sent = sent.Nothing; host = a.e.host; cursor = a.e.cursor }) =
-    elim c.match-inner_step.branch [ in-Ok w ↦ rw w.in-Ok.is w.s-is | in-Err w ↦ rw w.in-Err.is w.s-is ] in
-    kept_turned a.bundle.now i.new.packet a.count a.hand a.e i.result c.match-inner_step.s a.staging.now k.new.staging k.result u
+    kept_turned a.bundle.now i.new.packet a.count a.hand a.e i.result c.unwrap_or-s.result a.staging.now k.new.staging k.result c.unwrap_or-s.ensures
     (stepped a.bundle.now (replicate packet_size 0) a.count a.hand a.e h.result _ refl (sixteen s) h.ensures i.ensures) k.ensures

@@ -3,13 +3,13 @@
 #![tactic(auto)]
 
 ghost use Rattle.std.specs.Prelude.{◌≡◌, length};
-ghost use Rattle.device.specs.Refusals.{row_of};
+ghost use Rattle.device.specs.Refusals.{row_of, row_in};
 ghost use Rattle.c_types.specs.Lent.{leaves};
 ghost use Rattle.c_device.specs.Numbers.{device_number};
 ghost use Rattle.c_device.specs.Device.{set_up_call, versions_call, reset_call};
 
 use c_types::lent::{leave, lent_number};
-use c_types::numbers::{ROW_D, ROW_S, SERVED, WRONG_LIST, WRONG_RECORD};
+use c_types::numbers::{ROW_D, ROW_S, SERVED, WRONG_LIST, WRONG_RECORD, lettered};
 use device::answer::Refusal;
 use device::setup::set_up;
 use device_bytes::{DEVICE_SIZE, LIST_SIZE, device_bytes, read_device, read_list};
@@ -19,7 +19,17 @@ use wire::codes::LONG_SIZE;
 pub fn device_number(refusal: Refusal) -> u32
     ensures { result ≡ device_number (row_of refusal) }
 {
-    ROW_D as u32 + refusal.number() as u32
+    lettered(ROW_D, refusal.number())
+}
+
+// The same of what an entry answers: 0 where no row refuses.
+pub fn device_number_told<T: Copy>(answer: Result<T, Refusal>) -> u32
+    ensures { result ≡ device_number (row_in answer) }
+{
+    match answer {
+        Ok(_) => SERVED,
+        Err(row) => device_number(row),
+    }
 }
 
 // Set-up over a list of components as bytes.
@@ -45,7 +55,7 @@ pub fn cfu_device_set_up(
             device.copy_from_slice(&device_bytes(made));
             SERVED
         }
-        Err(row) => ROW_S as u32 + row.number() as u32,
+        Err(row) => lettered(ROW_S, row.number()),
     }
 }
 

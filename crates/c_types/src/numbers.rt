@@ -65,7 +65,7 @@ pub fn lettered(letter: u16, number: u8) -> u32
 pub fn packet_number(refusal: PacketRefusal) -> u32
     ensures { result ≡ packet_number (row_of refusal) }
 {
-    u32::from(ROW_P) + u32::from(refusal.number())
+    lettered(ROW_P, refusal.number())
 }
 
 // What a build or a read answers: the number of its row, and its bytes or fields, which are these zeros where a row refuses.

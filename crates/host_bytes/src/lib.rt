@@ -3,14 +3,15 @@
 
 ghost use Rattle.std.specs.Prelude.{◌≡◌, cond, [], ◌∷◌, ◌++◌, eqb, length, get_or, take, ◌+◌, ◌≤◌};
 ghost use Rattle.wire.specs.Bytes.{number, bytes_at};
+ghost use Rattle.bundle_layout.specs.Rows.{row_of};
 ghost use Rattle.bundle.specs.Contents.{told_checked};
-ghost use Rattle.host_bytes.specs.Layout.{row_offset, entry_offset, count_at, length_offset, records_offset, body_part_size, bodies_start, hand_start, contents_size, flag_byte, host_bytes, are_flags, read_host, bodies_bytes, hand_bytes, no_place, contents_bytes, body_read, cursor_in, checked_in, are_contents, is_kept, kept_in, refused_host};
+ghost use Rattle.host_bytes.specs.Layout.{row_offset, entry_offset, count_at, length_offset, records_offset, body_part_size, bodies_start, hand_start, contents_size, flag_byte, host_bytes, are_flags, read_host, bodies_bytes, hand_bytes, no_place, contents_bytes, body_read, cursor_in, checked_by, checked_in, are_contents, is_kept, kept_in, refused_host};
 
 use crate::put::{WORD_SIZE, put_words};
 use crate::stage::{SENDING, passed_in, stage_in, stage_words};
 use bundle_layout::blank::no_entries;
 use bundle_layout::limits::OFFER_LIMIT;
-use bundle_layout::{BundleRefusal, Checked, Entry, LAST_ROW, verdict_of};
+use bundle_layout::{BundleRefusal, BundleRow, Checked, Entry, LAST_ROW, verdict_of};
 use host_record::fits::Body;
 use host_record::record::{Host, HostStage};
 use wire::words;
@@ -172,6 +173,21 @@ pub fn contents_bytes(told: Result<Checked, BundleRefusal>) -> [u8; CONTENTS_SIZ
     }
 }
 
+// The same with any row or none, any entry, count and bodies, as a check may not have left them. Where no row refuses, no entry is kept.
+pub fn contents_laid(
+    row: Option<BundleRow>,
+    place: u8,
+    count: u8,
+    table: [Entry; OFFER_LIMIT],
+) -> [u8; CONTENTS_SIZE]
+    ensures { result ≡ contents_bytes (record { row = row_of row place; place = place; count = count; table = table }) no_place 0 }
+{
+    match row {
+        None => laid(0, 0, count, table),
+        Some(row) => laid(row.number(), place, count, table),
+    }
+}
+
 // The row that the contents keep, the entry that it names, and the count of offers.
 pub fn row_in(q: &[u8]) -> u8
     ensures { result ≡ get_or q.now row_offset 0 }
@@ -191,17 +207,22 @@ pub fn count_in(q: &[u8]) -> u8
     words::byte_at(q, COUNT_AT)
 }
 
-// What contents keep of the check of a bundle: how many offers it has, or its refusal; a number past the last row's is that of B8.
+// What a row, an entry and a count say of the check of a bundle: how many offers it has, or its refusal. The entry counts only where a row refuses, and the count
+// only where none does.
+pub fn checked_by(row: Option<BundleRow>, place: u8, count: u8) -> Result<u8, BundleRefusal>
+    ensures { result ≡ checked_by row place count }
+{
+    match row {
+        None => Ok(count),
+        Some(row) => Err(BundleRefusal { row, place }),
+    }
+}
+
+// What contents keep of the check of a bundle; a number past the last row's is that of B8.
 pub fn checked_in(q: &[u8]) -> Result<u8, BundleRefusal>
     ensures { result ≡ checked_in q.now }
 {
-    match verdict_of(row_in(q)) {
-        None => Ok(count_in(q)),
-        Some(row) => Err(BundleRefusal {
-            row,
-            place: entry_in(q),
-        }),
-    }
+    checked_by(verdict_of(row_in(q)), entry_in(q), count_in(q))
 }
 
 // Bytes that a check may have left.

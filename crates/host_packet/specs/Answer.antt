@@ -47,6 +47,15 @@ entry_of served = 0
 entry_of (row_b k entry) = entry
 entry_of (row_n k) = 0
 
+-- the number of the row of a result, 0 where none refuses; and the entry that it names, or 0
+abbrev pub number_told : {A : Type 0} → Result A StepRefusal → ℕ
+number_told (Ok a) = 0
+number_told (Err r) = number_of (row_of r)
+
+abbrev pub entry_told : {A : Type 0} → Result A StepRefusal → ℕ
+entry_told (Ok a) = 0
+entry_told (Err r) = entry_of (row_of r)
+
 -- how many bytes are sent
 abbrev pub size_of : Sent → ℕ
 size_of sent.Nothing = 0

@@ -1,7 +1,7 @@
 // What a step of the host answers.
 ghost use Rattle.std.specs.Prelude.{◌≡◌};
 ghost use Rattle.host_packet.specs.declared.answer.StepRefusal.TheVariants.{Bundle};
-ghost use Rattle.host_packet.specs.Answer.{row_of, number_of, entry_of, size_of};
+ghost use Rattle.host_packet.specs.Answer.{row_of, number_of, entry_of, number_told, entry_told, size_of, told};
 
 use crate::packet::PACKET_SIZE;
 use bundle_layout::BundleRefusal;
@@ -44,6 +44,26 @@ impl StepRefusal {
             StepRefusal::N1 => 0,
         }
     }
+
+    // The number of the row that refuses, 0 for none.
+    pub fn number_told<T: Copy>(answer: Result<T, StepRefusal>) -> u8
+        ensures { result ≡ number_told answer }
+    {
+        match answer {
+            Ok(_) => 0,
+            Err(refusal) => refusal.number(),
+        }
+    }
+
+    // The entry that the row names, or 0.
+    pub fn entry_told<T: Copy>(answer: Result<T, StepRefusal>) -> u8
+        ensures { result ≡ entry_told answer }
+    {
+        match answer {
+            Ok(_) => 0,
+            Err(refusal) => refusal.entry(),
+        }
+    }
 }
 
 // What is sent: nothing, the short packet at the start of the bytes, or all of them.
@@ -74,6 +94,26 @@ pub struct StepAnswer {
     // Zero where nothing is sent, and past what is sent.
     pub packet: [u8; PACKET_SIZE],
     pub host: Host,
+}
+
+// The record after a step: the next one, or the same where a row refuses.
+pub fn host_after(host: Host, answer: Result<StepAnswer, StepRefusal>) -> Host
+    ensures { result ≡ (told host answer).host }
+{
+    match answer {
+        Ok(a) => a.host,
+        Err(_) => host,
+    }
+}
+
+// The bytes of the packet after a step: zeros where a row refuses.
+pub fn packet_of(host: Host, answer: Result<StepAnswer, StepRefusal>) -> [u8; PACKET_SIZE]
+    ensures { result ≡ (told host answer).packet }
+{
+    match answer {
+        Ok(a) => a.packet,
+        Err(_) => [0; PACKET_SIZE],
+    }
 }
 
 // What was written into the packet: what is sent, and the place of the record after the one in hand.

@@ -32,6 +32,15 @@ entry_of served = 0
 entry_of (row_b k entry) = entry
 entry_of (row_d k) = 0
 
+-- the number of the row of a result, 0 where none refuses; and the entry that it names, or 0
+abbrev pub number_told : {A : Type 0} → Result A RunRefusal → ℕ
+number_told (Ok a) = 0
+number_told (Err r) = number_of (row_of r)
+
+abbrev pub entry_told : {A : Type 0} → Result A RunRefusal → ℕ
+entry_told (Ok a) = 0
+entry_told (Err r) = entry_of (row_of r)
+
 -- what a run answers: its row, the report, the next record, and every byte of the staging buffer
 pub record Ran : Type 0 where
   pub row : Row

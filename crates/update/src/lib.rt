@@ -1,15 +1,17 @@
 // Both ends: the run of a fresh host against a device, and what it answers.
 #![tactic(auto)]
 
-ghost use Rattle.std.specs.Prelude.{◌≡◌};
+ghost use Rattle.std.specs.Prelude.{◌≡◌, []};
+ghost use Rattle.host_record.specs.Record.{told_report};
 ghost use Rattle.update.specs.declared.RunRefusal.TheVariants.{Bundle};
-ghost use Rattle.update.specs.Answer.{row_of, number_of, entry_of, run_of, told};
+ghost use Rattle.update.specs.Answer.{row_of, number_of, entry_of, number_told, entry_told, run_of, told};
 ghost use Rattle.update.specs.Demand.{DemandOf};
 
 use crate::turn::run_to_end;
 use bundle::check;
 use bundle_layout::BundleRefusal;
 use device::record::Device;
+use host_record::record::Host;
 use host_record::report::Report;
 
 pub mod turn; // turn.rt: one turn, and the turns until the host has ended
@@ -53,6 +55,26 @@ impl RunRefusal {
             _ => 0,
         }
     }
+
+    // The number of the row that refuses, 0 for none.
+    pub fn number_told<T: Copy>(answer: Result<T, RunRefusal>) -> u8
+        ensures { result ≡ number_told answer }
+    {
+        match answer {
+            Ok(_) => 0,
+            Err(refusal) => refusal.number(),
+        }
+    }
+
+    // The entry that a bundle's row names, or 0.
+    pub fn entry_told<T: Copy>(answer: Result<T, RunRefusal>) -> u8
+        ensures { result ≡ entry_told answer }
+    {
+        match answer {
+            Ok(_) => 0,
+            Err(refusal) => refusal.entry(),
+        }
+    }
 }
 
 // What a run that no row refuses answers.
@@ -60,6 +82,20 @@ impl RunRefusal {
 pub struct RunAnswer {
     pub report: Report,
     pub device: Device,
+}
+
+// What a run leaves: its report and device, or the report of a host that has sent nothing and the device as it was where a row refuses.
+pub fn left_by(token: u8, device: Device, answer: Result<RunAnswer, RunRefusal>) -> RunAnswer
+    ensures report { told_report result.report ≡ (told token device answer []).report }
+    ensures device { result.device ≡ (told token device answer []).device }
+{
+    match answer {
+        Ok(left) => left,
+        Err(_) => RunAnswer {
+            report: Host::fresh(token).report(),
+            device,
+        },
+    }
 }
 
 // The bundle's rows, D1 and D2; or the run, and demand 3 of its answer. A refused run sends nothing and changes nothing.

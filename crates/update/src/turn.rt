@@ -1,15 +1,17 @@
 // A fresh host and a device in turn, over the contents of a bundle that was checked once, so that the work is linear in the packets.
 ghost use Rattle.std.specs.Prelude.{◌≡◌, cond, []};
+ghost use Rattle.std.specs.Result.{result_unwrap_or};
 ghost use Rattle.wire.specs.Codes.{short_size};
 ghost use Rattle.bundle_layout.specs.Rows as rows;
 ghost use Rattle.bundle.specs.Contents.{told_checked, check_of};
+ghost use Rattle.device_session.specs.Effect.{no_replies};
 ghost use Rattle.host_record.specs.Record.{has_ended};
 ghost use Rattle.host_packet.specs.Answer.{sent_by};
 ghost use Rattle.update.specs.Run.{once, last_of};
 ghost use Rattle.update.specs.Turn.{Comes, Delivered, Turned};
 
 use bundle_layout::Checked;
-use device::answer::Answer;
+use device::answer::{Answer, Refusal};
 use device::record::Device;
 use device_session::effect::Replies;
 use host::inner::inner_step;
@@ -44,19 +46,33 @@ fn heard(due: bool) -> usize
     if due { SHORT_SIZE } else { 0 }
 }
 
+// Nothing is answered: the device stays, and no reply is on its way.
+fn still(device: Device) -> Answer
+    ensures { result ≡ record { replies = no_replies; device = device } }
+{
+    let replies = Replies::none();
+    Answer { replies, device }
+}
+
+// What the device answers; where a row refuses, it stays, and no reply is on its way.
+fn answered(device: Device, answer: Result<Answer, Refusal>) -> Answer
+    ensures { result ≡ result_unwrap_or answer (record { replies = no_replies; device = device }) }
+{
+    match answer {
+        Ok(answer) => answer,
+        Err(_) => still(device),
+    }
+}
+
 // What the host sent is answered; where it sent nothing, or a row refuses it, the device stays, and no reply is on its way.
 fn deliver(sent: Sent, packet: &[u8; PACKET_SIZE], e: BothEnds, staging: &mut [u8]) -> Answer
     ensures { Delivered (sent_by sent packet.now) e staging.old result staging.new }
 {
     let device = e.device;
-    let replies = Replies::none();
-    let still = Answer { replies, device };
     match sent {
-        Sent::Nothing => still,
-        Sent::Offer => device
-            .offer(staging, &packet[..SHORT_SIZE])
-            .unwrap_or(still),
-        Sent::Content => device.content(staging, packet).unwrap_or(still),
+        Sent::Nothing => still(device),
+        Sent::Offer => answered(device, device.offer(staging, &packet[..SHORT_SIZE])),
+        Sent::Content => answered(device, device.content(staging, packet)),
     }
 }
 

@@ -10,6 +10,7 @@ use Rattle.c_types.specs.Numbers.{wrong_list}
 use Rattle.c_types.specs.Lent.{leaves}
 use Rattle.c_types.proofs.lent.Laws.{lent_refused, lent_served}
 use Rattle.c_device.specs.Device.{set_up_call}
+use Rattle.c_device.proofs.Laws.{of_setup}
 use Rattle.c_device.proofs.cfu_device_set_up.Goals.{Else-number-ne-SERVED}
 use Rattle.c_device.proofs.cfu_device_set_up.Goals as goal
 
@@ -33,4 +34,4 @@ pub returns-in-Err : goal.returns-in-Err
 unfolding set_up_call
 returns-in-Err c =
     let t = fit (goal.at.returns-in-Err c).Else-number-ne-SERVED in
-    rw (t.0, t.1, ← c.read_list.ensures, ← c.in-Err.ensures, c.number.ensures)
+    rw (t.0, t.1, ← c.read_list.ensures, ← c.in-Err.ensures, c.lettered.ensures, c.number.ensures, of_setup c.in-Err.row)

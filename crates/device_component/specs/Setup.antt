@@ -22,6 +22,11 @@ number_of S3 = 3
 number_of S4 = 4
 number_of S5 = 5
 
+-- the number of the row that an answer refuses by, or 0 where no row refuses
+abbrev pub number_told : {A : Type 0} → Result A SetupRow → ℕ
+number_told (Ok x) = 0
+number_told (Err row) = number_of row
+
 -- what set-up's rows say of a list: it is fine, or the row that refuses it
 abbrev pub SetupVerdict : Type 0
 SetupVerdict = Result (Unit {0}) SetupRow

@@ -54,10 +54,16 @@ pub fn find(components: [Component; COMPONENT_LIMIT], count: u8, id: u8) -> Opti
         .map(|k| k as u8)
 }
 
-// D1: some component is flawed, or two clash.
+// D1: some component is flawed, or two clash. One walk, up to the first of these.
 pub fn some_unsound(n: usize, components: [Component; COMPONENT_LIMIT], count: u8) -> bool
     ensures { result ≡ unsound n (take count components) }
 {
-    let listed = in_use(&components, count);
-    listed.iter().any(|c| flawed(n, *c)) | some_two(listed, clash)
+    let mut rest = in_use(&components, count);
+    while let Some((c, later)) = rest.split_first() {
+        if flawed(n, *c) || later.iter().any(|d| clash(*c, *d)) {
+            return true;
+        }
+        rest = later;
+    }
+    false
 }

@@ -1,6 +1,6 @@
 // The verdict of set-up on a list of components and a staging length (document 01, "Numbered refusals"; S5: document 02, A5).
 ghost use Rattle.std.specs.Prelude.{◌≡◌};
-ghost use Rattle.device_component.specs.Setup.{number_of, staging_too_long, bad_count, bad_ids, bad_regions, bad_floors, setup_verdict};
+ghost use Rattle.device_component.specs.Setup.{number_of, number_told, staging_too_long, bad_count, bad_ids, bad_regions, bad_floors, setup_verdict};
 
 use crate::list::{in_use, some_two};
 use crate::record::Component;
@@ -29,6 +29,16 @@ impl SetupRow {
         ensures { result ≡ number_of self }
     {
         self as u8
+    }
+
+    // The number of the row that an answer refuses by, or 0 where none does.
+    pub fn number_told<T: Copy>(answer: Result<T, SetupRow>) -> u8
+        ensures { result ≡ number_told answer }
+    {
+        match answer {
+            Ok(_) => 0,
+            Err(row) => row.number(),
+        }
     }
 }
 

@@ -16,6 +16,11 @@ number_of P2 = 2
 abbrev pub row_of : PacketRefusal → Row
 row_of e = row_p (number_of e)
 
+-- the number of an answer's row, or 0 where no row refuses
+abbrev pub row_number : Row → ℕ
+row_number served = 0
+row_number (row_p k) = k
+
 -- what a build or a read answers: its row, and the bytes or the fields
 pub record Told (A : Type 0) : Type 0 where
   pub row : Row

@@ -1,6 +1,6 @@
 // Why a packet is not built or not read (document 01, "Numbered refusals").
 ghost use Rattle.std.specs.Prelude.{◌≡◌};
-ghost use Rattle.wire.specs.Rows.{number_of};
+ghost use Rattle.wire.specs.Rows.{number_of, row_number, told};
 
 #[derive(Clone, Copy, Debug, PartialEq, Eq)]
 pub enum PacketRefusal {
@@ -19,5 +19,16 @@ impl PacketRefusal {
             PacketRefusal::P1 => 1,
             PacketRefusal::P2 => 2,
         }
+    }
+}
+
+// What a build or a read answers: the number of its row, or 0, and its bytes or fields, which are these zeros where a row refuses.
+pub fn told<T: Copy>(answer: Result<T, PacketRefusal>, zeros: T) -> (u8, T)
+    ensures number { result.0 ≡ row_number (told zeros answer).row }
+    ensures value { result.1 ≡ (told zeros answer).value }
+{
+    match answer {
+        Ok(value) => (0, value),
+        Err(refusal) => (refusal.number(), zeros),
     }
 }

@@ -1,9 +1,9 @@
 """The wrong programs of each crate, and the function that each changes.
 
 They stand in edit files: crates/NAME/must-fail/*.edit, which `rt ci` tries, and tests/wrong/NAME/*.edit, which tools/wrong tries beside those. A file holds one
-wrong program or several. Each is a comment with its words, then `file:`, `old:` and `new:` of one line; where it changes one function at two places, the three
-lines stand again, without a comment. Several stand together where they change different functions, whether or not one calls the other: each is refused at a fact
-of its own function, and one check of the crate tries them all (docs/DECISIONS.md, Q147)."""
+wrong program or several. Each is a comment with its words, then `file:`, `old:` and `new:` of one line: it changes one place. Several stand together where they
+change different functions, whether or not one calls the other: each is refused at a fact of its own function, and one check of the crate tries them all
+(docs/DECISIONS.md, Q147)."""
 import glob
 import os
 import re
@@ -16,8 +16,8 @@ from crates import TOP, crates
 ITEM = re.compile(r'^\s*(?:pub(?:\([a-z]+\))? )?(?:extern "C" )?(fn|const) (\w+)', re.M)
 DEFINITION = re.compile(r"^\s*(?:unfoldable |abbrev )?(?:pub )?([\w'«»-]+) :", re.M)
 
-# One wrong program. path: its edit file; kind: 'fn' or 'const' of the code, or 'definition'; item: its name; text: the file that it changes; further: the old and
-# the new text of each further place of that item.
+# One wrong program. path: its edit file; kind: 'fn' or 'const' of the code, or 'definition'; item: its name; text: the file that it changes; further: nothing,
+# since it changes one place (tools/pack asks for it).
 Wrong = namedtuple('Wrong', 'crate path label words file old new kind item text further', defaults=[()])
 
 
@@ -45,7 +45,7 @@ def wrong_programs(kind=None, asked=()):
         if asked and crate not in asked:
             continue
         for path in paths(crate, kind):
-            label, words, file, old, last = os.path.basename(path)[:-len('.edit')], '', '', '', None
+            label, words, file, old = os.path.basename(path)[:-len('.edit')], '', '', ''
             for line in read(path).split('\n'):
                 if line.startswith('--'):
                     words = line[2:].strip()
@@ -57,24 +57,17 @@ def wrong_programs(kind=None, asked=()):
                     text = read(f'{TOP}/crates/{crate}/{file}')
                     if text.count(old) != 1:
                         raise SystemExit(f'{os.path.relpath(path, TOP)}: its old text stands {text.count(old)} times in {file}: {old}')
-                    new, of = line[len('new:'):].removeprefix(' '), (file, *changed(text, file, old))
-                    if last and not words and of == (last.file, last.kind, last.item):
-                        last = last._replace(further=(*last.further, (old, new)))
-                        continue
-                    if last:
-                        yield last
-                    last, words = Wrong(crate, path, label, words, file, old, new, *of[1:], text), ''
-            if last:
-                yield last
+                    new = line[len('new:'):].removeprefix(' ')
+                    yield Wrong(crate, path, label, words, file, old, new, *changed(text, file, old), text)
+                    words = ''
 
 
 def edited(programs):
     """The files that the wrong programs of one edit change, by their names in the crate, or None where one hides the old text of another."""
     files = {}
     for p in programs:
-        files.setdefault(p.file, p.text)
-        for old, new in ((p.old, p.new), *p.further):
-            if files[p.file].count(old) != 1:
-                return None
-            files[p.file] = files[p.file].replace(old, new)
+        text = files.setdefault(p.file, p.text)
+        if text.count(p.old) != 1:
+            return None
+        files[p.file] = text.replace(p.old, p.new)
     return files

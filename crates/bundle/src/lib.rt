@@ -4,7 +4,7 @@
 ghost use Rattle.std.specs.Prelude.{◌≡◌};
 ghost use Rattle.bundle.specs.Contents.{told_checked, check_of};
 
-use bundle_layout::blank::refused;
+use bundle_layout::blank::{no_entries, refused};
 use bundle_layout::{BundleRefusal, BundleRow, Checked, head};
 
 mod table; // table.rt: an entry of the table, rows B5 and B6
@@ -39,5 +39,19 @@ pub fn check(b: &[u8]) -> Result<Checked, BundleRefusal>
     match contents::contents_of(b) {
         Err(place) => refused(BundleRow::B8, place),
         Ok(table) => Ok(Checked { count: b[0], table }),
+    }
+}
+
+// The contents that an answer of the check stands for: of no offers where a row refuses.
+pub fn contents_told(answer: Result<Checked, BundleRefusal>) -> Checked
+    ensures count { result.count ≡ (told_checked answer).count }
+    ensures table { result.table ≡ (told_checked answer).table }
+{
+    match answer {
+        Ok(checked) => checked,
+        Err(_) => Checked {
+            count: 0,
+            table: no_entries(),
+        },
     }
 }

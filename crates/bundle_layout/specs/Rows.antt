@@ -1,6 +1,6 @@
 -- Rows B1 to B8 (document 01, "Numbered refusals"), each over the whole bundle before the next. Rows B5 to B8 answer the entry that they name,
 -- counted from 1, or 0 where they refuse nothing; B1 to B4 name no entry.
-use Rattle.std.specs.Prelude.{ℕ, Option, Some, None, suc, ◌+◌, ◌-◌, Bool, true, false, not, cond, ◌||◌, List, [], ◌∷◌, ltb, eqb, length, get_or}
+use Rattle.std.specs.Prelude.{ℕ, Option, Some, None, Result, Ok, Err, suc, ◌+◌, ◌-◌, Bool, true, false, not, cond, ◌||◌, List, [], ◌∷◌, ltb, eqb, length, get_or}
 use Rattle.wire.specs.Checks.{first_of, any}
 use Rattle.wire.specs.Codes.{protocol_number, id_limit}
 use Rattle.bundle_records.specs.Parse.{Parsed, whole, broken, records_of}
@@ -28,6 +28,11 @@ number_of B5 = 5
 number_of B6 = 6
 number_of B7 = 7
 number_of B8 = last_row
+
+-- the number of the row that an answer refuses by, or 0 where no row refuses
+abbrev pub number_told : {A : Type 0} → Result A BundleRefusal → ℕ
+number_told (Ok x) = 0
+number_told (Err r) = number_of r.row
 
 -- the row of a number, with its entry
 abbrev pub row_at : (number entry : ℕ) → Row

@@ -2,7 +2,7 @@
 #![tactic(auto)]
 
 ghost use Rattle.std.specs.Prelude.{◌≡◌};
-ghost use Rattle.bundle_layout.specs.Rows.{number_of, verdict_of};
+ghost use Rattle.bundle_layout.specs.Rows.{number_of, number_told, verdict_of};
 
 use crate::limits::OFFER_LIMIT;
 use wire_offer::offer::OfferFields;
@@ -60,6 +60,16 @@ impl BundleRow {
         ensures { result ≡ number_of self }
     {
         self as u8
+    }
+
+    // The number of the row that an answer refuses by, or 0 where none does.
+    pub fn number_told<T: Copy>(answer: Result<T, BundleRefusal>) -> u8
+        ensures { result ≡ number_told answer }
+    {
+        match answer {
+            Ok(_) => 0,
+            Err(refusal) => refusal.row.number(),
+        }
     }
 }
 

@@ -1,6 +1,6 @@
 -- Rows W1 to W8 (document 02, A3), in that order. As document 01 has it of the B rows, each is tried over the whole list before the next, and W2 to W6 answer
 -- the entry that they name, counted from 1, or 0 where they refuse nothing; W1, W7 and W8 name no entry.
-use Rattle.std.specs.Prelude.{ℕ, List, [], ◌∷◌, ltb, length}
+use Rattle.std.specs.Prelude.{ℕ, Result, Ok, Err, List, [], ◌∷◌, ltb, length}
 use Rattle.wire.specs.Checks.{first_of}
 use Rattle.bundle_layout.specs.Layout.{bundle_limit}
 use Rattle.bundle_layout.specs.Rows.{first_entry, repeated, named}
@@ -28,6 +28,11 @@ number_of W5 = 5
 number_of W6 = 6
 number_of W7 = 7
 number_of W8 = 8
+
+-- the number of the row that an answer refuses by, or 0 where no row refuses
+abbrev pub number_told : {A : Type 0} → Result A WriteRefusal → ℕ
+number_told (Ok x) = 0
+number_told (Err r) = number_of r.row
 
 -- the row of a refusal
 abbrev pub row_of : WriteRefusal → Row

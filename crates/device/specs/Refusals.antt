@@ -25,6 +25,11 @@ number_of D1 = 1
 number_of D2 = 2
 number_of D3 = 3
 
+-- the number of the row that an answer refuses by, or 0 where no row refuses
+abbrev pub number_told : {A : Type 0} → Result A Refusal → ℕ
+number_told (Ok x) = 0
+number_told (Err refusal) = number_of refusal
+
 abbrev pub row_of : Refusal → Row
 row_of refusal = row_d (number_of refusal)
 

@@ -1,6 +1,6 @@
 // What an entry of the device answers.
 ghost use Rattle.std.specs.Prelude.{◌≡◌};
-ghost use Rattle.device.specs.Refusals.{number_of, ready_bytes, answered, served_with};
+ghost use Rattle.device.specs.Refusals.{number_of, number_told, ready_bytes, answered, told, served_with};
 
 use crate::record::Device;
 use device_component::record::Component;
@@ -49,6 +49,16 @@ impl Refusal {
     {
         self as u8
     }
+
+    // The number of the row that an answer refuses by, or 0 where none does.
+    pub fn number_told<T: Copy>(answer: Result<T, Refusal>) -> u8
+        ensures { result ≡ number_told answer }
+    {
+        match answer {
+            Ok(_) => 0,
+            Err(refusal) => refusal.number(),
+        }
+    }
 }
 
 impl Device {
@@ -60,5 +70,19 @@ impl Device {
         let session = effect.session;
         let device = self.with_session(components, session);
         Answer { replies, device }
+    }
+
+    // The record after an offer or a content packet: as it was where a row refuses.
+    pub fn after(self, answer: Result<Answer, Refusal>) -> Device
+        ensures { result ≡ (told self answer).device }
+    {
+        answer.map_or(self, |a| a.device)
+    }
+
+    // What is sent after it: nothing, and a zeroed reply, where a row refuses.
+    pub fn replies_of(self, answer: Result<Answer, Refusal>) -> Replies
+        ensures { result ≡ (told self answer).replies }
+    {
+        answer.map_or(Replies::none(), |a| a.replies)
     }
 }

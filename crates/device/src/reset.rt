@@ -19,4 +19,11 @@ impl Device {
         let next = reset_components(components, self.count);
         Ok(self.with_session(next, Session::idle()))
     }
+
+    // The record after a reset: as it was where a row refuses.
+    pub fn after_reset(self, next: Result<Device, Refusal>) -> Device
+        ensures { result ≡ (told_reset self next).device }
+    {
+        next.unwrap_or(self)
+    }
 }

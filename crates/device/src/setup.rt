@@ -29,3 +29,10 @@ pub fn set_up(
         session,
     })
 }
+
+// The record after set-up: where a row refuses, the blank one, which every entry refuses.
+pub fn device_of(made: Result<Device, SetupRow>) -> Device
+    ensures { result ≡ (told_set_up made).device }
+{
+    made.unwrap_or(Device::blank())
+}

@@ -8,6 +8,13 @@ use device_slots::all::all_running;
 use wire::codes::PROTOCOL;
 use wire_version::{REPLY_SIZE, VersionReply, build_version_reply};
 
+// The packet of a version reply: zeroed where a row refuses.
+pub fn packet_of(answer: Result<[u8; REPLY_SIZE], Refusal>) -> [u8; REPLY_SIZE]
+    ensures { result ≡ (told_versions answer).packet }
+{
+    answer.unwrap_or([0u8; REPLY_SIZE])
+}
+
 impl Device {
     // D1, or the reply.
     pub fn version_reply(self) -> Result<[u8; REPLY_SIZE], Refusal>

@@ -1,5 +1,5 @@
 //! The bundle: document 01, "The bundle", rows B1 to B8, and examples E12 and E14; and a walk over a body's records. Written from that document.
-use cfu_updater::bundle::check;
+use cfu_updater::bundle::{check, contents_told};
 use cfu_updater::bundle_layout::{BundleRefusal, BundleRow, Checked};
 use cfu_updater::bundle_records::walk::{next_record, tally};
 use cfu_updater::bundle_records::Next;
@@ -39,10 +39,17 @@ fn length_of(entry: usize) -> usize {
     entry_start(entry - 1) + entry_at::LENGTH
 }
 
-/// The check answers this row and entry.
+/// The check answers this row and entry, and no contents.
 #[track_caller]
 fn refused(b: &[u8], row: BundleRow, place: u8) {
-    assert_eq!(check(b), Err(BundleRefusal { row, place }));
+    let answer = check(b);
+    assert_eq!(answer, Err(BundleRefusal { row, place }));
+    let c = contents_told(answer);
+    assert_eq!(c.count, 0);
+    for e in c.table {
+        assert_eq!((e.offset, e.length, e.records), (0, 0, 0));
+        assert_eq!((e.offer.id, e.offer.version.number(), e.offer.protocol), (0, 0, 0));
+    }
 }
 
 #[track_caller]

@@ -2,7 +2,7 @@
 //! from these documents.
 use cfu_updater::device::answer::Refusal;
 use cfu_updater::device::record::Device;
-use cfu_updater::device::setup::set_up;
+use cfu_updater::device::setup::{device_of, set_up};
 use cfu_updater::device_component::record::{Component, Fixed, Listed};
 use cfu_updater::device_component::setup::SetupRow;
 use cfu_updater::device_session::stage::Stage;
@@ -104,8 +104,9 @@ fn set_up_row_s5() {
         assert_eq!(verdict(all, 2), Err(SetupRow::S3));
     }
     assert_eq!(set_up(PLATFORM, odd, 2, &vec![0; STAGING_LIMIT + 1]), Err(SetupRow::S1));
-    // What is refused makes no device.
+    // What is refused leaves the blank device.
     assert_eq!(set_up(PLATFORM, odd, 2, &STAGING), Err(SetupRow::S5));
+    assert_eq!(device_of(set_up(PLATFORM, odd, 2, &STAGING)), Device::blank());
 }
 
 #[test]
@@ -204,6 +205,9 @@ fn answers(d: Device, answer: Result<(), Refusal>) {
     assert_eq!((offer.map(|_| ()), content.map(|_| ())), (answer, answer));
     assert_eq!((d.version_reply().map(|_| ()), d.reset().map(|_| ())), (answer, answer));
     assert_eq!(staging, STAGING);
+    if answer == Err(Refusal::D1) {
+        assert_eq!((d.after(offer), d.after(content), d.after_reset(d.reset())), (d, d, d));
+    }
 }
 
 #[test]

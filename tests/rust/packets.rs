@@ -8,7 +8,7 @@ use cfu_updater::wire_offer::reply::{build_offer_reply, read_offer_reply, OfferR
 use cfu_updater::wire_offer::signal::{build_extended, build_information, Signal};
 use cfu_updater::wire_version::{build_version_reply, read_version_reply, Running, VersionReply};
 use cfu_updater::wire::address::RegionAddress;
-use cfu_updater::wire::verdict::PacketRefusal;
+use cfu_updater::wire::verdict::{told, PacketRefusal};
 use cfu_updater::wire::version::Version;
 
 #[allow(dead_code)] // each test uses some of it
@@ -102,10 +102,13 @@ fn version_reply_p2_either_way() {
     for (count, protocol) in [(most + 1, 2), (255, 2), (2, 0), (2, 1), (2, 3), (most, 15)] {
         let built = build_version_reply(version_reply(count, protocol, &[running(1, 1, 2, 0x42)]));
         assert_eq!(built, Err(PacketRefusal::P2), "count {count} protocol {protocol}");
+        assert_eq!(told(built, [0; LONG_SIZE]), (2, [0; LONG_SIZE]));
         packet[version_reply_at::COUNT] = count;
         packet[version_reply_at::PROTOCOL] = protocol;
         packet[version_reply_at::COMPONENTS + 5] = 1;
-        assert_eq!(read_version_reply(&packet), Err(PacketRefusal::P2), "count {count} protocol {protocol}");
+        let read = read_version_reply(&packet);
+        assert_eq!(read, Err(PacketRefusal::P2), "count {count} protocol {protocol}");
+        assert_eq!(told(read, VersionReply::default()), (2, version_reply(0, 0, &[])));
     }
     // A protocol too large for its four bits, whose low bits are 2.
     assert_eq!(build_version_reply(version_reply(2, 18, &[])), Err(PacketRefusal::P2));
@@ -182,7 +185,7 @@ fn offer_p2() {
         OfferFields { protocol: 18, ..e2() },
     ];
     for fields in cases {
-        assert_eq!(build_offer(fields), Err(PacketRefusal::P2), "{fields:?}");
+        assert_eq!(told(build_offer(fields), [0; SHORT_SIZE]), (2, [0; SHORT_SIZE]), "{fields:?}");
     }
     let largest = OfferFields { id: 0xFD, least: 0xFFFFFF, protocol: 15, ..e2() };
     assert!(build_offer(largest).is_ok());
@@ -317,25 +320,10 @@ fn e7_content_reply_both_ways() {
     }
 }
 
-/// Every reader at every other length up to 100: the refusal, and the fields that stand for it, all zero.
+/// Every reader at every other length up to 100: the number, and all fields zero.
 #[test]
 fn p1_every_reader_at_every_other_length() {
     let bytes = [0xFF; 100];
-    for n in 0..=100 {
-        let p = &bytes[..n];
-        if n != SHORT_SIZE {
-            assert_eq!(read_offer_packet(p), Err(PacketRefusal::P1), "{n} bytes");
-            assert_eq!(read_offer_reply(p), Err(PacketRefusal::P1), "{n} bytes");
-            assert_eq!(read_content_reply(p), Err(PacketRefusal::P1), "{n} bytes");
-        }
-        if n != LONG_SIZE {
-            assert_eq!(read_version_reply(p), Err(PacketRefusal::P1), "{n} bytes");
-            assert_eq!(read_content(p), Err(PacketRefusal::P1), "{n} bytes");
-        }
-    }
-    assert_eq!(OfferReply::default(), OfferReply { token: 0, reason: 0, status: 0 });
-    assert_eq!(ContentReply::default(), ContentReply { sequence: 0, status: 0 });
-    assert_eq!(VersionReply::default(), version_reply(0, 0, &[]));
     let zero = ContentFields {
         flags: 0,
         length: 0,
@@ -343,5 +331,24 @@ fn p1_every_reader_at_every_other_length() {
         address: RegionAddress::new(0),
         data: [0; DATA_SIZE],
     };
+    for n in 0..=100 {
+        let p = &bytes[..n];
+        if n != SHORT_SIZE {
+            assert_eq!(read_offer_packet(p), Err(PacketRefusal::P1), "{n} bytes");
+            let offer = told(read_offer_reply(p), OfferReply::default());
+            assert_eq!(offer, (1, OfferReply { token: 0, reason: 0, status: 0 }), "{n} bytes");
+            let content = told(read_content_reply(p), ContentReply::default());
+            assert_eq!(content, (1, ContentReply { sequence: 0, status: 0 }), "{n} bytes");
+        }
+        if n != LONG_SIZE {
+            let version = told(read_version_reply(p), VersionReply::default());
+            assert_eq!(version, (1, version_reply(0, 0, &[])), "{n} bytes");
+            let content = told(read_content(p), ContentFields::default());
+            assert_eq!(content, (1, zero), "{n} bytes");
+        }
+    }
+    assert_eq!(OfferReply::default(), OfferReply { token: 0, reason: 0, status: 0 });
+    assert_eq!(ContentReply::default(), ContentReply { sequence: 0, status: 0 });
+    assert_eq!(VersionReply::default(), version_reply(0, 0, &[]));
     assert_eq!(ContentFields::default(), zero);
 }

@@ -13,7 +13,7 @@ use cfu_updater::host_record::record::{Awaited, End, Host, HostStage, Place};
 use cfu_updater::image::region::{Region, StagingOffset};
 use cfu_updater::bundle_layout::{BundleRefusal, BundleRow, Checked};
 use cfu_updater::host_packet::action::written;
-use cfu_updater::host_packet::answer::{Sent, StepRefusal, Written};
+use cfu_updater::host_packet::answer::{host_after, packet_of, Sent, StepRefusal, Written};
 use cfu_updater::bundle_records::walk::next_record;
 use cfu_updater::bundle_records::Next;
 use cfu_updater::update::run;
@@ -153,7 +153,9 @@ fn bodies_past_32_bits() {
 fn blocks_past_32_bits() {
     let b = one_first();
     let h = sending(0, 0xFFFFFFFF);
-    assert_eq!(step(h, &b, &[0; SHORT_SIZE]), Err(StepRefusal::N1));
+    // Nothing is sent, and the record is unchanged.
+    let a = step(h, &b, &[0; SHORT_SIZE]);
+    assert_eq!((a, packet_of(h, a), host_after(h, a)), (Err(StepRefusal::N1), [0; LONG_SIZE], h));
     for records in [0, 2, 0xFFFFFFFF] {
         let c = moved(56, 74, records);
         let mut packet = [0x5A; LONG_SIZE];

@@ -152,11 +152,14 @@ fn component(out: &mut impl Write, c: Component) -> io::Result<()> {
 }
 
 // The bytes of a record: platform, staging, session, its previous packet unless that is blank, and as many components as it counts.
-pub fn record(out: &mut impl Write, b: &[u8; DEVICE_SIZE]) -> io::Result<()> {
-    let d = fields_in(b);
+pub fn record(out: &mut impl Write, b: &[u8]) -> io::Result<()> {
+    let n = b.len().min(DEVICE_SIZE);
+    let mut bytes = [0; DEVICE_SIZE];
+    bytes[..n].copy_from_slice(&b[..n]);
+    let d = fields_in(&bytes);
     write!(out, "record: platform {:04x}", d.platform)?;
     write!(out, ", staging {}, ", d.staging_len)?;
-    session(out, &b[SESSION_START..])?;
+    session(out, &bytes[SESSION_START..])?;
     let previous = d.session.previous;
     if previous != [0; LONG_SIZE] {
         write!(out, ", previous {}", Hex(&previous))?;
@@ -189,7 +192,7 @@ pub fn report(out: &mut impl Write, r: Report) -> io::Result<()> {
 }
 
 // What a run leaves: the record, and the bytes of the staging buffer.
-pub fn left(out: &mut impl Write, device: &[u8; DEVICE_SIZE], staging: &[u8]) -> io::Result<()> {
+pub fn left(out: &mut impl Write, device: &[u8], staging: &[u8]) -> io::Result<()> {
     record(out, device)?;
     writeln!(out, "staging {}", Hex(staging))
 }

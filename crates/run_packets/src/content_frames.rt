@@ -5,6 +5,7 @@ use run_print::show::SpacedHex;
 use std::io;
 use std::io::Write;
 use wire::address::RegionAddress;
+use wire::codes::LONG_SIZE;
 use wire::verdict::told;
 use wire_content::content::ContentFields;
 use wire_content::reply::ContentReply;
@@ -39,7 +40,9 @@ pub fn build(out: &mut impl Write, p: &[u8]) -> io::Result<()> {
         data: f.array(),
     };
     fields(out, c)?;
-    line::built(out, wire_content::content::build_content(c))
+    let answer = wire_content::content::build_content(c);
+    let (_, packet) = told(answer, [0; LONG_SIZE]);
+    line::built(out, answer.err(), &packet)
 }
 
 pub fn read(out: &mut impl Write, p: &[u8]) -> io::Result<()> {

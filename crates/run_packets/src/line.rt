@@ -3,7 +3,7 @@ use run_print::show::SpacedHex;
 use std::io;
 use std::io::Write;
 use wire::codes::SHORT_SIZE;
-use wire::verdict::{PacketRefusal, told};
+use wire::verdict::PacketRefusal;
 
 // What stands before what came, with the refusal where there is one.
 pub fn gives(out: &mut impl Write, refusal: Option<PacketRefusal>) -> io::Result<()> {
@@ -14,17 +14,17 @@ pub fn gives(out: &mut impl Write, refusal: Option<PacketRefusal>) -> io::Result
     }
 }
 
-// What was built, or the refusal and zeros.
-pub fn built<const N: usize>(
+// What was built: the refusal where there is one, and the packet, which is zeros then.
+pub fn built(
     out: &mut impl Write,
-    answer: Result<[u8; N], PacketRefusal>,
+    refusal: Option<PacketRefusal>,
+    packet: &[u8],
 ) -> io::Result<()> {
-    gives(out, answer.err())?;
-    let (_, packet) = told(answer, [0; N]);
-    write!(out, "{}", SpacedHex(&packet))
+    gives(out, refusal)?;
+    write!(out, "{}", SpacedHex(packet))
 }
 
 // A packet of 16 bytes that is always built.
 pub fn packet(out: &mut impl Write, p: [u8; SHORT_SIZE]) -> io::Result<()> {
-    built(out, Ok(p))
+    built(out, None, &p)
 }

@@ -54,7 +54,9 @@ pub fn build(out: &mut impl Write, p: &[u8]) -> io::Result<()> {
         platform: f.word16(),
     };
     fields(out, o)?;
-    line::built(out, wire_offer::offer::build_offer(o))
+    let answer = wire_offer::offer::build_offer(o);
+    let (_, packet) = told(answer, [0; SHORT_SIZE]);
+    line::built(out, answer.err(), &packet)
 }
 
 fn signal(out: &mut impl Write, s: Signal) -> io::Result<()> {

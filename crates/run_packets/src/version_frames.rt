@@ -7,7 +7,7 @@ use std::io;
 use std::io::Write;
 use wire::codes::COMPONENT_LIMIT;
 use wire::verdict::told;
-use wire_version::VersionReply;
+use wire_version::{REPLY_SIZE, VersionReply};
 
 fn head(out: &mut impl Write, count: u8, protocol: u8) -> io::Result<()> {
     write!(out, " count {count} protocol {protocol}")
@@ -39,7 +39,9 @@ pub fn build(out: &mut impl Write, p: &[u8]) -> io::Result<()> {
         protocol,
         components: read_components(fields.0),
     };
-    line::built(out, wire_version::build_version_reply(r))
+    let answer = wire_version::build_version_reply(r);
+    let (_, packet) = told(answer, [0; REPLY_SIZE]);
+    line::built(out, answer.err(), &packet)
 }
 
 pub fn read(out: &mut impl Write, p: &[u8]) -> io::Result<()> {

@@ -114,9 +114,7 @@ fn turn(
             let answer = serve_in_place(device, channel, staging, packet);
             tell::answer(out, before, answer)
         }
-        Frame::Versions => {
-            writeln!(out, "versions {}", Hex(&packet_of(device.version_reply())))
-        }
+        Frame::Versions => { writeln!(out, "versions {}", Hex(&packet_of(device.version_reply()))) }
         Frame::Reset => {
             *device = device.after_reset(device.reset());
             writeln!(out, "reset")

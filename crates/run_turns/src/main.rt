@@ -27,7 +27,9 @@ struct Run<'a> {
     host: Host,
     bundle: &'a [u8],
     device: [u8; DEVICE_SIZE],
-    staging: &'a mut [u8],
+    // The first bytes are the staging buffer.
+    staging: [u8; STAGING_SIZE],
+    staging_len: usize,
     // The replies on their way to the host, in the order in which they were sent.
     replies: ArrayVec<[u8; SHORT_SIZE], PLACES>,
     // A bit for each packet that arrives twice, and how many packets were sent.
@@ -43,10 +45,12 @@ fn has_ended(h: Host) -> bool {
 impl Run<'_> {
     // A packet of the host arrives, and its first reply is put behind those on their way.
     fn arrives(&mut self, out: &mut impl Write, p: &[u8], again: bool) -> io::Result<()> {
+        let n = self.staging_len.min(STAGING_SIZE);
+        let staging = &mut self.staging[..n];
         let a = if p.len() == SHORT_SIZE {
-            offer_in_place(&mut self.device, self.staging, p)
+            offer_in_place(&mut self.device, staging, p)
         } else {
-            content_in_place(&mut self.device, self.staging, p)
+            content_in_place(&mut self.device, staging, p)
         };
         tell::exchange(out, p, again, a)?;
         if let Ok(sent) = a {
@@ -97,16 +101,17 @@ impl Run<'_> {
 
 // A case with a pattern has the report too.
 fn run_case(out: &mut impl Write, case: Case<'_>) -> io::Result<()> {
-    let mut buffer = [case.fill; STAGING_SIZE];
-    let Some(staging) = buffer.get_mut(..staging_len_in(&case.record) as usize) else {
+    let staging_len = staging_len_in(&case.record) as usize;
+    if STAGING_SIZE < staging_len {
         return Ok(());
-    };
+    }
     tell::record(out, &case.record)?;
     let mut run = Run {
         host: Host::fresh(case.token),
         bundle: case.bundle,
         device: case.record,
-        staging,
+        staging: [case.fill; STAGING_SIZE],
+        staging_len,
         replies: ArrayVec::new(),
         pattern: case.pattern.unwrap_or(0),
         sent: 0,
@@ -115,7 +120,7 @@ fn run_case(out: &mut impl Write, case: Case<'_>) -> io::Result<()> {
     if case.pattern.is_some() {
         tell::report(out, run.host.report())?;
     }
-    tell::left(out, &run.device, run.staging)
+    tell::left(out, &run.device, &run.staging[..staging_len])
 }
 
 fn main(rt: HostRuntime) -> io::Result<()> {

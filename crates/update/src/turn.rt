@@ -54,7 +54,7 @@ fn still(device: Device) -> Answer
     Answer { replies, device }
 }
 
-// What the device answers; where a row refuses, it stays, and no reply is on its way. That second answer is made only there.
+// What the device answers; where a row refuses, it stays, and no reply is on its way.
 fn answered(device: Device, answer: Result<Answer, Refusal>) -> Answer
     ensures { result ≡ result_unwrap_or answer (record { replies = no_replies; device = device }) }
 {

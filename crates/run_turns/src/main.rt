@@ -27,9 +27,7 @@ struct Run<'a> {
     host: Host,
     bundle: &'a [u8],
     device: [u8; DEVICE_SIZE],
-    // The first bytes are the staging buffer.
-    staging: [u8; STAGING_SIZE],
-    staging_len: usize,
+    staging: ArrayVec<u8, STAGING_SIZE>,
     // The replies on their way to the host, in the order in which they were sent.
     replies: ArrayVec<[u8; SHORT_SIZE], PLACES>,
     // A bit for each packet that arrives twice, and how many packets were sent.
@@ -45,12 +43,10 @@ fn has_ended(h: Host) -> bool {
 impl Run<'_> {
     // A packet of the host arrives, and its first reply is put behind those on their way.
     fn arrives(&mut self, out: &mut impl Write, p: &[u8], again: bool) -> io::Result<()> {
-        let n = self.staging_len.min(STAGING_SIZE);
-        let staging = &mut self.staging[..n];
         let a = if p.len() == SHORT_SIZE {
-            offer_in_place(&mut self.device, staging, p)
+            offer_in_place(&mut self.device, &mut self.staging, p)
         } else {
-            content_in_place(&mut self.device, staging, p)
+            content_in_place(&mut self.device, &mut self.staging, p)
         };
         tell::exchange(out, p, again, a)?;
         if let Ok(sent) = a {
@@ -99,6 +95,17 @@ impl Run<'_> {
     }
 }
 
+// The staging buffer of a case: so many bytes of a value, and no more than it holds.
+fn filled(value: u8, len: usize) -> ArrayVec<u8, STAGING_SIZE> {
+    let mut staging = ArrayVec::new();
+    for _ in 0..len {
+        if !staging.is_full() {
+            staging.push(value);
+        }
+    }
+    staging
+}
+
 // A case with a pattern has the report too.
 fn run_case(out: &mut impl Write, case: Case<'_>) -> io::Result<()> {
     let staging_len = staging_len_in(&case.record) as usize;
@@ -110,8 +117,7 @@ fn run_case(out: &mut impl Write, case: Case<'_>) -> io::Result<()> {
         host: Host::fresh(case.token),
         bundle: case.bundle,
         device: case.record,
-        staging: [case.fill; STAGING_SIZE],
-        staging_len,
+        staging: filled(case.fill, staging_len),
         replies: ArrayVec::new(),
         pattern: case.pattern.unwrap_or(0),
         sent: 0,
@@ -120,7 +126,7 @@ fn run_case(out: &mut impl Write, case: Case<'_>) -> io::Result<()> {
     if case.pattern.is_some() {
         tell::report(out, run.host.report())?;
     }
-    tell::left(out, &run.device, &run.staging[..staging_len])
+    tell::left(out, &run.device, &run.staging)
 }
 
 fn main(rt: HostRuntime) -> io::Result<()> {

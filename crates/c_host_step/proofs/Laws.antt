@@ -5,7 +5,7 @@ use mathlib.Core.List.{List, [], ◌∷◌, flatten, append-nil}
 use Rattle.std.specs.Prelude.{Option, Some, None, Result, Ok, Err}
 use Prim.Native.Nat.{ℕ, ◌≤◌}
 use native.Mathlib.Omega.{arith}
-use borrow.Author.Tests.{eq-eqb, ne_eqb, eqb-true, leb-true}
+use borrow.Author.Tests.{eq-eqb, eqb-true, leb-true}
 use lib.Dec.{eqb}
 use lib.ListN.{length, get_or, take, replicate}
 use lib.Seq.{length-take-le}
@@ -35,10 +35,8 @@ use Rattle.host_bytes.specs.Layout.{host_size, row_offset, entry_offset, count_a
 use Rattle.host_bytes.proofs.Contents.{body_read_lem}
 use Rattle.c_types.specs.declared.types.CStep.{CStep}
 use Rattle.c_types.specs.Numbers.{served_number, wrong_record, wrong_output, sized, lent_number}
-use Rattle.c_types.specs.Lent.{Left, leaves}
-use Rattle.c_host.specs.Numbers.{step_number}
-use Rattle.c_host_step.specs.Step.{refused_by, refused_step, answered_by, told_step, step_by, step_call, inner_over, checked, step_checked_call, step_checked_contents}
-use Rattle.c_types.proofs.lent.Laws.{stored, lent_refused, lent_served}
+use Rattle.c_host_step.specs.Step.{refused_by, refused_step, answered_by, told_by, host_after, kept_after, told_step, step_by, step_call, inner_over, checked, step_checked_call, step_checked_contents}
+use Rattle.c_types.proofs.lent.Laws.{lent_refused, lent_served}
 
 -- how many bytes are sent: none, the first 16, all 60
 sent_none : 0 ≡ length (flatten {A = ℕ} [])
@@ -182,7 +180,7 @@ module _ (host contents packet bundle reply : List ℕ) (test : Bool) (n : ℕ) 
   checked_fit h = let t = all_fit h in (eqb-true (length host) host_size t.0, t.1, eqb-true (length packet) long_size t.2)
 
   -- the step is served
-  pub checked_served : (s : Stepped) (a : CStep) (left after out : List ℕ) → n ≡ served_number → told_inner (read_host host) 0 (Ok s) out ≡ inner_over host contents bundle reply
+  checked_served : (s : Stepped) (a : CStep) (left after out : List ℕ) → n ≡ served_number → told_inner (read_host host) 0 (Ok s) out ≡ inner_over host contents bundle reply
       → length out ≡ long_size → a ≡ answered_by (Ok s.sent) → left ≡ host_bytes s.host → after ≡ kept_in contents s.host.stage s.cursor
       → (told_step a left out ≡ step_checked_call host contents bundle reply packet) × (after ≡ step_checked_contents host contents bundle reply packet)
   unfolding step_checked_call step_checked_contents
@@ -195,7 +193,7 @@ module _ (host contents packet bundle reply : List ℕ) (test : Bool) (n : ℕ) 
       )
 
   -- or a row of the step refuses it
-  pub checked_row : (h : Host) (cursor : ℕ) (r : StepRefusal) (a : CStep) (out : List ℕ) → n ≡ served_number → told_inner h cursor (Err r) out ≡ inner_over host contents bundle reply
+  checked_row : (h : Host) (cursor : ℕ) (r : StepRefusal) (a : CStep) (out : List ℕ) → n ≡ served_number → told_inner h cursor (Err r) out ≡ inner_over host contents bundle reply
       → a ≡ answered_by (Err r) → (told_step a host out ≡ step_checked_call host contents bundle reply packet) × (contents ≡ step_checked_contents host contents bundle reply packet)
   unfolding step_checked_call step_checked_contents
   checked_row h cursor r a out m f g =
@@ -203,3 +201,10 @@ module _ (host contents packet bundle reply : List ℕ) (test : Bool) (n : ℕ) 
         rw (t.0, t.1, t.2) (rw g (refused_left host out h r) ∙ ap (λ (x : InnerStep). step_by host x.step) f),
         rw (t.0, t.1, t.2) (kept_refused r contents _ ∙ ap (contents_after contents) f),
       )
+
+  -- what is told and left of the step
+  pub checked_left : (h : Host) (cursor : ℕ) (step : Result Stepped StepRefusal) (a : CStep) (left after out : List ℕ) → n ≡ served_number
+      → told_inner h cursor step out ≡ inner_over host contents bundle reply → length out ≡ long_size → a ≡ told_by step → left ≡ host_after step host → after ≡ kept_after step contents
+      → (told_step a left out ≡ step_checked_call host contents bundle reply packet) × (after ≡ step_checked_contents host contents bundle reply packet)
+  checked_left h cursor (Ok s) a left after out m f whole g i j = checked_served s a left after out m f whole g i j
+  checked_left h cursor (Err r) a left after out m f whole g i j = rw (i, j) (checked_row h cursor r a out m f g)

@@ -5,10 +5,11 @@ use Rattle.wire.specs.Codes.{long_size}
 use Rattle.host_packet.specs.Answer.{Step, served, row_of, entry_of, size_of}
 use Rattle.host_packet.specs.declared.answer.Sent.{Sent}
 use Rattle.host_packet.specs.declared.answer.StepRefusal.{StepRefusal}
+use Rattle.host_packet.specs.declared.answer.Stepped.{Stepped}
 use Rattle.host_packet.specs.Made.{InnerStep}
 use Rattle.host.specs.Step.{step_of}
 use Rattle.host.specs.Inner.{inner_for}
-use Rattle.host_bytes.specs.Layout.{host_size, host_bytes, read_host, contents_in, are_contents, cursor_for, kept_by, contents_after}
+use Rattle.host_bytes.specs.Layout.{host_size, host_bytes, read_host, contents_in, are_contents, cursor_for, kept_in, kept_by, contents_after}
 use Rattle.c_types.specs.declared.types.CStep.{CStep}
 use Rattle.c_types.specs.Numbers.{wrong_record, wrong_output, sized}
 use Rattle.c_host.specs.Numbers.{step_number}
@@ -33,6 +34,19 @@ refused_step number host packet = record { step = refused_by number; host = host
 abbrev pub answered_by : Result Sent StepRefusal → CStep
 answered_by (Ok sent) = record { number = step_number served; entry = entry_of served; length = size_of sent }
 answered_by (Err r) = record { number = step_number (row_of r); entry = entry_of (row_of r); length = 0 }
+
+-- what an inner step answers, and what it leaves of the record and of the contents: the next ones where no row refuses
+abbrev pub told_by : Result Stepped StepRefusal → CStep
+told_by (Ok s) = answered_by (Ok s.sent)
+told_by (Err r) = answered_by (Err r)
+
+abbrev pub host_after : Result Stepped StepRefusal → (host : List ℕ) → List ℕ
+host_after (Ok s) host = host_bytes s.host
+host_after (Err r) host = host
+
+abbrev pub kept_after : Result Stepped StepRefusal → (contents : List ℕ) → List ℕ
+kept_after (Ok s) contents = kept_in contents s.host.stage s.cursor
+kept_after (Err r) contents = contents
 
 abbrev pub step_by : (host : List ℕ) → Step → StepLeft
 step_by host s = record {

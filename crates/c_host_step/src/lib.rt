@@ -8,7 +8,7 @@ ghost use Rattle.host_packet.specs.Made.{told_inner};
 ghost use Rattle.host.specs.Inner.{cursor_at};
 ghost use Rattle.host_bytes.specs.Layout.{host_size, host_bytes, read_host, cursor_in, cursor_for, are_contents, is_kept};
 ghost use Rattle.c_host.specs.Numbers.{step_number};
-ghost use Rattle.c_host_step.specs.Step.{refused_by, answered_by, told_step, step_call, inner_over, step_checked_call, step_checked_contents};
+ghost use Rattle.c_host_step.specs.Step.{refused_by, answered_by, told_by, host_after, kept_after, told_step, step_call, inner_over, step_checked_call, step_checked_contents};
 
 use c_types::lent::lent_number;
 use c_types::numbers::{ROW_B, ROW_N, SERVED, WRONG_OUTPUT};
@@ -126,6 +126,20 @@ fn inner_over(
     inner_step(packet, checked, hand, cursor, h, bundle, reply)
 }
 
+// What the inner step answers; the next record, and the block with the cursor behind it, are stored where no row refuses.
+fn kept(stepped: Result<Stepped, StepRefusal>, host: &mut [u8], contents: &mut [u8]) -> CStep
+    requires { length host.old ≡ host_size }
+    ensures { (result ≡ told_by stepped) × (host.new ≡ host_after stepped host.old) × (contents.new ≡ kept_after stepped contents.old) }
+{
+    match stepped {
+        Ok(s) => {
+            keep(contents, s.host.stage, s.cursor);
+            served_step(host, s.sent, s.host)
+        }
+        Err(r) => refused_step(r),
+    }
+}
+
 // The step over contents that the check left: the bundle is not checked again.
 pub fn cfu_host_step_checked(
     host: &mut [u8],
@@ -142,11 +156,6 @@ pub fn cfu_host_step_checked(
     if number != SERVED {
         return refused(number);
     }
-    match inner_over(host, contents, bundle, reply, packet) {
-        Ok(s) => {
-            keep(contents, s.host.stage, s.cursor);
-            served_step(host, s.sent, s.host)
-        }
-        Err(r) => refused_step(r),
-    }
+    let stepped = inner_over(host, contents, bundle, reply, packet);
+    kept(stepped, host, contents)
 }

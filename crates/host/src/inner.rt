@@ -41,6 +41,7 @@ fn moved(
 }
 
 // The bundle's row, N1, or the move, in PACKET_SIZE bytes.
+#[tactic(auto, unfolding(crate::specs::Inner::inner_of))]
 fn inner_in(
     packet: &mut [u8; PACKET_SIZE],
     checked: Result<u8, BundleRefusal>,

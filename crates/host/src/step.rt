@@ -15,6 +15,7 @@ use host_record::fits::{Body, body_at, in_hand};
 use host_record::record::{Host, HostStage};
 
 // The place after the first `count` records that stand from `at` on; where there are fewer, the place after the last.
+#[tactic(auto, using(crate::proofs::step::Laws::past_one), unfolding(crate::specs::Inner::place_after))]
 fn place_after(b: &[u8], at: usize, end: u64, count: u64) -> usize
     ensures { result ≡ place_after b.now at end count }
 {

@@ -1,5 +1,5 @@
 -- The cursor that a walk over the body in hand finds is right, and so the step is the inner step with that cursor. Assumes nothing.
-use mathlib.Core.Path.{◌≡◌, refl, ap, ◌∙◌}
+use mathlib.Core.Path.{◌≡◌, refl, sym, ap, ◌∙◌}
 use mathlib.Core.Bool.{Bool, true, false, cond}
 use mathlib.Core.List.{List, [], ◌∷◌}
 use Prim.Native.Nat.{ℕ, zero, suc, ◌+◌, ◌≤◌}
@@ -7,6 +7,7 @@ use native.Mathlib.Numerals.{add-one}
 use native.Mathlib.Omega.{arith}
 use lib.ListN.{length, drop}
 use Rattle.wire.specs.Bytes.{Bytes}
+use Rattle.wire.specs.declared.address.RegionAddress.{RegionAddress}
 use Rattle.bundle_records.specs.Record.{Block}
 use Rattle.bundle_records.specs.Parse.{whole, records_of}
 use Rattle.bundle_records.specs.Walk.{between, next_of}
@@ -34,6 +35,11 @@ pub place_by : (b : List ℕ) (at end count m : ℕ) (n : Next) → count ≡ su
     → place_after b at end count ≡ past_record (λ past. place_after b past end m) at n
 unfolding place_after
 place_by b at end count m n e f = rw (e, f)
+
+-- past a record the walk goes on with one record less
+pub past_one : (b : List ℕ) (at end count m : ℕ) (n : Next) (address : RegionAddress) (start size x : ℕ) → count ≡ m + 1 → n ≡ next_of b at end
+    → n ≡ next.Record address start size x → place_after b at end count ≡ place_after b x end m
+past_one b at end count m n address start size x e f g = place_by b at end count m (next.Record address start size x) (e ∙ omega arith) (sym f ∙ g)
 
 module _ (b : List ℕ) (end : ℕ) (m : end ≤ length b) where
   -- after the first `count` records those that are left stand

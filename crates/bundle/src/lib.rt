@@ -12,6 +12,7 @@ mod chain; // chain.rt: row B7, the bodies one after the other
 mod contents; // contents.rt: row B8, and the contents table
 
 // Rows B1 to B8, each over the whole bundle before the next.
+#[tactic(auto, unfolding(crate::specs::Contents::check_of, bundle_layout::specs::Rows::bundle_row, wire::specs::Checks::first_of))]
 pub fn check(b: &[u8]) -> Result<Checked, BundleRefusal>
     ensures { told_checked result ≡ check_of b.now }
 {

@@ -33,6 +33,7 @@ pub fn device_number_told<T: Copy>(answer: Result<T, Refusal>) -> u32
 }
 
 // Set-up over a list of components as bytes.
+#[tactic(auto, unfolding(crate::specs::Device::set_up_call))]
 pub fn cfu_device_set_up(
     device: &mut [u8],
     platform: u16,
@@ -59,6 +60,7 @@ pub fn cfu_device_set_up(
     }
 }
 
+#[tactic(auto, unfolding(crate::specs::Device::versions_call))]
 pub fn cfu_device_version_reply(device: &[u8], packet: &mut [u8]) -> u32
     ensures { leaves result packet.new ≡ versions_call device.now packet.old }
 {
@@ -71,6 +73,7 @@ pub fn cfu_device_version_reply(device: &[u8], packet: &mut [u8]) -> u32
     }
 }
 
+#[tactic(auto, unfolding(crate::specs::Device::reset_call))]
 pub fn cfu_device_reset(device: &mut [u8]) -> u32
     ensures { leaves result device.new ≡ reset_call device.old }
 {

@@ -24,6 +24,7 @@ use host_record::record::{End, Host, PACKET_LIMIT};
 use wire::words;
 
 // The check of a bundle; its contents are left for cfu_host_step_checked.
+#[tactic(auto, unfolding(crate::specs::Check::check_call))]
 pub fn cfu_bundle_check(bundle: &[u8], contents: &mut [u8]) -> CCheck
     ensures { told_check result contents.new ≡ check_call bundle.now contents.old }
 {

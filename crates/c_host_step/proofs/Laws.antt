@@ -180,7 +180,7 @@ module _ (host contents packet bundle reply : List ℕ) (test : Bool) (n : ℕ) 
   checked_fit h = let t = all_fit h in (eqb-true (length host) host_size t.0, t.1, eqb-true (length packet) long_size t.2)
 
   -- the step is served
-  checked_served : (s : Stepped) (a : CStep) (left after out : List ℕ) → n ≡ served_number → told_inner (read_host host) 0 (Ok s) out ≡ inner_over host contents bundle reply
+  pub checked_served : (s : Stepped) (a : CStep) (left after out : List ℕ) → n ≡ served_number → told_inner (read_host host) 0 (Ok s) out ≡ inner_over host contents bundle reply
       → length out ≡ long_size → a ≡ answered_by (Ok s.sent) → left ≡ host_bytes s.host → after ≡ kept_in contents s.host.stage s.cursor
       → (told_step a left out ≡ step_checked_call host contents bundle reply packet) × (after ≡ step_checked_contents host contents bundle reply packet)
   unfolding step_checked_call step_checked_contents
@@ -193,7 +193,7 @@ module _ (host contents packet bundle reply : List ℕ) (test : Bool) (n : ℕ) 
       )
 
   -- or a row of the step refuses it
-  checked_row : (h : Host) (cursor : ℕ) (r : StepRefusal) (a : CStep) (out : List ℕ) → n ≡ served_number → told_inner h cursor (Err r) out ≡ inner_over host contents bundle reply
+  pub checked_row : (h : Host) (cursor : ℕ) (r : StepRefusal) (a : CStep) (out : List ℕ) → n ≡ served_number → told_inner h cursor (Err r) out ≡ inner_over host contents bundle reply
       → a ≡ answered_by (Err r) → (told_step a host out ≡ step_checked_call host contents bundle reply packet) × (contents ≡ step_checked_contents host contents bundle reply packet)
   unfolding step_checked_call step_checked_contents
   checked_row h cursor r a out m f g =

@@ -113,6 +113,7 @@ fn written_in(
 }
 
 // What an action sends, written into lent bytes; none where the bundle lacks it. Where the bytes are not PACKET_SIZE, nothing is written and nothing sent.
+#[tactic(auto, unfolding(crate::specs::Made::written_of))]
 pub fn written(
     packet: &mut [u8],
     b: &[u8],

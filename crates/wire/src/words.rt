@@ -94,6 +94,7 @@ pub fn fill(s: &mut [u8], value: u8)
 }
 
 // Both are equally long, and equal byte by byte.
+#[tactic(auto, using(crate::proofs::words::Sames::by_pairs))]
 pub fn same(a: &[u8], b: &[u8]) -> bool
     ensures { result ≡ same_bytes a.now b.now }
 {

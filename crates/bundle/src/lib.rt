@@ -37,10 +37,11 @@ pub fn check(b: &[u8]) -> Result<Checked, BundleRefusal>
     if let Some(gap) = chain::gap_place(b) {
         return refused(BundleRow::B7, gap);
     }
-    match contents::contents_of(b) {
-        Err(place) => refused(BundleRow::B8, place),
-        Ok(table) => Ok(Checked { count: b[0], table }),
-    }
+    let table = match contents::contents_of(b) {
+        Ok(table) => table,
+        Err(place) => return refused(BundleRow::B8, place),
+    };
+    Ok(Checked { count: b[0], table })
 }
 
 // The contents that an answer of the check stands for: of no offers where a row refuses.

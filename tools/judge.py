@@ -18,7 +18,10 @@ NOTE = re.compile(r'^note: (src/\S+?):(\d+):(\d+): (it is not proved that .*)')
 
 
 def owner(text, line):
-    """The function of a source file that has a line."""
+    """The function of a source file that has a line; that of an attribute is the one below it."""
+    rows = text.split('\n')
+    while line < len(rows) and rows[line - 1].lstrip().startswith('#['):
+        line += 1
     items = [m for m in edits.ITEM.finditer(text) if m.group(1) == 'fn' and text.count('\n', 0, m.end()) < line]
     return items[-1].group(2) if items else ''
 
